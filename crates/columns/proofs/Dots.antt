@@ -1,0 +1,82 @@
+-- The parity is linear on both sides.
+use mathlib.Core.Path.{_≡_, refl, sym, ap, ap₂, _∙_}
+use mathlib.Core.Bool.{Bool, true, false}
+use Prim.Native.Nat.{ℕ, zero, suc, _+_, _*_, _/_, _%_, _<_}
+use native.Mathlib.Nat.{mod-lt}
+use native.Mathlib.Omega.{arith}
+use lib.Arith.{bin-ind}
+use lib.Bits.{bitAnd, bitXor, and-shr, and-mod, and-comm, and-zero-l, and-mask, xor-shr, xor-mod}
+use lib.Count.{ones, ones-step, ones-le}
+use lib.Dec.{eqb}
+use Rattle.gf2.specs.Group.{XorGroup, bxor, two-pos}
+use Rattle.gf2.specs.Bit.{odd}
+use Rattle.gf2.specs.Width.{Hom}
+use Rattle.columns.specs.Dot.{dot}
+use Rattle.columns.proofs.Dual.{bxor4}
+
+two : (a b : ℕ) → a < 2 → b < 2 → odd ((a + b) % 2) ≡ bxor (odd a) (odd b)
+two zero zero h k = refl
+two zero (suc zero) h k = refl
+two zero (suc (suc b)) h k = absurd (omega arith)
+two (suc zero) zero h k = refl
+two (suc zero) (suc zero) h k = refl
+two (suc zero) (suc (suc b)) h k = absurd (omega arith)
+two (suc (suc a)) b h k = absurd (omega arith)
+
+odd-sum : (p q : ℕ) → odd ((p + q) % 2) ≡ bxor (odd (p % 2)) (odd (q % 2))
+odd-sum p q = let e : (p + q) % 2 ≡ (p % 2 + q % 2) % 2 = omega arith in ap odd e ∙ two (p % 2) (q % 2) (omega arith) (omega arith)
+
+dot-step : (m x : ℕ) → dot m x ≡ bxor (odd (bitAnd m x % 2)) (dot (m / 2) (x / 2))
+unfolding dot
+dot-step m x =
+    let e : bitAnd m x % 2 % 2 ≡ bitAnd m x % 2 = omega arith in
+    ap (λ (y : ℕ). odd (y % 2)) (ones-step (bitAnd m x)) ∙ odd-sum (bitAnd m x % 2) (ones (bitAnd m x / 2))
+    ∙ ap₂ bxor (ap odd e) (ap (λ (y : ℕ). odd (ones y % 2)) (and-shr m x 1))
+
+low3 : (m a b : ℕ) → m < 2 → a < 2 → b < 2 → odd (bitAnd m (bitXor a b)) ≡ bxor (odd (bitAnd m a)) (odd (bitAnd m b))
+low3 zero a b h k l = refl
+low3 (suc zero) zero zero h k l = refl
+low3 (suc zero) zero (suc zero) h k l = refl
+low3 (suc zero) zero (suc (suc b)) h k l = absurd (omega arith)
+low3 (suc zero) (suc zero) zero h k l = refl
+low3 (suc zero) (suc zero) (suc zero) h k l = refl
+low3 (suc zero) (suc zero) (suc (suc b)) h k l = absurd (omega arith)
+low3 (suc zero) (suc (suc a)) b h k l = absurd (omega arith)
+low3 (suc (suc m)) a b h k l = absurd (omega arith)
+
+low : (m a b : ℕ) → odd (bitAnd m (bitXor a b) % 2) ≡ bxor (odd (bitAnd m a % 2)) (odd (bitAnd m b % 2))
+low m a b = ap odd (and-mod m (bitXor a b) 1 ∙ ap (bitAnd (m % 2)) (xor-mod a b 1))
+    ∙ low3 (m % 2) (a % 2) (b % 2) (omega arith) (omega arith) (omega arith)
+    ∙ sym (ap₂ bxor (ap odd (and-mod m a 1)) (ap odd (and-mod m b 1)))
+
+dot-zero : (x : ℕ) → dot 0 x ≡ false
+unfolding dot
+dot-zero x = let z : ones 0 ≡ 0 = omega (arith, ones-le 0 0 (omega arith)) in rw (and-zero-l x, z)
+
+pub dot-adds : (m a b : ℕ) → dot m (bitXor a b) ≡ bxor (dot m a) (dot m b)
+dot-adds = bin-ind (λ (m : ℕ). (a b : ℕ) → dot m (bitXor a b) ≡ bxor (dot m a) (dot m b))
+    (λ a b. dot-zero (bitXor a b) ∙ sym (ap₂ bxor (dot-zero a) (dot-zero b)))
+    (λ m ih a b. dot-step m (bitXor a b)
+    ∙ ap₂ bxor (low m a b) (ap (dot (m / 2)) (xor-shr a b 1) ∙ ih (a / 2) (b / 2))
+    ∙ bxor4 (odd (bitAnd m a % 2)) (odd (bitAnd m b % 2)) (dot (m / 2) (a / 2)) (dot (m / 2) (b / 2))
+    ∙ sym (ap₂ bxor (dot-step m a) (dot-step m b)))
+
+pub dot-hom : (m : ℕ) → Hom XorGroup (dot m)
+dot-hom m = record { adds = dot-adds m }
+
+dot-comm : (m x : ℕ) → dot m x ≡ dot x m
+unfolding dot
+dot-comm m x = ap (λ (y : ℕ). odd (ones y % 2)) (and-comm m x)
+
+-- one mask added into another
+pub dot-mend : (m v x : ℕ) → dot (bitXor m v) x ≡ bxor (dot m x) (dot v x)
+dot-mend m v x = dot-comm (bitXor m v) x ∙ dot-adds x m v ∙ ap₂ bxor (dot-comm x m) (dot-comm x v)
+
+one-odd : (x : ℕ) → x < 2 → eqb x 1 ≡ odd x
+one-odd zero h = refl
+one-odd (suc zero) h = refl
+one-odd (suc (suc x)) h = absurd (omega arith)
+
+pub seen : (m x : ℕ) → eqb (bitAnd (ones (bitAnd m x)) 1) 1 ≡ dot m x
+unfolding dot
+seen m x = ap (λ (y : ℕ). eqb y 1) (and-mask (ones (bitAnd m x)) 1) ∙ one-odd (ones (bitAnd m x) % 2) (omega arith)

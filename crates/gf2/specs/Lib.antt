@@ -1,0 +1,14 @@
+pub mod Bit
+pub mod Elim
+pub mod Fit
+pub mod Greedy
+pub mod Group
+pub mod Independent
+pub mod Lists
+pub mod Masks
+pub mod Places
+pub mod Span
+pub mod Unique
+pub mod Vectors
+pub mod Width
+pub mod Words

@@ -1,0 +1,37 @@
+-- For each place, the number of live checks that hold it, and the exclusive-or of their numbers.
+use mathlib.Core.Path.{_≡_}
+use mathlib.Core.Bool.{Bool, true, false, cond}
+use mathlib.Core.List.{List, [], _∷_, _++_, map}
+use mathlib.Core.Option.{Option, none, some}
+use Prim.Native.Nat.{ℕ, zero, suc, _+_, _-_, _*_, _<_, _≤_}
+use lib.ListN.{length, getD, take, drop}
+use lib.Bits.{bitXor}
+use lib.Dec.{eqb}
+use Rattle.gf2.specs.Group.{XorGroup, sumOver}
+use Rattle.gf2.specs.Lists.{highest}
+use Rattle.rule.specs.Rule.{count, inOneOnly}
+use Rattle.gf2.specs.Places.{has}
+use Rattle.live.specs.declared.Found.{Found}
+use Rattle.live.specs.declared.Found.the-variants.{At, Nothing}
+
+-- c is c₀ with f done at each place of ps
+pub record Upd (f : ℕ → ℕ) (c₀ ps c : List ℕ) : Type 0 where
+  pub len : length c ≡ length c₀
+  pub each : (p : ℕ) → getD c p 0 ≡ cond (has p ps) (f (getD c₀ p 0)) (getD c₀ p 0)
+
+pub record Noted (c₀ x₀ ps : List ℕ) (j : ℕ) (c x : List ℕ) : Type 0 where
+  pub counts : Upd (λ a. a + 1) c₀ ps c
+  pub names : Upd (λ a. bitXor a j) x₀ ps x
+
+pub record Forgot (c₀ x₀ ps : List ℕ) (j : ℕ) (c x : List ℕ) : Type 0 where
+  pub counts : Upd (λ a. a - 1) c₀ ps c
+  pub names : Upd (λ a. bitXor a j) x₀ ps x
+
+unfoldable pub found : Option ℕ → Found
+found (some p) = At p
+found none = Nothing
+
+-- c and x tell of the checks g j, j in JS
+pub record Tally (g : ℕ → List ℕ) (JS : List ℕ) (c x : List ℕ) : Type 0 where
+  pub counts : (p : ℕ) → getD c p 0 ≡ count (has p) (map g JS)
+  pub names : (p : ℕ) → getD x p 0 ≡ sumOver XorGroup (λ (j : ℕ). cond (has p (g j)) j 0) JS

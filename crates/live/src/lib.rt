@@ -1,0 +1,64 @@
+// Live checks: how many hold each place, and the place in exactly one of them.
+ghost use mathlib.Core.Path.{_≡_};
+ghost use Prim.Native.Nat.{ℕ, _+_, _*_, _≤_, _<_};
+ghost use lib.ListN.{length, getD, take, drop};
+ghost use lib.Dec.{eqb};
+ghost use Rattle.gf2.specs.Lists.{highest};
+ghost use Rattle.table.specs.Checks.{Places};
+ghost use Rattle.live.specs.Live.{Noted, Forgot, found};
+
+pub enum Found {
+    At(usize),
+    Nothing,
+}
+
+fn wide(x: u16) -> usize
+    ensures { λ r. ⌜ r ≡ x ⌝ }
+{
+    x as usize
+}
+
+// check j, the weight places of t from at, becomes live
+pub fn note(count: &mut [u16], names: &mut [u16], t: &[u16], at: usize, weight: usize, j: u16)
+    requires { ⌜ Places (now t) at weight (length (now count)) × (length (now count) ≤ length (now names)) × ((i : ℕ) → i < weight → getD (now count) (getD (now t) (at + i) 0) 0 < 65535) ⌝ }
+    ensures { λ _. ⌜ Noted (now (count .entry)) (now (names .entry)) (take weight (drop at (now (t .entry)))) j (now (count .exit)) (now (names .exit)) ⌝ }
+{
+    let mut i = 0;
+    while i < weight {
+        let p = wide(t[at + i]);
+        count[p] = count[p] + 1;
+        names[p] = names[p] ^ j;
+        i += 1;
+    }
+}
+
+// check j is no longer live
+pub fn forget(count: &mut [u16], names: &mut [u16], t: &[u16], at: usize, weight: usize, j: u16)
+    requires { ⌜ Places (now t) at weight (length (now count)) × (length (now count) ≤ length (now names)) × ((i : ℕ) → i < weight → 0 < getD (now count) (getD (now t) (at + i) 0) 0) ⌝ }
+    ensures { λ _. ⌜ Forgot (now (count .entry)) (now (names .entry)) (take weight (drop at (now (t .entry)))) j (now (count .exit)) (now (names .exit)) ⌝ }
+{
+    let mut i = 0;
+    while i < weight {
+        let p = wide(t[at + i]);
+        count[p] = count[p] - 1;
+        names[p] = names[p] ^ j;
+        i += 1;
+    }
+}
+
+// the highest place below n in exactly one live check
+pub fn single(count: &[u16], n: usize) -> Found
+    requires { ⌜ n ≤ length (now count) ⌝ }
+    ensures { λ r. ⌜ r ≡ found (highest n (λ p. eqb (getD (now (count .entry)) p 0) 1)) ⌝ }
+{
+    let mut p = n;
+    loop {
+        if p == 0 {
+            break Found::Nothing;
+        }
+        p -= 1;
+        if count[p] == 1 {
+            break Found::At(p);
+        }
+    }
+}

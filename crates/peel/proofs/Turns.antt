@@ -1,0 +1,279 @@
+-- Laws of one turn.
+use mathlib.Core.Path.{_≡_, refl, sym, ap, ap₂, _∙_, subst}
+use mathlib.Core.Bool.{Bool, true, false, cond, true≢false, false≢true}
+use mathlib.Core.List.{List, [], _∷_, _++_, map}
+use mathlib.Core.Option.{Option, none, some}
+use Prim.Native.Nat.{ℕ, zero, suc, _+_, _-_, _*_, _<_, _≤_, max}
+use native.Mathlib.Nat.{suc-inj}
+use native.Mathlib.Numerals.{add-one}
+use native.Mathlib.Omega.{arith}
+use lib.ListN.{length, getD, set, take, drop, length-set, length-drop, length-take}
+use lib.Seq.{getD-drop, getD-take, getD-set-same, getD-set-other}
+use lib.Bits.{bitXor, xor-zero-r, xor-zero-l}
+use lib.Dec.{eqb, leb}
+use borrow.Author.Tests.{leb-true, leb-false, le-leb, lt-leb, eq-eqb, ne-eqb}
+use Rattle.gf2.specs.Group.{XorGroup, sumOver}
+use Rattle.table.specs.Checks.{check, offset, Places, Checks}
+use Rattle.gf2.specs.Bit.{eqb-true, eqb-false, eqb-self}
+use Rattle.gf2.specs.Lists.{highest, highest-is}
+use Rattle.rule.specs.Rule.{Solved, count, inOneOnly, first, without, heaviest, greatest, peel, solvedOf, setAsideOf, PeelEvent, took, aside}
+use Rattle.gf2.specs.Places.{has}
+use Rattle.gf2.specs.Span.{byBool}
+use Rattle.gf2.specs.Width.{All, All.nil, All.cons, all-map}
+use Rattle.live.specs.Live.{Tally, Forgot, found}
+use Rattle.live.specs.declared.Found.{Found}
+use Rattle.live.specs.declared.Found.the-variants.{At, Nothing}
+use Rattle.peel.specs.declared.Event.{Event}
+use Rattle.peel.specs.declared.Event.the-variants.{Took, Aside}
+use Rattle.live.proofs.Laws.{Out, Out.here as ohere, Out.there as othere, tally-less, highest-same, single-is}
+use Rattle.peel.specs.Turn.{lives, less, heaviestFrom, weight, In, In.here, In.there, Pick, Picked, Picked.by-place, Picked.by-weight, Ready, Removed}
+
+-- ---- a place in one live check names it
+abbrev name : (ℕ → List ℕ) → ℕ → ℕ → ℕ
+name g p j = cond (has p (g j)) j 0
+
+none-names : (g : ℕ → List ℕ) (p : ℕ) (JS : List ℕ) → count (has p) (map g JS) ≡ 0 → sumOver XorGroup (name g p) JS ≡ 0
+none-names g p [] h = refl
+none-names g p (j ∷ JS) h = byBool (has p (g j))
+    (λ e. absurd (omega (arith, rw (e, count) at h)))
+    (λ e. rw e (xor-zero-l _ ∙ none-names g p JS (rw (e, count) at h)))
+
+pick-here : (g : ℕ → List ℕ) (f : List ℕ → Bool) (j : ℕ) (JS : List ℕ) → f (g j) ≡ true → Pick g f (j ∷ JS) j
+unfolding less
+pick-here g f j JS e = record { member = here; passes = e; is-first = rw (e, first); is-rest = rw (e, without, eqb-self j) }
+
+pick-there : (g : ℕ → List ℕ) (f : List ℕ → Bool) (i j : ℕ) (JS : List ℕ) → f (g i) ≡ false → Pick g f JS j → Pick g f (i ∷ JS) j
+unfolding less
+pick-there g f i j JS e r =
+    let n : eqb i j ≡ false = byBool (eqb i j) (λ z. absurd (true≢false (sym (r .passes) ∙ ap (λ (x : ℕ). f (g x)) (sym (eqb-true i j z)) ∙ e))) (λ z. z) in
+    record { member = there (r .member); passes = r .passes; is-first = rw (e, first) (r .is-first); is-rest = rw (e, without, n) (ap (λ l. g i ∷ l) (r .is-rest)) }
+
+one-is : (g : ℕ → List ℕ) (p : ℕ) (JS : List ℕ) → count (has p) (map g JS) ≡ 1 → Pick g (has p) JS (sumOver XorGroup (name g p) JS)
+one-is g p [] h = absurd (omega arith)
+one-is g p (j ∷ JS) h = byBool (has p (g j))
+    (λ e. let z : sumOver XorGroup (name g p) (j ∷ JS) ≡ j = rw e (ap (bitXor j) (none-names g p JS (suc-inj (rw (e, count) at h))) ∙ xor-zero-r j) in
+    subst (Pick g (has p) (j ∷ JS)) (sym z) (pick-here g (has p) j JS e))
+    (λ e. let z : sumOver XorGroup (name g p) (j ∷ JS) ≡ sumOver XorGroup (name g p) JS = rw e (xor-zero-l _) in
+    subst (Pick g (has p) (j ∷ JS)) (sym z) (pick-there g (has p) j _ JS e (one-is g p JS (rw (e, count) at h))))
+
+pub tally-pick : (g : ℕ → List ℕ) (p : ℕ) {JS c x : List ℕ} → Tally g JS c x → getD c p 0 ≡ 1 → Pick g (has p) JS (getD x p 0)
+tally-pick g p {JS} s h = subst (Pick g (has p) JS) (sym (s .names p)) (one-is g p JS (sym (s .counts p) ∙ h))
+
+-- ---- the heaviest
+max-l : (a b : ℕ) → b ≤ a → max a b ≡ a
+max-l a b h = omega arith
+
+max-r : (a b : ℕ) → a ≤ b → max a b ≡ b
+max-r a b h = omega arith
+
+all-greatest : (a : ℕ) {L : List (List ℕ)} → All (λ c. length c < a + 1) L → greatest L ≤ a
+all-greatest a nil = omega arith
+all-greatest a (cons {x = x} {l = l} h hs) = let r = all-greatest a hs in omega arith
+
+pub data HV (g : ℕ → List ℕ) (b w : ℕ) (JS : List ℕ) (r : ℕ) : Type 0 where
+  stay : r ≡ b → All (λ c. length c < w) (map g JS) → HV g b w JS r
+  got : w ≤ greatest (map g JS) → Pick g (heaviest (map g JS)) JS r → HV g b w JS r
+
+abbrev heavier : ℕ → List ℕ → Bool
+heavier G c = eqb (length c) G
+
+grown : (g : ℕ → List ℕ) (j r : ℕ) (JS : List ℕ) → length (g j) < greatest (map g JS) → Pick g (heaviest (map g JS)) JS r → Pick g (heaviest (map g (j ∷ JS))) (j ∷ JS) r
+grown g j r JS h p =
+    let q : max (length (g j)) (greatest (map g JS)) ≡ greatest (map g JS) = max-r _ _ (omega arith) in
+    let same : heaviest (map g (j ∷ JS)) ≡ heaviest (map g JS) = ap heavier q in
+    let out : heaviest (map g (j ∷ JS)) (g j) ≡ false = ap (λ (G : ℕ). eqb (length (g j)) G) q ∙ ne-eqb _ _ (λ (z : length (g j) ≡ greatest (map g JS)). omega arith) in
+    pick-there g (heaviest (map g (j ∷ JS))) j r JS out (subst (λ (f : List ℕ → Bool). Pick g f JS r) (sym same) p)
+
+up : (g : ℕ → List ℕ) (b w j r : ℕ) (JS : List ℕ) → w ≤ length (g j) → HV g j (length (g j) + 1) JS r → HV g b w (j ∷ JS) r
+up g b w j r JS h (stay e a) =
+    let q : max (length (g j)) (greatest (map g JS)) ≡ length (g j) = max-l _ _ (all-greatest (length (g j)) a) in
+    let on : heaviest (map g (j ∷ JS)) (g j) ≡ true = ap (λ (G : ℕ). eqb (length (g j)) G) q ∙ eqb-self (length (g j)) in
+    got (omega arith) (subst (Pick g (heaviest (map g (j ∷ JS))) (j ∷ JS)) (sym e) (pick-here g (heaviest (map g (j ∷ JS))) j JS on))
+up g b w j r JS h (got l p) = got (omega arith) (grown g j r JS (omega arith) p)
+
+keep : (g : ℕ → List ℕ) (b w j r : ℕ) (JS : List ℕ) → length (g j) < w → HV g b w JS r → HV g b w (j ∷ JS) r
+keep g b w j r JS h (stay e a) = stay e (cons h a)
+keep g b w j r JS h (got l p) = got (omega arith) (grown g j r JS (omega arith) p)
+
+pub hv-is : (g : ℕ → List ℕ) (f : ℕ → ℕ) (b w : ℕ) {JS : List ℕ} → All (λ j. f j ≡ length (g j)) JS → HV g b w JS (heaviestFrom f b w JS)
+unfolding heaviestFrom
+hv-is g f b w nil = stay refl nil
+hv-is g f b w (cons {x = j} {l = JS} e a) = byBool (leb w (f j))
+    (λ t. let d = leb-true w (f j) t in rw (t, heaviestFrom) (up g b w j _ JS (omega arith) (subst (λ (v : ℕ). HV g j v JS (heaviestFrom f j (f j + 1) JS)) (ap (λ (v : ℕ). v + 1) e) (hv-is g f j (f j + 1) a))))
+    (λ t. let d = leb-false w (f j) t in rw (t, heaviestFrom) (keep g b w j _ JS (omega arith) (hv-is g f b w a)))
+
+pub heaviest-pick : (g : ℕ → List ℕ) (f : ℕ → ℕ) (b : ℕ) {JS : List ℕ} → All (λ j. f j ≡ length (g j)) JS → 0 < length JS → Pick g (heaviest (map g JS)) JS (heaviestFrom f b 0 JS)
+heaviest-pick g f b {JS} a h = go (hv-is g f b 0 a) h where
+  none : (K : List ℕ) → All (λ c. length c < 0) (map g K) → 0 < length K → ⊥
+  none [] z l = omega arith
+  none (j ∷ K) (cons z zs) l = omega arith
+
+  go : HV g b 0 JS (heaviestFrom f b 0 JS) → 0 < length JS → Pick g (heaviest (map g JS)) JS (heaviestFrom f b 0 JS)
+  go (stay e z) l = absurd (none JS z l)
+  go (got l p) k = p
+
+-- ---- the scan of the flags
+pub lives-hit : (live : List ℕ) (i m : ℕ) → i < m → getD live i 0 ≡ 1 → lives live i (m - i) ≡ i ∷ lives live (i + 1) (m - (i + 1))
+unfolding lives
+lives-hit live i m h e =
+    let q : m - i ≡ suc (m - (i + 1)) = omega arith in
+    ap (lives live i) q ∙ rw (eq-eqb _ _ e) (ap (λ (k : ℕ). i ∷ lives live k (m - (i + 1))) (sym (add-one i)))
+
+pub lives-miss : (live : List ℕ) (i m : ℕ) → i < m → (getD live i 0 ≡ 1 → ⊥) → lives live i (m - i) ≡ lives live (i + 1) (m - (i + 1))
+unfolding lives
+lives-miss live i m h e =
+    let q : m - i ≡ suc (m - (i + 1)) = omega arith in
+    ap (lives live i) q ∙ rw (ne-eqb _ _ e) (ap (λ (k : ℕ). lives live k (m - (i + 1))) (sym (add-one i)))
+
+pub lives-end : (f : ℕ → ℕ) (b w : ℕ) (live : List ℕ) (m : ℕ) → heaviestFrom f b w (lives live m (m - m)) ≡ b
+unfolding lives heaviestFrom
+lives-end f b w live m = let q : m - m ≡ 0 = omega arith in rw q
+
+pub hv-up : (f : ℕ → ℕ) (b w i : ℕ) (R : List ℕ) → w ≤ f i → heaviestFrom f b w (i ∷ R) ≡ heaviestFrom f i (f i + 1) R
+unfolding heaviestFrom
+hv-up f b w i R h = rw (le-leb w (f i) h, heaviestFrom)
+
+pub hv-keep : (f : ℕ → ℕ) (b w i : ℕ) (R : List ℕ) → f i < w → heaviestFrom f b w (i ∷ R) ≡ heaviestFrom f b w R
+unfolding heaviestFrom
+hv-keep f b w i R h = rw (lt-leb w (f i) h, heaviestFrom)
+
+pub weight-is : (t : List ℕ) (i : ℕ) → weight t i ≡ getD t (4 + i) 0
+unfolding weight
+weight-is t i = refl
+
+-- ---- the picking
+pub check-length : (t : List ℕ) (m n j : ℕ) → Checks t m n → j < m → weight t j ≡ length (check t m j)
+unfolding weight check
+check-length t m n j v h = let r = v .each j h .room in sym (simp (length-take, length-drop) (omega arith))
+
+pub all-lives : {P : ℕ → Type 0} (live : List ℕ) (i c : ℕ) → ((j : ℕ) → i ≤ j → j < i + c → P j) → All P (lives live i c)
+unfolding lives
+all-lives live i zero h = nil
+all-lives live i (suc c) h = byBool (eqb (getD live i 0) 1)
+    (λ e. rw e (cons (h i (omega arith) (omega arith)) (all-lives live (suc i) c (λ j a b. h j (omega arith) (omega arith)))))
+    (λ e. rw e (all-lives live (suc i) c (λ j a b. h j (omega arith) (omega arith))))
+
+pub found-at : (o : Option ℕ) (p : ℕ) → found o ≡ At p → o ≡ some p
+unfolding found
+found-at (some q) p e = ap some (one e) where
+  one : At q ≡ At p → q ≡ p
+  one z = cc
+found-at none p e = no e where
+  no : Nothing ≡ At p → none ≡ some p
+  no z = let y : _≡_ {A = ℕ} 0 1 = cc in absurd (omega arith)
+
+pub found-none : (o : Option ℕ) → found o ≡ Nothing → o ≡ none
+unfolding found
+found-none (some q) e = no e where
+  no : At q ≡ Nothing → some q ≡ none
+  no z = let y : _≡_ {A = ℕ} 0 1 = cc in absurd (omega arith)
+found-none none e = refl
+
+pub highest-lt : (n : ℕ) (f : ℕ → Bool) (p : ℕ) → highest n f ≡ some p → p < n
+highest-lt zero f p h = let z : _≡_ {A = ℕ} 0 1 = cc in absurd (omega arith)
+highest-lt (suc n) f p h = byBool (f n)
+    (λ e. let q : n ≡ p = one (rw (e, highest) at h) in omega arith)
+    (λ e. let q = highest-lt n f p (rw (e, highest) at h) in omega arith)
+  where
+    one : _≡_ {A = Option ℕ} (some n) (some p) → n ≡ p
+    one q = cc
+
+pub picked-place : (g : ℕ → List ℕ) (n p : ℕ) {JS c x : List ℕ} → Tally g JS c x → highest n (λ q. eqb (getD c q 0) 1) ≡ some p → Picked g JS n (Took p (getD x p 0))
+picked-place g n p {JS} {c} {x} s e =
+    by-place (sym (single-is g JS c x n s) ∙ e) (tally-pick g p s (eqb-true (getD c p 0) 1 (highest-is n (λ q. eqb (getD c q 0) 1) p e)))
+
+pub picked-weight : (t : List ℕ) (m n : ℕ) (live : List ℕ) {c x : List ℕ} → Checks t m n → Tally (check t m) (lives live 0 m) c x → 0 < length (lives live 0 m)
+    → highest n (λ q. eqb (getD c q 0) 1) ≡ none → Picked (check t m) (lives live 0 m) n (Aside (heaviestFrom (weight t) m 0 (lives live 0 m)))
+picked-weight t m n live {c} {x} v s h e =
+    by-weight (sym (single-is (check t m) (lives live 0 m) c x n s) ∙ e)
+    (heaviest-pick (check t m) (weight t) m (all-lives live 0 m (λ j a b. check-length t m n j v (omega arith))) h)
+
+-- ---- the removal
+pub in-out : (j : ℕ) {JS : List ℕ} → In j JS → Out j JS (less j JS)
+unfolding less
+in-out j here = rw (eqb-self j) ohere
+in-out j (there {i = i} {JS = JS} h) = byBool (eqb i j)
+    (λ e. rw e (subst (λ (k : ℕ). Out j (k ∷ JS) JS) (sym (eqb-true i j e)) ohere))
+    (λ e. rw e (othere (in-out j h)))
+
+pub in-length : (j : ℕ) {JS : List ℕ} → In j JS → length JS ≡ suc (length (less j JS))
+unfolding less
+in-length j here = rw (eqb-self j)
+in-length j (there {i = i} h) = byBool (eqb i j) (λ e. rw e) (λ e. rw e (ap suc (in-length j h)))
+
+pub in-all : {P : ℕ → Type 0} {j : ℕ} {JS : List ℕ} → In j JS → All P JS → P j
+in-all here (cons p a) = p
+in-all (there h) (cons p a) = in-all h a
+
+all-flags : (live : List ℕ) (i c : ℕ) → All (λ j. getD live j 0 ≡ 1) (lives live i c)
+unfolding lives
+all-flags live i zero = nil
+all-flags live i (suc c) = byBool (eqb (getD live i 0) 1)
+    (λ e. rw e (cons (eqb-true (getD live i 0) 1 e) (all-flags live (suc i) c)))
+    (λ e. rw e (all-flags live (suc i) c))
+
+pub in-flag : (live : List ℕ) (m j : ℕ) → In j (lives live 0 m) → (j < m) × (getD live j 0 ≡ 1)
+in-flag live m j h = (in-all h (all-lives live 0 m (λ i a b. b′ i b)), in-all h (all-flags live 0 m)) where
+  b′ : (i : ℕ) → i < 0 + m → i < m
+  b′ i b = omega arith
+
+lives-same : (live e : List ℕ) (i c : ℕ) → ((j : ℕ) → i ≤ j → getD e j 0 ≡ getD live j 0) → lives e i c ≡ lives live i c
+unfolding lives
+lives-same live e i zero h = refl
+lives-same live e i (suc c) h = rw (h i (omega arith), lives-same live e (suc i) c (λ j a. h j (omega arith)))
+
+lives-less : (live : List ℕ) (j i c : ℕ) → j < length live → getD live j 0 ≡ 1 → i ≤ j → j < i + c → lives (set live j 0) i c ≡ less j (lives live i c)
+unfolding lives less
+lives-less live j i zero l f a b = absurd (omega arith)
+lives-less live j i (suc c) l f a b = byBool (eqb i j)
+    (λ e. let q : i ≡ j = eqb-true i j e in
+    rw (q, getD-set-same live j 0 0 l, eq-eqb (getD live j 0) 1 f, eqb-self j) (lives-same live (set live j 0) (suc j) c (λ k z. getD-set-other live j k 0 0 (λ (y : k ≡ j). omega arith))))
+    (λ e. let n = eqb-false i j e in
+    let ih = lives-less live j (suc i) c l f (omega arith) (omega arith) in
+    rw (getD-set-other live j i 0 0 n) (byBool (eqb (getD live i 0) 1) (λ k. rw (k, e) (ap (λ r. i ∷ r) ih)) (λ k. rw k ih)))
+
+pub lives-set : (live : List ℕ) (m j : ℕ) → m ≤ length live → In j (lives live 0 m) → lives (set live j 0) 0 m ≡ less j (lives live 0 m)
+lives-set live m j l h = let f = in-flag live m j h in let f0 = f .0 in lives-less live j 0 m (omega arith) (f .1) (omega arith) (omega arith)
+
+count-in : (g : ℕ → List ℕ) (p j : ℕ) {JS : List ℕ} → In j JS → has p (g j) ≡ true → 0 < count (has p) (map g JS)
+count-in g p j here e = rw (e, count) (omega arith)
+count-in g p j (there {i = i} h) e = byBool (has p (g i)) (λ k. rw (k, count) (omega arith)) (λ k. rw (k, count) (count-in g p j h e))
+
+has-at : (l : List ℕ) (i : ℕ) → i < length l → has (getD l i 0) l ≡ true
+has-at [] i h = absurd (omega arith)
+has-at (a ∷ l) zero h = rw (eqb-self a)
+has-at (a ∷ l) (suc i) h = byBool (eqb (getD l i 0) a) (λ e. rw e) (λ e. rw e (has-at l i (omega arith)))
+
+pub counted : (t : List ℕ) (m n j i : ℕ) {JS c x : List ℕ} → Checks t m n → Tally (check t m) JS c x → In j JS → j < m → i < getD t (4 + j) 0
+    → 0 < getD c (getD t (5 + m + offset t j + i) 0) 0
+unfolding check
+counted t m n j i {JS} {c} v s h k l =
+    let at = 5 + m + offset t j in
+    let wt = getD t (4 + j) 0 in
+    let r = v .each j k .room in
+    let len : i < length (take wt (drop at t)) = simp (length-take, length-drop) (omega arith) in
+    let e : getD (take wt (drop at t)) i 0 ≡ getD t (at + i) 0 = getD-take wt (drop at t) i 0 l ∙ getD-drop at t i 0 in
+    let y : has (getD t (at + i) 0) (take wt (drop at t)) ≡ true = rw e at (has-at (take wt (drop at t)) i len) in
+    rw (s .counts (getD t (at + i) 0)) (count-in (check t m) (getD t (at + i) 0) j h y)
+
+pub removed : (t : List ℕ) (m j : ℕ) {n at wt : ℕ} {live c x d y : List ℕ} → Ready t m n live c x → In j (lives live 0 m) → at ≡ 5 + m + offset t j → wt ≡ getD t (4 + j) 0
+    → Forgot c x (take wt (drop at t)) j d y → Removed t m n j live (set live j 0) d y
+unfolding check
+removed t m j {n} {at} {wt} {live} {c} {x} {d} {y} r h a b u =
+    let l = lives-set live m j (r .flags) h in
+    let q : take wt (drop at t) ≡ check t m j = ap₂ (λ (k i : ℕ). take k (drop i t)) b a in
+    let fl = r .flags in
+    let cn = r .counts in
+    let nm = r .named in
+    let ul = u .counts .len in
+    let un = u .names .len in
+    let u′ : Forgot c x (check t m j) j d y = subst (λ (ps : List ℕ). Forgot c x ps j d y) q u in
+    record {
+      ready = record {
+        flags = simp length-set (omega arith);
+        counts = omega arith;
+        named = omega arith;
+        tally = rw l (tally-less (check t m) j (in-out j h) (r .tally) u′);
+      };
+      list = l;
+    }

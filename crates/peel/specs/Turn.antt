@@ -1,0 +1,64 @@
+-- One turn of steps 2 and 3 on the numbers of the checks.
+use mathlib.Core.Path.{_≡_}
+use mathlib.Core.Bool.{Bool, true, false, cond}
+use mathlib.Core.List.{List, [], _∷_, _++_, map}
+use mathlib.Core.Option.{Option, none, some}
+use Prim.Native.Nat.{ℕ, zero, suc, _+_, _-_, _*_, _<_, _≤_}
+use lib.ListN.{length, getD, take, drop}
+use lib.Dec.{eqb, leb}
+use Rattle.gf2.specs.Lists.{highest}
+use Rattle.rule.specs.Buffers.{solved}
+use Rattle.table.specs.Checks.{check, offset, Places}
+use Rattle.rule.specs.Rule.{Solved, count, inOneOnly, first, without, heaviest, greatest, peel, solvedOf, setAsideOf}
+use Rattle.gf2.specs.Places.{has}
+use Rattle.live.specs.Live.{Tally}
+use Rattle.peel.specs.declared.Event.{Event}
+use Rattle.peel.specs.declared.Event.the-variants.{Took, Aside}
+
+-- the live ones among c numbers from i
+unfoldable pub lives : List ℕ → ℕ → ℕ → List ℕ
+lives live i zero = []
+lives live i (suc c) = cond (eqb (getD live i 0) 1) (i ∷ lives live (suc i) c) (lives live (suc i) c)
+
+-- j taken out
+unfoldable pub less : ℕ → List ℕ → List ℕ
+less j [] = []
+less j (i ∷ JS) = cond (eqb i j) JS (i ∷ less j JS)
+
+-- the first of greatest weight so far is b, all before are lighter than w
+unfoldable pub heaviestFrom : (ℕ → ℕ) → ℕ → ℕ → List ℕ → ℕ
+heaviestFrom f b w [] = b
+heaviestFrom f b w (j ∷ JS) = elim (leb w (f j)) [ true ↦ heaviestFrom f j (f j + 1) JS | false ↦ heaviestFrom f b w JS ]
+
+pub data In (j : ℕ) : List ℕ → Type 0 where
+  here : {JS : List ℕ} → In j (j ∷ JS)
+  there : {i : ℕ} {JS : List ℕ} → In j JS → In j (i ∷ JS)
+
+-- j is the one that f picks
+pub record Pick (g : ℕ → List ℕ) (f : List ℕ → Bool) (JS : List ℕ) (j : ℕ) : Type 0 where
+  pub member : In j JS
+  pub passes : f (g j) ≡ true
+  pub is-first : first f (map g JS) ≡ g j
+  pub is-rest : without f (map g JS) ≡ map g (less j JS)
+
+pub data Picked (g : ℕ → List ℕ) (JS : List ℕ) (n : ℕ) : Event → Type 0 where
+  by-place : {p j : ℕ} → highest n (inOneOnly (map g JS)) ≡ some p → Pick g (has p) JS j → Picked g JS n (Took p j)
+  by-weight : {j : ℕ} → highest n (inOneOnly (map g JS)) ≡ none → Pick g (heaviest (map g JS)) JS j → Picked g JS n (Aside j)
+
+pub record Ready (t : List ℕ) (m n : ℕ) (live count names : List ℕ) : Type 0 where
+  pub flags : m ≤ length live
+  pub counts : n ≡ length count
+  pub named : n ≤ length names
+  pub tally : Tally (check t m) (lives live 0 m) count names
+
+unfoldable pub weight : List ℕ → ℕ → ℕ
+weight t j = getD t (4 + j) 0
+
+pub record Removed (t : List ℕ) (m n j : ℕ) (live₀ live count names : List ℕ) : Type 0 where
+  pub ready : Ready t m n live count names
+  pub list : lives live 0 m ≡ less j (lives live₀ 0 m)
+
+-- order, owns and aside hold the events of the peeling of JS
+pub record Peeled (g : ℕ → List ℕ) (n left : ℕ) (JS order owns aside : List ℕ) (kt ka : ℕ) : Type 0 where
+  pub took : solvedOf (peel left n (map g JS)) ≡ solved g order owns kt
+  pub set-aside : setAsideOf (peel left n (map g JS)) ≡ map g (take ka aside)

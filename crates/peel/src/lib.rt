@@ -1,0 +1,115 @@
+// Steps 2 and 3: own places, and checks set aside.
+use live::Found;
+ghost use mathlib.Core.Path.{_≡_};
+ghost use Prim.Native.Nat.{ℕ, _+_, _*_, _≤_, _<_};
+ghost use lib.ListN.{length, getD, take, drop};
+ghost use Rattle.table.specs.Checks.{check, offset, Checks, Starts};
+ghost use Rattle.peel.specs.Turn.{lives, less, heaviestFrom, weight, In, Ready, Picked, Removed, Peeled};
+
+pub enum Event {
+    Took(usize, usize),
+    Aside(usize),
+}
+
+fn wide(x: u16) -> usize
+    ensures { λ r. ⌜ r ≡ x ⌝ }
+{
+    x as usize
+}
+
+// the first live check of greatest weight, or m
+fn heaviest_of(t: &[u16], m: usize, live: &[u8]) -> usize
+    requires { ⌜ (5 + m ≤ length (now t)) × (m ≤ length (now live)) ⌝ }
+    ensures { λ r. ⌜ r ≡ heaviestFrom (weight (now (t .entry))) m 0 (lives (now (live .entry)) 0 m) ⌝ }
+{
+    let mut best = m;
+    let mut w = 0;
+    let mut i = 0;
+    while i < m {
+        if live[i] == 1 {
+            let k = wide(t[4 + i]);
+            if w <= k {
+                best = i;
+                w = k + 1;
+            }
+        }
+        i += 1;
+    }
+    best
+}
+
+// the next event
+fn pick(t: &[u16], m: usize, n: usize, live: &[u8], count: &[u16], names: &[u16]) -> Event
+    requires { ⌜ Checks (now t) m n × Ready (now t) m n (now live) (now count) (now names) × (0 < length (lives (now live) 0 m)) ⌝ }
+    ensures { λ r. ⌜ Picked (check (now (t .entry)) m) (lives (now (live .entry)) 0 m) n r ⌝ }
+{
+    match live::single(count, n) {
+        Found::At(p) => Event::Took(p, wide(names[p])),
+        Found::Nothing => Event::Aside(heaviest_of(t, m, live)),
+    }
+}
+
+// check j is no longer live
+fn remove(
+    live: &mut [u8],
+    count: &mut [u16],
+    names: &mut [u16],
+    t: &[u16],
+    m: usize,
+    starts: &[u16],
+    j: usize,
+)
+    requires { ⌜ Checks (now t) m (length (now count)) × Ready (now t) m (length (now count)) (now live) (now count) (now names) × Starts (now t) m (now starts) × In j (lives (now live) 0 m) ⌝ }
+    ensures { λ _. ⌜ Removed (now (t .entry)) m (length (now (count .entry))) j (now (live .entry)) (now (live .exit)) (now (count .exit)) (now (names .exit)) ⌝ }
+{
+    live[j] = 0;
+    live::forget(count, names, t, wide(starts[j]), wide(t[4 + j]), j as u16);
+}
+
+pub struct Counts {
+    pub taken: usize,
+    pub aside: usize,
+}
+
+// all events
+pub fn peel_checks(
+    t: &[u16],
+    m: usize,
+    n: usize,
+    starts: &[u16],
+    live: &mut [u8],
+    count: &mut [u16],
+    names: &mut [u16],
+    order: &mut [u16],
+    owns: &mut [u16],
+    aside: &mut [u16],
+    total: usize,
+) -> Counts
+    requires { ⌜ Checks (now t) m n × Ready (now t) m n (now live) (now count) (now names) × Starts (now t) m (now starts) × (total ≡ length (lives (now live) 0 m)) × (total ≤ m) × (m ≤ length (now order)) × (m ≤ length (now owns)) × (m ≤ length (now aside)) ⌝ }
+    ensures { λ r. ⌜ Peeled (check (now (t .entry)) m) n total (lives (now (live .entry)) 0 m) (now (order .exit)) (now (owns .exit)) (now (aside .exit)) (r .taken) (r .aside) ⌝ }
+{
+    let mut taken = 0;
+    let mut put = 0;
+    let mut left = total;
+    while 0 < left {
+        let event = pick(t, m, n, live, count, names);
+        match event {
+            Event::Took(p, j) => {
+                order[taken] = j as u16;
+                owns[taken] = p as u16;
+                taken += 1;
+                remove(live, count, names, t, m, starts, j);
+            }
+            Event::Aside(j) => {
+                aside[put] = j as u16;
+                put += 1;
+                remove(live, count, names, t, m, starts, j);
+            }
+        }
+        left -= 1;
+    }
+    Counts {
+        taken: taken,
+        aside: put,
+    }
+}

@@ -1,0 +1,85 @@
+-- The plan as numbers (document 01, "The plan" and cause 9): 4, n, s, g, M; the count n − M and the information places; the
+-- count of steps and the steps.
+use mathlib.Core.Bool.{Bool, true, false, cond, not, _||_, _&&_}
+use mathlib.Core.List.{List, [], _∷_, _++_, map}
+use mathlib.Core.Option.{Option, none, some}
+use Prim.Native.Nat.{ℕ, zero, suc, _+_, _-_}
+use lib.Dec.{eqb, ltb}
+use lib.ListN.{length, getD, take, drop}
+use Rattle.gf2.specs.Lists.{allPass}
+use Rattle.gf2.specs.Places.{has}
+use Rattle.table.specs.Table.{mostPlaces, mostBytes, mostChecks, outside, rising}
+use Rattle.plan.specs.declared.Step.{Step}
+use Rattle.plan.specs.declared.Step.the-variants.{Clear, Add}
+use Rattle.plan.specs.Step.{pack, unpack, unpackAll}
+
+-- ---- the limits of a plan
+-- checks set aside
+abbrev pub mostAside : ℕ
+mostAside = 32
+
+abbrev pub mostSteps : ℕ
+mostSteps = 13344
+
+-- ---- writing
+abbrev pub planNumbers : ℕ → ℕ → ℕ → ℕ → List ℕ → List Step → List ℕ
+planNumbers n s g M info steps = 4 ∷ n ∷ s ∷ g ∷ M ∷ length info ∷ (info ++ (length steps ∷ map pack steps))
+
+-- ---- reading
+abbrev pub planPlaces : List ℕ → ℕ
+planPlaces w = getD w 1 0
+
+abbrev pub planSize : List ℕ → ℕ
+planSize w = getD w 2 0
+
+abbrev pub planGap : List ℕ → ℕ
+planGap w = getD w 3 0
+
+abbrev pub planKept : List ℕ → ℕ
+planKept w = getD w 4 0
+
+-- the count of information places
+abbrev pub infoCount : List ℕ → ℕ
+infoCount w = getD w 5 0
+
+abbrev pub infoIn : List ℕ → List ℕ
+infoIn w = take (infoCount w) (drop 6 w)
+
+-- the count of steps
+abbrev pub stepCount : List ℕ → ℕ
+stepCount w = getD w (6 + infoCount w) 0
+
+abbrev pub stepsIn : List ℕ → List ℕ
+stepsIn w = drop (7 + infoCount w) w
+
+-- slots 0 to n − 1 are places, n to n + g − 1 are scratch
+abbrev pub slots : List ℕ → ℕ
+slots w = planPlaces w + planGap w
+
+-- the steps of a plan
+abbrev pub stepsOf : List ℕ → List Step
+stepsOf w = unpackAll (stepsIn w)
+
+-- ---- cause 9
+-- "wrong counts or length, n or s beyond limits, g over 32 or over M, M over n or 512, over 13,344 steps"
+abbrev pub badCounts : List ℕ → Bool
+badCounts w = ltb (length w) 7 || (not (eqb (getD w 0 0) 4) || (outside mostPlaces (planPlaces w) || (outside mostBytes (planSize w)
+    || (ltb mostAside (planGap w) || (ltb (planKept w) (planGap w) || (ltb (planPlaces w) (planKept w) || (ltb mostChecks (planKept w)
+    || (not (eqb (infoCount w) (planPlaces w - planKept w)) || (ltb (length w) (7 + infoCount w) || (ltb mostSteps (stepCount w)
+    || not (eqb (length w) (7 + infoCount w + stepCount w))))))))))))
+
+-- "an unknown kind, a slot outside, clear with from above 0, a slot added into itself, or an information place written",
+-- for k slots and the information places I
+abbrev pub goodStep : ℕ → List ℕ → Option Step → Bool
+goodStep k I none = false
+goodStep k I (some (Clear to)) = ltb to k && not (has to I)
+goodStep k I (some (Add to from)) = ltb to k && (ltb from k && (not (eqb to from) && not (has to I)))
+
+-- "places not strictly ascending or not below n", then the steps
+abbrev pub wellFormed : List ℕ → Bool
+wellFormed w = not (badCounts w) && (rising (planPlaces w) 0 (infoIn w)
+    && allPass (λ x. goodStep (slots w) (infoIn w) (unpack x)) (stepsIn w))
+
+-- 9 or none
+abbrev pub planRefusal : List ℕ → ℕ
+planRefusal w = cond (wellFormed w) 0 9

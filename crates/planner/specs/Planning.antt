@@ -1,0 +1,83 @@
+-- The planner's call (document 01, "The plan" and "Buffers"): table t, plan and work buffers of any length and content.
+use mathlib.Core.Path.{_≡_}
+use mathlib.Core.Bool.{Bool, true, false}
+use mathlib.Core.List.{List, [], _∷_, _++_}
+use Prim.Native.Nat.{ℕ, zero, suc, _+_}
+use lib.Dec.{eqb, ltb, leb}
+use lib.ListN.{length, drop, replicate}
+use Rattle.table.specs.Table.{places, size, checks, refusal}
+use Rattle.plan.specs.Step.{addSteps}
+use Rattle.plan.specs.Layout.{planNumbers, mostAside}
+use Rattle.rule.specs.Rule.{plan, Plan}
+
+-- "the planner's plan at least 15,360 numbers"
+abbrev pub leastPlan : ℕ
+leastPlan = 15360
+
+-- "work exactly 8,192 64-bit words"
+abbrev pub workWords : ℕ
+workWords = 8192
+
+-- the rule's plan of a table
+abbrev pub planOf : List ℕ → Plan
+planOf t = plan (places t) (checks t)
+
+-- its numbers
+abbrev pub numbersOf : List ℕ → List ℕ
+numbersOf t = planNumbers (places t) (size t) (planOf t .g) (planOf t .M) (planOf t .info) (planOf t .list)
+
+-- the first cause that holds: 1 to 4; 5, a buffer of wrong length; 6, "more than 32 checks set aside"
+unfoldable pub planningRefusal : List ℕ → ℕ → ℕ → ℕ
+planningRefusal t planLength workLength =
+    elim (eqb (refusal t) 0) [
+      | false ↦ refusal t
+      | true ↦
+          elim (leb leastPlan planLength) [
+            | false ↦ 5
+            | true ↦
+                elim (eqb workLength workWords) [
+                  | false ↦ 5
+                  | true ↦
+                      elim (ltb mostAside (planOf t .g)) [ true ↦ 6 | false ↦ 0 ]
+                ]
+          ]
+    ]
+
+-- "The planner answers with the plan's length, M, W, g and the number of add steps"; counts 0 on refusal
+pub record Answer : Type 0 where
+  pub refusal : ℕ
+  pub length : ℕ
+  pub kept : ℕ
+  pub ones : ℕ
+  pub gap : ℕ
+  pub additions : ℕ
+
+abbrev pub answerAt : ℕ → List ℕ → Answer
+answerAt zero t = record {
+  refusal = 0;
+  length = length (numbersOf t);
+  kept = planOf t .M;
+  ones = planOf t .W;
+  gap = planOf t .g;
+  additions = addSteps (planOf t .list);
+}
+answerAt (suc r) t = record { refusal = suc r; length = 0; kept = 0; ones = 0; gap = 0; additions = 0 }
+
+module _ (t planBuffer work : List ℕ) where
+  abbrev pub plans : ℕ
+  plans = planningRefusal t (length planBuffer) (length work)
+
+  abbrev pub planAnswer : Answer
+  planAnswer = answerAt plans t
+
+  -- the plan's numbers are written and the rest is kept; on refusal as it was
+  abbrev pub planAfter : List ℕ
+  planAfter = elim (eqb plans 0) [ true ↦ numbersOf t ++ drop (length (numbersOf t)) planBuffer | false ↦ planBuffer ]
+
+  -- "all zero after planning and after refusal 6"; else as it was
+  abbrev pub workAfter : List ℕ
+  workAfter = elim (eqb plans 0) [
+    | true ↦ replicate workWords 0
+    | false ↦
+        elim (eqb plans 6) [ true ↦ replicate workWords 0 | false ↦ work ]
+  ]

@@ -1,0 +1,62 @@
+-- Verification passes a block if and only if every check sums to zero, and else gives the lowest that fails.
+use mathlib.Core.Path.{_≡_, refl, sym, ap, ap₂, _∙_, subst}
+use mathlib.Core.Bool.{Bool, true, false, _&&_, true≢false, false≢true}
+use mathlib.Core.List.{List, [], _∷_}
+use mathlib.Core.Logic.{_≢_}
+use mathlib.Core.Option.{Option, none, some}
+use Prim.Native.Nat.{ℕ, zero, suc, _+_, _<_, _≤_}
+use native.Mathlib.Omega.{arith}
+use lib.Dec.{eqb}
+use lib.ListN.{length, getD, take, replicate}
+use Rattle.gf2.specs.Bit.{eqb-true}
+use Rattle.table.specs.Packets.{packetSum}
+use Rattle.repair.specs.Verify.{zeroSum, failing}
+use Rattle.gf2.specs.Lists.{sameList}
+use Rattle.gf2.specs.Span.{byBool}
+use Rattle.repair.specs.Values.{same-self}
+use Rattle.gf2.specs.Width.{All, All.nil, All.cons}
+
+-- the comparison, one way
+same-sound : (a b : List ℕ) → sameList a b ≡ true → a ≡ b
+same-sound [] [] h = refl
+same-sound [] (y ∷ b) h = absurd (false≢true h)
+same-sound (x ∷ a) [] h = absurd (false≢true h)
+same-sound (x ∷ a) (y ∷ b) h = byBool (eqb x y)
+    (λ e. ap₂ _∷_ (eqb-true x y e) (same-sound a b (rw e at h)))
+    (λ e. absurd (false≢true (rw e at h)))
+
+-- the test, one way
+pub zero-sound : (s : ℕ) (b : List (List ℕ)) (c : List ℕ) → zeroSum s b c ≡ true → packetSum s b c ≡ replicate s 0
+zero-sound s b c h = same-sound (packetSum s b c) (replicate s 0) h
+
+-- and the other
+pub zero-complete : (s : ℕ) (b : List (List ℕ)) (c : List ℕ) → packetSum s b c ≡ replicate s 0 → zeroSum s b c ≡ true
+zero-complete s b c h = ap (λ v. sameList v (replicate s 0)) h ∙ same-self (replicate s 0)
+
+-- none fails if and only if every check sums to zero
+pub verify-sound : (s : ℕ) (b : List (List ℕ)) (i : ℕ) (cs : List (List ℕ)) → failing s b i cs ≡ none → All (λ c. packetSum s b c ≡ replicate s 0) cs
+verify-sound s b i [] h = nil
+verify-sound s b i (c ∷ cs) h = byBool (zeroSum s b c)
+    (λ e. cons (zero-sound s b c e) (verify-sound s b (suc i) cs (rw (e, failing) at h)))
+    (λ e. absurd (clash (rw (e, failing) at h)))
+  where
+    clash : _≡_ {A = Option ℕ} (some i) none → ⊥
+    clash p = let z : _≡_ {A = ℕ} 0 1 = cc in omega arith
+
+-- and the other way
+pub verify-complete : (s : ℕ) (b : List (List ℕ)) (i : ℕ) {cs : List (List ℕ)} → All (λ c. packetSum s b c ≡ replicate s 0) cs → failing s b i cs ≡ none
+verify-complete s b i nil = refl
+verify-complete s b i (cons {x = c} h a) = rw (zero-complete s b c h, failing) (verify-complete s b (suc i) a)
+
+-- the check that is given fails, and every lower one sums to zero
+pub verify-lowest : (s : ℕ) (b : List (List ℕ)) (i : ℕ) (cs : List (List ℕ)) (k : ℕ) → failing s b i cs ≡ some k
+    → (j : ℕ) × ((k ≡ i + j) × ((j < length cs) × ((packetSum s b (getD cs j []) ≢ replicate s 0) × All (λ c. packetSum s b c ≡ replicate s 0) (take j cs))))
+verify-lowest s b i [] k h = absurd (let z : _≡_ {A = ℕ} 0 1 = cc in omega arith)
+verify-lowest s b i (c ∷ cs) k h = byBool (zeroSum s b c)
+    (λ e. let r = verify-lowest s b (suc i) cs k (rw (e, failing) at h) in
+    (suc (r .0), (r .1 .0 ∙ (omega arith), (omega (arith, r .1 .1 .0), (r .1 .1 .1 .0, cons (zero-sound s b c e) (r .1 .1 .1 .1))))))
+    (λ e. let q : i ≡ k = inj (rw (e, failing) at h) in
+    (zero, (omega arith, (omega arith, ((λ z. true≢false (sym (zero-complete s b c z) ∙ e)), nil)))))
+  where
+    inj : {u v : ℕ} → _≡_ {A = Option ℕ} (some u) (some v) → u ≡ v
+    inj p = cc

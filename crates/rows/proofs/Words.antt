@@ -1,0 +1,197 @@
+-- Words and the number they make.
+use mathlib.Core.Path.{_≡_, refl, sym, ap, ap₂, _∙_, subst}
+use mathlib.Core.Bool.{Bool, true, false}
+use mathlib.Core.List.{List, [], _∷_, _++_}
+use Prim.Native.Nat.{ℕ, zero, suc, _+_, _*_, _-_, _/_, _%_, _^_, _<_, _≤_}
+use native.Mathlib.Nat.{mod-lt, suc-mul, zero-mul, mul-comm, add-comm, mod-eq-of-lt, one-mul}
+use native.Mathlib.Omega.{arith}
+use lib.Arith.{digits-lt}
+use lib.Pow.{pow-pos, pow-add, pow-lt, shl-exact, shr-shr, high, low, field, mod-mod-pow}
+use lib.Bits.{bitXor, xor-block, xor-mod, xor-zero-r, bitAnd, and-mask}
+use lib.ListN.{length, getD, set, length-set}
+use lib.Seq.{getD-set-same, getD-set-other}
+use lib.Dec.{eqb, lit<}
+use borrow.Author.Count.{below-more}
+use Rattle.gf2.specs.Bit.{bit, odd, bit-is, eqb-true, eqb-false}
+use Rattle.gf2.specs.Span.{byBool}
+use Rattle.rows.specs.Row.{num, row, RowPut}
+
+-- ---- digits of a number cut in two
+bit-up : (s p x : ℕ) → bit (s + p) x ≡ bit p (x / 2 ^ s)
+bit-up s p x = bit-is (s + p) x ∙ ap (λ (y : ℕ). odd (y % 2)) (sym (shr-shr x s p)) ∙ sym (bit-is p (x / 2 ^ s))
+
+bit-low : (s p x : ℕ) → p < s → bit p (x % 2 ^ s) ≡ bit p x
+bit-low s p x h =
+    let d = s - p - 1 in
+    let e : s ≡ (d + 1) + p = omega arith in
+    bit-is p (x % 2 ^ s)
+    ∙ ap odd (ap (λ (k : ℕ). x % 2 ^ k / 2 ^ p % 2) e ∙ ap (λ (y : ℕ). y % 2) (field x (d + 1) p) ∙ mod-mod-pow (x / 2 ^ p) d 1)
+    ∙ sym (bit-is p x)
+
+-- ---- words
+pub num-lt : (s : ℕ) (f : ℕ → ℕ) (k : ℕ) → num s f k < 2 ^ (k * s)
+unfolding num
+num-lt s f zero = subst (λ (n : ℕ). 0 < 2 ^ n) (sym (zero-mul s)) (pow-pos 0)
+num-lt s f (suc k) = subst (λ (n : ℕ). num s f (suc k) < n) (sym (pow-add 2 (k * s) s) ∙ ap (λ (n : ℕ). 2 ^ n) (sym (suc-mul k s)))
+    (digits-lt (num-lt s (λ j. f (suc j)) k) (mod-lt (f 0) (pow-pos s)))
+
+pub num-same : (s : ℕ) (f g : ℕ → ℕ) (k : ℕ) → ((j : ℕ) → j < k → f j ≡ g j) → num s f k ≡ num s g k
+unfolding num
+num-same s f g zero h = refl
+num-same s f g (suc k) h = ap₂ (λ (q r : ℕ). q * 2 ^ s + r % 2 ^ s) (num-same s (λ j. f (suc j)) (λ j. g (suc j)) k (λ j l. h (suc j) (omega arith))) (h 0 (omega arith))
+
+pub num-zero : (s : ℕ) (f : ℕ → ℕ) (k : ℕ) → ((j : ℕ) → j < k → f j ≡ 0) → num s f k ≡ 0
+unfolding num
+num-zero s f zero h = refl
+num-zero s f (suc k) h = ap₂ (λ (q r : ℕ). q * 2 ^ s + r % 2 ^ s) (num-zero s (λ j. f (suc j)) k (λ j l. h (suc j) (omega arith))) (h 0 (omega arith))
+    ∙ ap₂ (λ (q r : ℕ). q + r) (zero-mul (2 ^ s)) (mod-eq-of-lt (pow-pos s))
+
+pub num-xor : (s : ℕ) (f g h : ℕ → ℕ) (k : ℕ) → ((j : ℕ) → j < k → h j ≡ bitXor (f j) (g j)) → num s h k ≡ bitXor (num s f k) (num s g k)
+unfolding num
+num-xor s f g h zero e = refl
+num-xor s f g h (suc k) e =
+    ap₂ (λ (q r : ℕ). q * 2 ^ s + r) (num-xor s (λ j. f (suc j)) (λ j. g (suc j)) (λ j. h (suc j)) k (λ j l. e (suc j) (omega arith)))
+    (ap (λ (x : ℕ). x % 2 ^ s) (e 0 (omega arith)) ∙ xor-mod (f 0) (g 0) s)
+    ∙ sym (xor-block s (num s (λ j. f (suc j)) k) (num s (λ j. g (suc j)) k) (f 0 % 2 ^ s) (g 0 % 2 ^ s) (mod-lt (f 0) (pow-pos s)) (mod-lt (g 0) (pow-pos s)))
+
+pub num-bit : (s : ℕ) (f : ℕ → ℕ) (k j i : ℕ) → j < k → i < s → bit (j * s + i) (num s f k) ≡ bit i (f j)
+unfolding num
+num-bit s f zero j i h l = absurd (omega arith)
+num-bit s f (suc k) zero i h l =
+    let z : zero * s + i ≡ i = omega (arith, zero-mul s) in
+    ap (λ (p : ℕ). bit p (num s f (suc k))) z
+    ∙ sym (bit-low s i (num s f (suc k)) l)
+    ∙ ap (bit i) (low (num s (λ j. f (suc j)) k) s (mod-lt (f 0) (pow-pos s)))
+    ∙ bit-low s i (f 0) l
+num-bit s f (suc k) (suc j) i h l =
+    let e : suc j * s + i ≡ s + (j * s + i) = omega (arith, suc-mul j s) in
+    ap (λ (p : ℕ). bit p (num s f (suc k))) e
+    ∙ bit-up s (j * s + i) (num s f (suc k))
+    ∙ ap (bit (j * s + i)) (high (num s (λ j. f (suc j)) k) s (mod-lt (f 0) (pow-pos s)))
+    ∙ num-bit s (λ j. f (suc j)) k j i (omega arith) l
+
+pub num-flip : (s : ℕ) (f h : ℕ → ℕ) (k j i : ℕ) → j < k → i < s → h j ≡ bitXor (f j) (2 ^ i) → ((l : ℕ) → (l ≡ j → ⊥) → h l ≡ f l)
+    → num s h k ≡ bitXor (num s f k) (2 ^ (j * s + i))
+unfolding num
+num-flip s f h zero j i m n e o = absurd (omega arith)
+num-flip s f h (suc k) zero i m n e o =
+    let Q = num s (λ j. f (suc j)) k in
+    let z : zero * s + i ≡ i = omega (arith, zero-mul s) in
+    let y : 2 ^ i ≡ 0 * 2 ^ s + 2 ^ i = omega (arith, zero-mul (2 ^ s)) in
+    let a : 2 ^ (zero * s + i) ≡ 0 * 2 ^ s + 2 ^ i = ap (λ (n : ℕ). 2 ^ n) z ∙ y in
+    ap₂ (λ (q r : ℕ). q * 2 ^ s + r) (num-same s (λ j. h (suc j)) (λ j. f (suc j)) k (λ j l. o (suc j) (λ (z : suc j ≡ 0). omega arith)))
+    (ap (λ (x : ℕ). x % 2 ^ s) e ∙ xor-mod (f 0) (2 ^ i) s ∙ ap (bitXor (f 0 % 2 ^ s)) (mod-eq-of-lt (pow-lt n)))
+    ∙ ap (λ (q : ℕ). q * 2 ^ s + bitXor (f 0 % 2 ^ s) (2 ^ i)) (sym (xor-zero-r Q))
+    ∙ sym (ap (bitXor (Q * 2 ^ s + f 0 % 2 ^ s)) a ∙ xor-block s Q 0 (f 0 % 2 ^ s) (2 ^ i) (mod-lt (f 0) (pow-pos s)) (pow-lt n))
+num-flip s f h (suc k) (suc j) i m n e o =
+    let Q = num s (λ j. f (suc j)) k in
+    let b : suc j * s + i ≡ (j * s + i) + s = omega (arith, suc-mul j s) in
+    let a : 2 ^ (suc j * s + i) ≡ 2 ^ (j * s + i) * 2 ^ s + 0 = ap (λ (n : ℕ). 2 ^ n) b ∙ pow-add 2 (j * s + i) s ∙ omega arith in
+    ap₂ (λ (q r : ℕ). q * 2 ^ s + r % 2 ^ s)
+    (num-flip s (λ j. f (suc j)) (λ j. h (suc j)) k j i (omega arith) n e (λ l z. o (suc l) (λ (y : suc l ≡ suc j). z (omega arith))))
+    (o 0 (λ (z : 0 ≡ suc j). omega arith))
+    ∙ ap (λ (r : ℕ). bitXor Q (2 ^ (j * s + i)) * 2 ^ s + r) (sym (xor-zero-r (f 0 % 2 ^ s)))
+    ∙ sym (ap (bitXor (Q * 2 ^ s + f 0 % 2 ^ s)) a ∙ xor-block s Q (2 ^ (j * s + i)) (f 0 % 2 ^ s) 0 (mod-lt (f 0) (pow-pos s)) (pow-pos s))
+
+-- ---- rows
+pub row-lt : (w : List ℕ) (r : ℕ) → row w r < 2 ^ (16 * 64)
+unfolding row
+row-lt w r = num-lt 64 (λ j. getD w (r * 16 + j) 0) 16
+
+pub row-bit : (w : List ℕ) (r p : ℕ) → p < 1024 → bit p (row w r) ≡ bit (p % 64) (getD w (r * 16 + p / 64) 0)
+unfolding row
+row-bit w r p h =
+    let e : p ≡ p / 64 * 64 + p % 64 = omega arith in
+    ap (λ (q : ℕ). bit q (num 64 (λ j. getD w (r * 16 + j) 0) 16)) e
+    ∙ num-bit 64 (λ j. getD w (r * 16 + j) 0) 16 (p / 64) (p % 64) (omega arith) (omega arith)
+
+pub row-same : (w e : List ℕ) (r : ℕ) → ((j : ℕ) → j / 16 ≡ r → getD e j 0 ≡ getD w j 0) → row e r ≡ row w r
+unfolding row
+row-same w e r h = num-same 64 (λ j. getD e (r * 16 + j) 0) (λ j. getD w (r * 16 + j) 0) 16 (λ j l. h (r * 16 + j) (omega arith))
+
+pub row-other : {w : List ℕ} {r x : ℕ} {e : List ℕ} → RowPut w r x e → (s : ℕ) → (s ≡ r → ⊥) → row e s ≡ row w s
+row-other {w} {r} {x} {e} p s n = row-same w e s (λ j q. p .rest j (λ (z : j / 16 ≡ r). n (omega arith)))
+
+pub put-put : {w : List ℕ} {r x y : ℕ} {e f : List ℕ} → RowPut w r x e → RowPut e r y f → RowPut w r y f
+put-put p q = record { len = q .len ∙ p .len; here = q .here; rest = λ j n. q .rest j n ∙ p .rest j n }
+
+pub put-self : (w : List ℕ) (r : ℕ) → RowPut w r (row w r) w
+put-self w r = record { len = refl; here = refl; rest = λ j n. refl }
+
+pub put-is : {w : List ℕ} {r x y : ℕ} {e : List ℕ} → RowPut w r x e → x ≡ y → RowPut w r y e
+put-is p h = record { len = p .len; here = p .here ∙ h; rest = p .rest }
+
+-- a bit flipped
+module _ (w : List ℕ) (r p : ℕ) (room : r * 16 + 16 ≤ length w) (fittedPlaces : p < 1024) where
+  abbrev at : ℕ
+  at = r * 16 + p / 64
+
+  abbrev e : List ℕ
+  e = set w at (bitXor (getD w at 0) (1 * 2 ^ (p % 64) % 2 ^ 64))
+
+  word : getD e at 0 ≡ bitXor (getD w at 0) (2 ^ (p % 64))
+  word = getD-set-same w at _ 0 (omega arith) ∙ ap (bitXor (getD w at 0)) (shl-exact 1 (p % 64) 64 (lit< tt) (omega arith) ∙ one-mul (2 ^ (p % 64)))
+
+  pub flipped : RowPut w r (bitXor (row w r) (2 ^ p)) e
+  unfolding row
+  flipped =
+      let c : p / 64 * 64 + p % 64 ≡ p = omega arith in
+      record {
+        len = simp length-set;
+        here = num-flip 64 (λ j. getD w (r * 16 + j) 0) (λ j. getD e (r * 16 + j) 0) 16 (p / 64) (p % 64) (omega arith) (omega arith) word
+            (λ l n. getD-set-other w at (r * 16 + l) _ 0 (λ (z : r * 16 + l ≡ at). n (omega arith)))
+            ∙ ap (λ (q : ℕ). bitXor (num 64 (λ j. getD w (r * 16 + j) 0) 16) (2 ^ q)) c;
+        rest = λ j n. getD-set-other w at j _ 0 (λ (z : j ≡ at). n (omega arith));
+      }
+
+-- ---- a loop over the words of a row: i of them are those of f
+pub record Wrote (w : List ℕ) (r : ℕ) (f : ℕ → ℕ) (i : ℕ) (e : List ℕ) : Type 0 where
+  pub len : length e ≡ length w
+  pub done : (k : ℕ) → k < i → getD e (r * 16 + k) 0 ≡ f k
+  pub rest : (j : ℕ) → (j / 16 ≡ r → j % 16 < i → ⊥) → getD e j 0 ≡ getD w j 0
+
+pub wrote-none : (w : List ℕ) (r : ℕ) (f : ℕ → ℕ) → Wrote w r f 0 w
+wrote-none w r f = record { len = refl; done = λ k h. absurd (omega arith); rest = λ j n. refl }
+
+pub wrote-turn : {w : List ℕ} {r : ℕ} {f : ℕ → ℕ} {i : ℕ} {e : List ℕ} (v : ℕ) → r * 16 + 16 ≤ length w → i < 16 → Wrote w r f i e → v ≡ f i → Wrote w r f (i + 1) (set e (r * 16 + i) v)
+wrote-turn {w} {r} {f} {i} {e} v room more d q =
+    let l = d .len in
+    record {
+      len = simp length-set (d .len);
+      done = below-more _ _ (λ k h. getD-set-other e (r * 16 + i) (r * 16 + k) v 0 (λ (z : r * 16 + k ≡ r * 16 + i). omega arith) ∙ d .done k h)
+          (getD-set-same e (r * 16 + i) v 0 (omega arith) ∙ q);
+      rest = λ j n. getD-set-other e (r * 16 + i) j v 0 (λ (z : j ≡ r * 16 + i). n (omega arith) (omega arith)) ∙ d .rest j (λ a b. n a (omega arith));
+    }
+
+pub wrote-row : {w : List ℕ} {r : ℕ} {f : ℕ → ℕ} {e : List ℕ} → Wrote w r f 16 e → RowPut w r (num 64 f 16) e
+unfolding row
+wrote-row {w} {r} {f} {e} d = record {
+  len = d .len;
+  here = num-same 64 (λ j. getD e (r * 16 + j) 0) f 16 (d .done);
+  rest = λ j n. d .rest j (λ a b. n a);
+}
+
+pub cleared : {w : List ℕ} {r : ℕ} {e : List ℕ} → Wrote w r (λ _. 0) 16 e → RowPut w r 0 e
+cleared d = put-is (wrote-row d) (num-zero 64 (λ _. 0) 16 (λ j h. refl))
+
+abbrev pub both : List ℕ → ℕ → ℕ → ℕ → ℕ
+both w a b k = bitXor (getD w (a * 16 + k) 0) (getD w (b * 16 + k) 0)
+
+pub both-turn : (w : List ℕ) (a b i : ℕ) {e : List ℕ} → b * 16 + 16 ≤ length w → i < 16 → Wrote w b (both w a b) i e
+    → Wrote w b (both w a b) (i + 1) (set e (b * 16 + i) (bitXor (getD e (a * 16 + i) 0) (getD e (b * 16 + i) 0)))
+both-turn w a b i {e} room more d = wrote-turn _ room more d (ap₂ bitXor (d .rest (a * 16 + i) (λ p q. omega arith)) (d .rest (b * 16 + i) (λ p q. omega arith)))
+
+pub added : (w : List ℕ) (a b : ℕ) {e : List ℕ} → Wrote w b (both w a b) 16 e → RowPut w b (bitXor (row w a) (row w b)) e
+unfolding row
+added w a b d = put-is (wrote-row d) (num-xor 64 (λ j. getD w (a * 16 + j) 0) (λ j. getD w (b * 16 + j) 0) (both w a b) 16 (λ j h. refl))
+
+-- ---- the test of a bit
+one-odd : (x : ℕ) → x < 2 → eqb x 1 ≡ odd x
+one-odd zero h = refl
+one-odd (suc zero) h = refl
+one-odd (suc (suc x)) h = absurd (omega arith)
+
+pub tested : (w : List ℕ) (r p : ℕ) → p < 1024 → eqb (bitAnd (getD w (r * 16 + p / 64) 0 / 2 ^ (p % 64)) 1) 1 ≡ bit p (row w r)
+tested w r p h =
+    let x = getD w (r * 16 + p / 64) 0 in
+    ap (λ (y : ℕ). eqb y 1) (and-mask (x / 2 ^ (p % 64)) 1) ∙ one-odd (x / 2 ^ (p % 64) % 2) (omega arith) ∙ sym (bit-is (p % 64) x) ∙ sym (row-bit w r p h)

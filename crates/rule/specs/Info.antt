@@ -1,0 +1,185 @@
+-- The information places: how many there are, and what they hold after encoding.
+use mathlib.Core.Path.{_≡_, refl, sym, ap, ap₂, _∙_, subst}
+use mathlib.Core.Bool.{Bool, true, false, cond, not, _||_, true≢false, false≢true}
+use mathlib.Core.List.{List, [], _∷_, _++_, map}
+use Prim.Native.Nat.{ℕ, zero, suc, _+_, _-_, _<_, _≤_}
+use native.Mathlib.Omega.{arith}
+use lib.Dec.{eqb}
+use lib.ListN.{length, getD, set, replicate, length-replicate, length-set, length-map, length-append}
+use lib.Seq.{getD-set-same, getD-set-other}
+use Rattle.gf2.specs.Bit.{eqb-true, eqb-false, eqb-self, eqb-comm}
+use Rattle.rule.specs.Codeword.{all-rev, all-self}
+use Rattle.rule.specs.Encoded.{encode}
+use Rattle.rule.specs.Final.{tri-own, put-other, put-length}
+use Rattle.gf2.specs.Fit.{below, length-below}
+use Rattle.table.specs.Packets.{Packets}
+use Rattle.gf2.specs.Lists.{Distinct, Distinct.dnil, Distinct.dnew, rev, all-zip, below-of, all-in, par-has}
+use Rattle.rule.specs.Main.{ts, az, F, E, tri, lowT, free-good, peels, same, dF, freeF, distinct-filter, distinct-below, distinct-rev, length-rev}
+use Rattle.rule.specs.Peel.{Peels, Peels.stop, Peels.took′, Peels.aside′, Pulled, pulled-length}
+use Rattle.rule.specs.Rule.{Solved, owns, kept, plan, Plan}
+use Rattle.gf2.specs.Places.{has, par, has-par, filter, minus, or-false-l, or-false-r}
+use Rattle.gf2.specs.Span.{byBool, or-l, or-r}
+use Rattle.plan.specs.declared.Step.{Step}
+use Rattle.plan.specs.declared.Step.the-variants.{Clear, Add}
+use Rattle.plan.specs.Steps.{withPackets, carryOutAll, carryOut}
+use Rattle.rule.specs.Solved.{Tri, Tri.done, Tri.also}
+use Rattle.rule.specs.WellFormed.{Sound, Sound.clears, Sound.addss, well-formed, info-low}
+use Rattle.gf2.specs.Width.{All, All.nil, All.cons, all-map}
+
+-- ---- taking places out of a list without repeats
+none-out : (x : ℕ) (c : List ℕ) → has x c ≡ false → filter (λ p. not (eqb p x)) c ≡ c
+none-out x [] h = refl
+none-out x (q ∷ c) h = let e : eqb q x ≡ false = eqb-comm q x ∙ or-false-l (eqb x q) (has x c) h in
+    rw e (ap (λ r. q ∷ r) (none-out x c (or-false-r (eqb x q) (has x c) h)))
+
+-- one place taken out
+one-out : (x : ℕ) {c : List ℕ} → Distinct c → has x c ≡ true → suc (length (filter (λ p. not (eqb p x)) c)) ≡ length c
+one-out x dnil h = absurd (false≢true h)
+one-out x (dnew {x = q} {l = c} k d) h = byBool (eqb x q)
+    (λ e. rw (eqb-comm q x, e) (ap (λ r. suc (length r)) (none-out x c (ap (λ y. has y c) (eqb-true x q e) ∙ k))))
+    (λ e. rw (eqb-comm q x, e) (ap suc (one-out x d (rw e at h))))
+
+-- taking out a list is taking out its first and then the others
+minus-cons : (x : ℕ) (X c : List ℕ) → minus c (x ∷ X) ≡ filter (λ p. not (eqb p x)) (minus c X)
+minus-cons x X [] = refl
+minus-cons x X (q ∷ c) = byBool (has q X)
+    (λ e. byBool (eqb q x) (λ f. rw (e, f) (minus-cons x X c)) (λ f. rw (e, f) (minus-cons x X c)))
+    (λ e. byBool (eqb q x) (λ f. rw (e, f) (minus-cons x X c)) (λ f. rw (e, f) (ap (λ r. q ∷ r) (minus-cons x X c))))
+
+-- what passes the filter stays
+pub has-kept : (f : ℕ → Bool) (p : ℕ) (c : List ℕ) → f p ≡ true → has p c ≡ true → has p (filter f c) ≡ true
+has-kept f p [] t h = h
+has-kept f p (q ∷ c) t h = byBool (eqb p q)
+    (λ e. let u : f q ≡ true = ap f (sym (eqb-true p q e)) ∙ t in rw (u, filter) (rw e))
+    (λ e. byBool (f q)
+    (λ u. rw (u, filter) (rw e (has-kept f p c t (rw e at h))))
+    (λ u. rw (u, filter) (has-kept f p c t (rw e at h))))
+
+-- as many are left as there were, less those taken out
+minus-count : {X c : List ℕ} → Distinct X → Distinct c → All (λ x. has x c ≡ true) X → length (minus c X) + length X ≡ length c
+minus-count {c = c} dnil d nil = let e = ap length (filter-all c) in omega arith
+  where
+    filter-all : (c : List ℕ) → filter (λ p. true) c ≡ c
+    filter-all [] = refl
+    filter-all (q ∷ c) = ap (λ r. q ∷ r) (filter-all c)
+minus-count {c = c} (dnew {x = x} {l = X} k e) d (cons h hs) =
+    let ih = minus-count e d hs in
+    let w = one-out x (distinct-filter (λ p. not (has p X)) d) (has-kept (λ p. not (has p X)) x c (ap not k) h) in
+    rw (minus-cons x X c) (omega arith)
+
+-- ---- nobody owns a place twice, and no fitted place is owned
+
+-- each own place lies in its check
+pub tri-has : {ts : List Solved} → Tri ts → All (λ t. has (t .own) (t .check) ≡ true) ts
+tri-has done = nil
+tri-has (also {t = t} p l r) = cons (par-has (t .own) (t .check) p) (tri-has r)
+
+-- owned and fitted places together, without repeats
+owns-append : {ts : List Solved} {F : List ℕ} → Tri ts → All (λ t. has (t .own) F ≡ false) ts → Distinct F → Distinct (owns ts ++ F)
+owns-append done nil d = d
+owns-append {F = F} (also {t = t} {ts = ts} p l r) (cons h hs) d = dnew (go l (tri-has r)) (owns-append r hs d)
+  where
+    go : {us : List Solved} → All (λ u. has (t .own) (u .check) ≡ false) us → All (λ u. has (u .own) (u .check) ≡ true) us → has (t .own) (owns us ++ F) ≡ false
+    go nil nil = h
+    go (cons {x = u} a a2) (cons b b2) = byBool (eqb (t .own) (u .own))
+        (λ e. absurd (true≢false (sym b ∙ ap (λ x. has x (u .check)) (sym (eqb-true (t .own) (u .own) e)) ∙ a)))
+        (λ e. rw e (go a2 b2))
+
+-- a property of both parts
+all-after : {X : Type 0} {P : ℕ → Type 0} (f : X → ℕ) {l : List X} {m : List ℕ} → All (λ x. P (f x)) l → All P m → All P (map f l ++ m)
+all-after f nil b = b
+all-after f (cons p a) b = cons p (all-after f a b)
+
+-- each kept check is taken or set aside
+pub peels-count : {L : List (List ℕ)} {ts : List Solved} {az : List (List ℕ)} → Peels L ts az → length L ≡ length ts + length az
+peels-count stop = refl
+peels-count (took′ u h o r) = let a = pulled-length u in let b = peels-count r in omega arith
+peels-count (aside′ u r) = let a = pulled-length u in let b = peels-count r in omega arith
+
+-- membership in a list with one more at the end
+has-snoc-l : (p x : ℕ) (l : List ℕ) → has p l ≡ true → has p (l ++ (x ∷ [])) ≡ true
+has-snoc-l p x [] h = absurd (false≢true h)
+has-snoc-l p x (y ∷ l) h = byBool (eqb p y) (λ e. rw e) (λ e. rw e (has-snoc-l p x l (rw e at h)))
+
+-- the one at the end
+has-snoc-r : (p : ℕ) (l : List ℕ) → has p (l ++ (p ∷ [])) ≡ true
+has-snoc-r p [] = rw (eqb-self p)
+has-snoc-r p (y ∷ l) = or-r (eqb p y) _ (has-snoc-r p l)
+
+-- every place below n is listed
+pub low-has : (n p : ℕ) → p < n → has p (rev (below n)) ≡ true
+low-has zero p h = absurd (omega arith)
+low-has (suc n) p h = byBool (eqb p n)
+    (λ e. subst (λ x. has p (rev (below n) ++ (x ∷ [])) ≡ true) (eqb-true p n e) (has-snoc-r p (rev (below n))))
+    (λ e. let ne = eqb-false p n e in has-snoc-l p n (rev (below n)) (low-has n p (omega arith)))
+
+-- ---- the encoder leaves the information places alone
+
+-- a place that no step writes keeps its packet
+runs-keep : (s k p : ℕ) {I : List ℕ} {xs : List Step} → has p I ≡ true → All (Sound k I) xs → (st : List (List ℕ)) → getD (carryOutAll s st xs) p [] ≡ getD st p []
+runs-keep s k p h nil st = refl
+runs-keep s k p {I} h (cons (clears {to = to} l e) a) st = runs-keep s k p h a _ ∙ getD-set-other st to p _ [] (λ q. true≢false (sym h ∙ ap (λ x. has x I) q ∙ e))
+runs-keep s k p {I} h (cons (addss {to = to} l m n e) a) st = runs-keep s k p h a _ ∙ getD-set-other st to p _ [] (λ q. true≢false (sym h ∙ ap (λ x. has x I) q ∙ e))
+
+-- the k-th packet is put at the k-th place
+put-at : (st : List (List ℕ)) {is : List ℕ} (ps : List (List ℕ)) → Distinct is → All (λ i. i < length st) is → length ps ≡ length is
+    → (k : ℕ) → k < length is → getD (withPackets st is ps) (getD is k 0) [] ≡ getD ps k []
+put-at st ps dnil a l k h = absurd (omega arith)
+put-at st [] (dnew n d) (cons b a) l k h = absurd (omega arith)
+put-at st (p ∷ ps) (dnew {x = i} {l = is} n d) (cons b a) l zero h = put-other (set st i p) is ps i n ∙ getD-set-same st i p [] b
+put-at st (p ∷ ps) (dnew {x = i} {l = is} n d) (cons b a) l (suc k) h = put-at (set st i p) ps d (all-map (λ j q. subst (λ m. j < m) (sym (length-set st i p)) q) a) (omega arith) k (omega arith)
+
+-- what stands at a number of the list is a member
+pub getD-has : (l : List ℕ) (k : ℕ) → k < length l → has (getD l k 0) l ≡ true
+getD-has [] k h = absurd (omega arith)
+getD-has (x ∷ l) zero h = or-l (eqb x x) (has x l) (eqb-self x)
+getD-has (x ∷ l) (suc k) h = or-r (eqb (getD l k 0) x) (has (getD l k 0) l) (getD-has l k (omega arith))
+
+module _ (n : ℕ) (cs : List (List ℕ)) (d : All Distinct cs) (low : All (λ c. All (λ p. p < n) c) cs) where
+  -- short names
+  abbrev T : List Solved
+  T = ts n cs d low
+
+  abbrev FF : List ℕ
+  FF = F n cs d low
+
+  -- the places that are owned or fitted
+  abbrev pub used : List ℕ
+  used = owns T ++ FF
+
+  -- owned and fitted places are below n
+  pub used-low : All (λ p. p < n) used
+  used-low = all-after (λ t. t .own) (all-map (λ t r. r .0) (tri-own (tri n cs d low) (lowT n cs d low))) (all-map (λ f r. r .0) (free-good n cs d low))
+
+  used-distinct : Distinct used
+  used-distinct = owns-append (tri n cs d low) (freeF n cs d low) (dF n cs d low)
+
+  -- information places are all different
+  pub info-distinct : Distinct (plan n cs .info)
+  info-distinct = distinct-filter _ (distinct-rev (distinct-below n))
+
+  -- the information places and the kept checks together number n
+  pub info-count : length (plan n cs .info) + plan n cs .M ≡ n
+  info-count =
+      let a = minus-count used-distinct (distinct-rev (distinct-below n)) (all-map (λ p l. low-has n p l) used-low) in
+      let b : length used ≡ length T + length FF = length-append (owns T) FF ∙ ap (λ x. x + length FF) (length-map T (λ t. t .own)) in
+      let c : length FF ≡ plan n cs .g = same n cs d low ∙ length-map (az n cs d low) _ in
+      let e : plan n cs .M ≡ length T + plan n cs .g = peels-count (peels n cs d low) in
+      let f : length (rev (below n)) ≡ n = length-rev (below n) ∙ length-below n in
+      omega arith
+
+  -- there are n - M information places
+  pub info-number : length (plan n cs .info) ≡ n - plan n cs .M
+  info-number = let h = info-count in omega arith
+
+  -- no more checks are kept than there are places
+  pub kept-few : plan n cs .M ≤ n
+  kept-few = let h = info-count in omega arith
+
+  -- in the encoded block the k-th information place holds the k-th information packet
+  pub info-holds : (s : ℕ) (ps : List (List ℕ)) → length ps ≡ n - plan n cs .M → (k : ℕ) → k < n - plan n cs .M
+      → getD (encode n s (plan n cs) ps) (getD (plan n cs .info) k 0) [] ≡ getD ps k []
+  info-holds s ps l k h = let m = info-number in
+      runs-keep s (n + plan n cs .g) (getD (plan n cs .info) k 0) (getD-has (plan n cs .info) k (omega arith)) (well-formed n cs d low) _
+      ∙ put-at (replicate (n + plan n cs .g) (replicate s 0)) ps info-distinct
+      (all-map {P = λ i. i < n} (λ i q. simp length-replicate (omega arith)) (info-low n cs d low)) (l ∙ sym m) k (omega arith)

@@ -1,0 +1,182 @@
+-- The planner's rule (document 01, "The planner's rule" and the steps of "The plan"). A check is the list of its places,
+-- ascending; its row is the number with a one at each of its places.
+use mathlib.Core.Path.{_≡_}
+use mathlib.Core.Bool.{Bool, true, false, cond, not, _||_}
+use mathlib.Core.List.{List, [], _∷_, _++_, map}
+use mathlib.Core.Option.{Option, none, some}
+use Prim.Native.Nat.{ℕ, zero, suc, _+_, _^_, max}
+use lib.Bits.{bitXor}
+use lib.Dec.{eqb}
+use lib.ListN.{length}
+use Rattle.gf2.specs.Group.{XorGroup, sumOver}
+use Rattle.gf2.specs.Bit.{bit}
+use Rattle.gf2.specs.Fit.{isZero, column, below}
+use Rattle.gf2.specs.Greedy.{choose}
+use Rattle.gf2.specs.Lists.{highest, rev}
+use Rattle.gf2.specs.Places.{has, rowOf, minus}
+use Rattle.gf2.specs.Span.{isSum}
+use Rattle.plan.specs.declared.Step.{Step}
+use Rattle.plan.specs.declared.Step.the-variants.{Clear, Add}
+use Rattle.table.specs.Table.{ones}
+
+-- ---- 1. "Go through the checks in number order. Keep one unless it is the sum of some already kept"
+abbrev pub kept : List (List ℕ) → List (List ℕ)
+kept cs = choose XorGroup isZero rowOf [] cs
+
+-- ---- 2 and 3, over the live checks, in number order
+-- how many checks pass
+abbrev pub count : (List ℕ → Bool) → List (List ℕ) → ℕ
+count f [] = 0
+count f (x ∷ l) = elim (f x) [ true ↦ suc (count f l) | false ↦ count f l ]
+
+-- the first check that passes, and the list without it
+abbrev pub first : (List ℕ → Bool) → List (List ℕ) → List ℕ
+first f [] = []
+first f (x ∷ l) = elim (f x) [ true ↦ x | false ↦ first f l ]
+
+abbrev pub without : (List ℕ → Bool) → List (List ℕ) → List (List ℕ)
+without f [] = []
+without f (x ∷ l) = elim (f x) [ true ↦ l | false ↦ x ∷ without f l ]
+
+-- "some place lies in exactly one live check"
+abbrev pub inOneOnly : List (List ℕ) → ℕ → Bool
+inOneOnly live p = eqb (count (has p) live) 1
+
+-- "the live check of greatest weight": the one place to change for another choice
+abbrev pub greatest : List (List ℕ) → ℕ
+greatest [] = 0
+greatest (c ∷ cs) = max (length c) (greatest cs)
+
+abbrev pub heaviest : List (List ℕ) → List ℕ → Bool
+heaviest live c = eqb (length c) (greatest live)
+
+-- a check that was taken with its own place, or one that was set aside
+pub data PeelEvent : Type 0 where
+  took : ℕ → List ℕ → PeelEvent
+  aside : List ℕ → PeelEvent
+
+-- "take the highest such place: it becomes that check's own place and the check stops being live"; "if no such place exists
+-- .. set aside the live check of greatest weight, lowest number on a tie". The first argument is the number of live checks.
+abbrev pub peel : ℕ → ℕ → List (List ℕ) → List PeelEvent
+peel zero n live = []
+peel (suc k) n live = elim (highest n (inOneOnly live)) [
+  | some p ↦ took p (first (has p) live) ∷ peel k n (without (has p) live)
+  | none ↦ aside (first (heaviest live) live) ∷ peel k n (without (heaviest live) live)
+]
+
+-- a solved check: one with an own place
+pub record Solved : Type 0 where
+  pub own : ℕ
+  pub check : List ℕ
+
+-- in the order in which they were taken
+abbrev pub solvedOf : List PeelEvent → List Solved
+solvedOf [] = []
+solvedOf (took p c ∷ es) = record { own = p; check = c } ∷ solvedOf es
+solvedOf (aside c ∷ es) = solvedOf es
+
+-- in the order of setting aside
+abbrev pub setAsideOf : List PeelEvent → List (List ℕ)
+setAsideOf [] = []
+setAsideOf (took p c ∷ es) = setAsideOf es
+setAsideOf (aside c ∷ es) = c ∷ setAsideOf es
+
+abbrev pub owns : List Solved → List ℕ
+owns ts = map (λ t. t .own) ts
+
+-- ---- 5. "Express each set-aside check through places that nobody owns, by putting in the solved ones."
+abbrev pub row : Solved → ℕ
+row t = rowOf (t .check)
+
+abbrev pub put : Solved → ℕ → ℕ
+put t e = cond (bit (t .own) e) (bitXor (row t) e) e
+
+abbrev pub reduce : List Solved → ℕ → ℕ
+reduce [] e = e
+reduce (t ∷ ts) e = reduce ts (put t e)
+
+abbrev pub reduced : List Solved → List (List ℕ) → List ℕ
+reduced ts az = map (λ c. reduce ts (rowOf c)) az
+
+-- the places that nobody owns, from the highest down
+abbrev pub unowned : ℕ → List Solved → List ℕ
+unowned n ts = minus (below n) (owns ts)
+
+-- "take each whose column of g bits isn't a sum of columns already taken"; ascending
+abbrev pub fittedPlaces : ℕ → List Solved → List (List ℕ) → List ℕ
+fittedPlaces n ts az = rev (choose XorGroup isZero (column (reduced ts az)) [] (unowned n ts))
+
+-- the g-by-g matrix: each row on the fitted places alone
+abbrev pub restricted : List ℕ → ℕ → ℕ
+restricted F e = sumOver XorGroup (λ f. cond (bit f e) (2 ^ f) 0) F
+
+-- which of the rows R sum to x
+abbrev pub maskFor : List ℕ → ℕ → List Bool
+maskFor [] x = []
+maskFor (r ∷ R) x = elim (isSum XorGroup isZero R x) [ true ↦ false ∷ maskFor R x | false ↦ true ∷ maskFor R (bitXor r x) ]
+
+-- the inverse's row of a fitted place: the set-aside rows whose sum, on the fitted places, is that place alone
+abbrev pub inverse : List ℕ → List ℕ → ℕ → List Bool
+inverse E F f = maskFor (map (restricted F) E) (2 ^ f)
+
+-- ---- the steps
+-- "clear its own place, add its other places ascending"
+abbrev pub clearAndAdd : ℕ → List ℕ → List Step
+clearAndAdd to c = Clear to ∷ map (Add to) c
+
+-- the solved checks, without the places F
+abbrev pub solvingSteps : List ℕ → List Solved → List Step
+solvingSteps F [] = []
+solvingSteps F (u ∷ us) = clearAndAdd (u .own) (minus (u .check) (u .own ∷ F)) ++ solvingSteps F us
+
+-- the set-aside checks into the scratch slots from i on, without the fitted places F
+abbrev pub scratchSteps : ℕ → List ℕ → List (List ℕ) → List Step
+scratchSteps i F [] = []
+scratchSteps i F (c ∷ cs) = clearAndAdd i (minus c F) ++ scratchSteps (suc i) F cs
+
+-- the slots from i on that a mask names
+abbrev pub slotsNamed : ℕ → List Bool → List ℕ
+slotsNamed i [] = []
+slotsNamed i (true ∷ m) = i ∷ slotsNamed (suc i) m
+slotsNamed i (false ∷ m) = slotsNamed (suc i) m
+
+-- "for each fitted place ascending clear it and add the scratch slots that the inverse matrix names, ascending"
+abbrev pub fittingSteps : ℕ → (ℕ → List Bool) → List ℕ → List Step
+fittingSteps n inv [] = []
+fittingSteps n inv (f ∷ fs) = clearAndAdd f (slotsNamed n (inv f)) ++ fittingSteps n inv fs
+
+-- g above 0; ts in the order of taking, so that its reverse is the order of solving (step 4)
+abbrev pub stepsWithGap : ℕ → List Solved → List (List ℕ) → List ℕ → (ℕ → List Bool) → List Step
+stepsWithGap n ts az F inv = solvingSteps F (rev ts) ++ (scratchSteps n F az ++ (fittingSteps n inv F ++ solvingSteps [] (rev ts)))
+
+abbrev pub planSteps : ℕ → List Solved → List (List ℕ) → List Step
+planSteps n ts [] = solvingSteps [] (rev ts)
+planSteps n ts (c ∷ cs) = let az = c ∷ cs in let F = fittedPlaces n ts az in stepsWithGap n ts az F (inverse (reduced ts az) F)
+
+-- ---- the whole rule
+-- M checks kept with W ones, g set aside; own places in the order of solving, fitted places and information places ascending
+pub record Plan : Type 0 where
+  pub M : ℕ
+  pub W : ℕ
+  pub g : ℕ
+  pub own : List ℕ
+  pub fitted : List ℕ
+  pub info : List ℕ
+  pub list : List Step
+
+abbrev pub plan : ℕ → List (List ℕ) → Plan
+plan n cs =
+    let K = kept cs in
+    let es = peel (length K) n K in
+    let ts = solvedOf es in
+    let az = setAsideOf es in
+    let F = fittedPlaces n ts az in
+    record {
+      M = length K;
+      W = ones K;
+      g = length az;
+      own = owns (rev ts);
+      fitted = F;
+      info = minus (rev (below n)) (owns ts ++ F);
+      list = planSteps n ts az;
+    }

@@ -1,0 +1,50 @@
+-- The run on lists of packets is, byte by byte, the run on functions.
+use mathlib.Core.Path.{_≡_, refl, sym, ap, ap₂, _∙_, subst, fun-ext}
+use mathlib.Core.Bool.{Bool, true, false, cond}
+use mathlib.Core.List.{List, [], _∷_, _++_, map}
+use Prim.Native.Nat.{ℕ, zero, suc, _+_, _<_, _≤_}
+use native.Mathlib.Omega.{arith}
+use lib.Dec.{eqb}
+use lib.ListN.{length, getD, set, replicate, length-replicate, length-set}
+use lib.Seq.{getD-set-same, getD-set-other}
+use Rattle.gf2.specs.Group.{Group2, XorGroup}
+use Rattle.table.specs.PacketLaws.{view}
+use Rattle.gf2.specs.Bit.{eqb-true, eqb-false, eqb-self}
+use Rattle.table.specs.Packets.{Packets}
+use Rattle.gf2.specs.Lists.{all-getD, getD-zeros, all-set}
+use Rattle.gf2.specs.Vectors.{add, getD-add, length-add}
+use Rattle.rule.specs.Run.{upd, step, run}
+use Rattle.gf2.specs.Span.{byBool}
+use Rattle.plan.specs.declared.Step.{Step}
+use Rattle.plan.specs.declared.Step.the-variants.{Clear, Add}
+use Rattle.plan.specs.Steps.{carryOut, carryOutAll}
+use Rattle.gf2.specs.Width.{All, All.nil, All.cons, all-map}
+
+-- a step whose slots are there
+pub data Fits (k : ℕ) : Step → Type 0 where
+  clears : {to : ℕ} → to < k → Fits k (Clear to)
+  addss : {to from : ℕ} → to < k → from < k → Fits k (Add to from)
+
+view-set : (st : List (List ℕ)) (to : ℕ) (v : List ℕ) (j a : ℕ) → to < length st → getD v j 0 ≡ a → view (set st to v) j ≡ upd XorGroup (view st j) to a
+view-set st to v j a h e = fun-ext (λ i. byBool (eqb i to)
+    (λ k. let q = eqb-true i to k in rw (k, q, getD-set-same st to v [] h) e)
+    (λ k. rw (k, getD-set-other st to i v [] (eqb-false i to k))))
+
+does-view : (s : ℕ) (st : List (List ℕ)) (x : Step) → Packets s st → Fits (length st) x → (j : ℕ) → view (carryOut s st x) j ≡ step XorGroup (view st j) x
+does-view s st (Clear to) w (clears h) j = view-set st to (replicate s 0) j 0 h (getD-zeros s j)
+does-view s st (Add to from) w (addss h k) j = view-set st to _ j _ h (getD-add XorGroup (getD st to []) (getD st from []) s (all-getD w to h) (all-getD w from k) j)
+
+pub does-packets : (s : ℕ) (st : List (List ℕ)) (x : Step) → Packets s st → Fits (length st) x → Packets s (carryOut s st x)
+does-packets s st (Clear to) w (clears h) = all-set w to (replicate s 0) (length-replicate s 0)
+does-packets s st (Add to from) w (addss h k) = all-set w to _ (length-add XorGroup (getD st to []) (getD st from []) s (all-getD w to h) (all-getD w from k))
+
+pub does-length : (s : ℕ) (st : List (List ℕ)) (x : Step) → length (carryOut s st x) ≡ length st
+does-length s st (Clear to) = length-set st to _
+does-length s st (Add to from) = length-set st to _
+
+pub runs-view : (s k : ℕ) (xs : List Step) (st : List (List ℕ)) → length st ≡ k → Packets s st → All (Fits k) xs → (j : ℕ) → view (carryOutAll s st xs) j ≡ run XorGroup (view st j) xs
+runs-view s k [] st l w nil j = refl
+runs-view s k (x ∷ xs) st l w (cons f fs) j =
+    let g = subst (λ k. Fits k x) (sym l) f in
+    runs-view s k xs (carryOut s st x) (does-length s st x ∙ l) (does-packets s st x w g) fs j
+    ∙ ap (λ v. run XorGroup v xs) (does-view s st x w g j)

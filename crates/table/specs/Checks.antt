@@ -1,0 +1,45 @@
+-- The checks of a table as code reads them: check j is a run of places behind the weights.
+use mathlib.Core.Path.{_≡_}
+use mathlib.Core.List.{List, [], _∷_}
+use Prim.Native.Nat.{ℕ, zero, suc, _+_, _<_, _≤_}
+use lib.ListN.{length, getD, take, drop}
+
+-- the ones of the checks before check j
+unfoldable pub offset : List ℕ → ℕ → ℕ
+offset t zero = 0
+offset t (suc j) = offset t j + getD t (4 + j) 0
+
+-- check j of a table of m checks
+unfoldable pub check : List ℕ → ℕ → ℕ → List ℕ
+check t m j = take (getD t (4 + j) 0) (drop (5 + m + offset t j) t)
+
+-- c numbers from i on
+unfoldable pub from : ℕ → ℕ → List ℕ
+from i zero = []
+from i (suc c) = i ∷ from (suc i) c
+
+-- a table that code may read without a look at its bounds
+pub record Valid (t : List ℕ) (m n : ℕ) : Type 0 where
+  pub few : m ≤ 512
+  pub narrow : n ≤ 1024
+  pub weights : 5 + m ≤ length t
+  pub room : (i : ℕ) → i < m → 5 + m + offset t i + getD t (4 + i) 0 ≤ length t
+  pub below : (j : ℕ) → 5 + m ≤ j → j < length t → getD t j 0 < n
+
+-- weight places of t from at: inside t, below n, ascending
+pub record Places (t : List ℕ) (at weight n : ℕ) : Type 0 where
+  pub room : at + weight ≤ length t
+  pub below : (i : ℕ) → i < weight → getD t (at + i) 0 < n
+  pub rising : (i k : ℕ) → i < k → k < weight → getD t (at + i) 0 < getD t (at + k) 0
+
+-- every check's places
+pub record Checks (t : List ℕ) (m n : ℕ) : Type 0 where
+  pub few : m ≤ 512
+  pub narrow : n ≤ 1024
+  pub weights : 5 + m ≤ length t
+  pub each : (j : ℕ) → j < m → Places t (5 + m + offset t j) (getD t (4 + j) 0) n
+
+-- where each check's places start
+pub record Starts (t : List ℕ) (m : ℕ) (starts : List ℕ) : Type 0 where
+  pub room : m ≤ length starts
+  pub each : (j : ℕ) → j < m → getD starts j 0 ≡ 5 + m + offset t j

@@ -1,0 +1,6 @@
+pub mod Checks
+pub mod PacketCall
+pub mod PacketLaws
+pub mod Packets
+pub mod Table
+pub mod TableLaws

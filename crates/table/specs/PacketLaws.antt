@@ -1,0 +1,73 @@
+-- Laws of packets: a block as bytes in a row and as packets, and sums byte by byte.
+use mathlib.Core.Path.{_≡_, refl, sym, ap, ap₂, _∙_, subst}
+use mathlib.Core.List.{List, [], _∷_, _++_, append-assoc}
+use Prim.Native.Nat.{ℕ, zero, suc, _+_, _*_, _-_, _<_, _≤_}
+use native.Mathlib.Nat.{suc-inj}
+use native.Mathlib.Omega.{arith}
+use lib.Bits.{bitXor}
+use lib.ListN.{replicate, length-replicate, length, getD, set, take, drop, length-append, length-drop, take-append-drop}
+use lib.Seq.{take-at, drop-at, drop-drop, length-take-le, take-append-add, drop-append-add}
+use Rattle.gf2.specs.Group.{XorGroup, sumOver}
+use Rattle.table.specs.Packets.{Packets, packets, joined, packetSum}
+use Rattle.gf2.specs.Lists.{all-getD, getD-zeros}
+use Rattle.gf2.specs.Vectors.{add, getD-add, length-add}
+use Rattle.gf2.specs.Width.{All, All.nil, All.cons}
+
+-- there are n of them
+pub packets-length : (s n : ℕ) (b : List ℕ) → length (packets s n b) ≡ n
+packets-length s zero b = refl
+packets-length s (suc n) b = ap suc (packets-length s n (drop s b))
+
+-- of s bytes each
+pub packets-sized : (s n : ℕ) (b : List ℕ) → length b ≡ n * s → Packets s (packets s n b)
+packets-sized s zero b l = nil
+packets-sized s (suc n) b l = cons (length-take-le s b (omega arith)) (packets-sized s n (drop s b) (length-drop s b ∙ (omega arith)))
+
+-- their bytes
+pub joined-length : (s : ℕ) {ps : List (List ℕ)} → Packets s ps → length (joined ps) ≡ length ps * s
+joined-length s nil = omega arith
+joined-length s (cons {x = p} {l = ps} e a) = let h = joined-length s a in length-append p (joined ps) ∙ (omega arith)
+
+-- there and back
+pub packets-joined : (s n : ℕ) (b : List ℕ) → length b ≡ n * s → joined (packets s n b) ≡ b
+packets-joined s zero [] l = refl
+packets-joined s zero (x ∷ b) l = absurd (omega arith)
+packets-joined s (suc n) b l = ap (λ r. take s b ++ r) (packets-joined s n (drop s b) (length-drop s b ∙ (omega arith))) ∙ take-append-drop s b
+
+-- and the other way
+pub joined-packets : (s : ℕ) {ps : List (List ℕ)} → Packets s ps → packets s (length ps) (joined ps) ≡ ps
+joined-packets s nil = refl
+joined-packets s (cons {x = p} {l = ps} e a) = ap₂ _∷_ (take-at p (joined ps) s e) (ap (packets s (length ps)) (drop-at p (joined ps) s e) ∙ joined-packets s a)
+
+-- the packet of a place is the part of s bytes at place times s
+pub packet-at : (s n : ℕ) (b : List ℕ) (p : ℕ) → p < n → getD (packets s n b) p [] ≡ take s (drop (p * s) b)
+packet-at s zero b p h = absurd (omega arith)
+packet-at s (suc n) b zero h = ap (λ k. take s (drop k b)) {x = 0} {y = 0 * s} (omega arith)
+packet-at s (suc n) b (suc p) h = packet-at s n (drop s b) p (omega arith) ∙ ap (take s) (drop-drop (p * s) s b ∙ ap (λ k. drop k b) {x = s + p * s} {y = suc p * s} (omega arith))
+
+-- a packet replaced
+pub joined-set : (s : ℕ) {ps : List (List ℕ)} → Packets s ps → (i : ℕ) (v : List ℕ) → i < length ps
+    → joined (set ps i v) ≡ take (i * s) (joined ps) ++ (v ++ drop (i * s + s) (joined ps))
+joined-set s nil i v h = absurd (omega arith)
+joined-set s (cons {x = p} {l = ps} e a) zero v h =
+    let a1 : _≡_ {A = ℕ} 0 (0 * s) = omega arith in let a2 : s ≡ 0 * s + s = omega arith in
+    ap (λ r. v ++ r) (sym (drop-at p (joined ps) s e))
+    ∙ ap₂ (λ j k. take j (p ++ joined ps) ++ (v ++ drop k (p ++ joined ps))) a1 a2
+joined-set s (cons {x = p} {l = ps} e a) (suc i) v h =
+    let a1 : length p + i * s ≡ suc i * s = omega arith in let a2 : length p + (i * s + s) ≡ suc i * s + s = omega arith in
+    ap (λ r. p ++ r) (joined-set s a i v (omega arith))
+    ∙ sym (append-assoc p (take (i * s) (joined ps)) _)
+    ∙ ap₂ (λ x y. x ++ (v ++ y)) (sym (take-append-add p (joined ps) (i * s))) (sym (drop-append-add p (joined ps) (i * s + s)))
+    ∙ ap₂ (λ j k. take j (p ++ joined ps) ++ (v ++ drop k (p ++ joined ps))) a1 a2
+
+abbrev pub view : List (List ℕ) → ℕ → ℕ → ℕ
+view st j i = getD (getD st i []) j 0
+
+-- a sum of packets, byte by byte
+pub sum-view : (s : ℕ) {b : List (List ℕ)} → Packets s b → {c : List ℕ} → All (λ p. p < length b) c
+    → (length (packetSum s b c) ≡ s) × ((j : ℕ) → getD (packetSum s b c) j 0 ≡ sumOver XorGroup (view b j) c)
+sum-view s w nil = (length-replicate s 0, getD-zeros s)
+sum-view s {b} w (cons {x = p} {l = c} h a) = let r = sum-view s w a in (
+  length-add XorGroup (getD b p []) (packetSum s b c) s (all-getD w p h) (r .0),
+  λ j. getD-add XorGroup (getD b p []) (packetSum s b c) s (all-getD w p h) (r .0) j ∙ ap (λ v. bitXor (view b j p) v) (r .1 j),
+)
