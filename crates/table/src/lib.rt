@@ -1,1 +1,5 @@
 // The table of checks and its packets.
+
+// ---- the table
+
+// ---- packets
