@@ -1,0 +1,2 @@
+pub mod OwnPlan
+pub mod Demands

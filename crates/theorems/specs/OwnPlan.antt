@@ -1,0 +1,121 @@
+-- The planner's own plan: it is well-formed, and read back it is the rule's.
+use mathlib.Core.Path.{_≡_, refl, sym, ap, ap₂, _∙_, subst}
+use mathlib.Core.Bool.{Bool, true, false, cond, not, _||_, _&&_}
+use mathlib.Core.List.{List, [], _∷_, _++_, map}
+use mathlib.Core.Option.{Option, none, some}
+use Prim.Native.Nat.{ℕ, zero, suc, _+_, _-_, _*_, _<_, _≤_}
+use native.Mathlib.Omega.{arith}
+use borrow.Author.Tests.{lt-ltb, le-ltb, le-leb, ne-eqb, eq-eqb, eqb-true, ltb-false, leb-true}
+use lib.Dec.{eqb, ltb, leb}
+use lib.ListN.{length, getD, take, drop}
+use Rattle.gf2.specs.Bit.{eqb-self}
+use Rattle.gf2.specs.Lists.{allPass, Distinct}
+use Rattle.gf2.specs.Places.{has}
+use Rattle.gf2.specs.Span.{byBool}
+use Rattle.gf2.specs.Width.{All, All.nil, All.cons, all-map}
+use Rattle.table.specs.Table.{places, size, number, checks, refusal, ones, outside, rising}
+use Rattle.table.specs.TableLaws.{Good, accepted}
+use Rattle.plan.specs.declared.Step.{Step}
+use Rattle.plan.specs.declared.Step.the-variants.{Clear, Add}
+use Rattle.plan.specs.Step.{pack, unpack, unpackAll}
+use Rattle.plan.specs.Layout.{badCounts, goodStep, wellFormed, planRefusal, infoIn, stepsIn, stepsOf, slots, stepCount, infoCount, mostAside}
+use Rattle.rule.specs.Rule.{plan, Plan}
+use Rattle.rule.specs.WellFormed.{Sound, Sound.clears, Sound.addss, well-formed, info-low}
+use Rattle.rule.specs.Info.{info-number, kept-few}
+use Rattle.rule.specs.Accepted.{Up, Up.none as unone, Up.then as uthen, info-up, kept-length, aside-few, steps-limit}
+use Rattle.rule.specs.PlanWords.{planWords, words-length, info-back, count-back, steps-back, unpack-pack}
+use Rattle.planner.specs.Planning.{planOf, numbersOf}
+
+-- ---- tests
+or-no : {a b : Bool} → a ≡ false → b ≡ false → (a || b) ≡ false
+or-no e f = rw (e, f)
+
+and-yes : {a b : Bool} → a ≡ true → b ≡ true → (a && b) ≡ true
+and-yes e f = rw (e, f)
+
+within : (most x : ℕ) → 1 ≤ x → x ≤ most → outside most x ≡ false
+within most x h k = or-no (ne-eqb x 0 (λ e. omega arith)) (le-ltb most x k)
+
+-- ---- the parts of a well-formed plan
+up-rising : (n : ℕ) {b : ℕ} {l : List ℕ} → Up b l → All (λ p. p < n) l → rising n b l ≡ true
+up-rising n unone nil = refl
+up-rising n {b} (uthen {x = x} h u) (cons k a) = and-yes (and-yes (le-leb b x h) (lt-ltb x n k)) (up-rising n u a)
+
+sound-good : (k : ℕ) (I : List ℕ) (x : Step) → k ≤ 4096 → Sound k I x → goodStep k I (unpack (pack x)) ≡ true
+sound-good k I x h r = ap (goodStep k I) (unpack-pack k I x h r) ∙ go r
+  where
+    go : {x : Step} → Sound k I x → goodStep k I (some x) ≡ true
+    go (clears {to = to} l o) = and-yes (lt-ltb to k l) (ap not o)
+    go (addss {to = to} {from = from} l m ne o) = and-yes (lt-ltb to k l) (and-yes (lt-ltb from k m) (and-yes (ap not ne) (ap not o)))
+
+steps-good : (k : ℕ) (I : List ℕ) → k ≤ 4096 → {xs : List Step} → All (Sound k I) xs → allPass (λ x. goodStep k I (unpack x)) (map pack xs) ≡ true
+steps-good k I h nil = refl
+steps-good k I h (cons {x = x} r a) = and-yes (sound-good k I x h r) (steps-good k I h a)
+
+unpacked : (k : ℕ) (I : List ℕ) → k ≤ 4096 → {xs : List Step} → All (Sound k I) xs → unpackAll (map pack xs) ≡ xs
+unpacked k I h nil = refl
+unpacked k I h (cons {x = x} {l = xs} r a) = rw (unpack-pack k I x h r, unpackAll) (ap (λ l. x ∷ l) (unpacked k I h a))
+
+-- ---- for every accepted table
+module _ (t : List ℕ) (ok : refusal t ≡ 0) (few : planOf t .g ≤ mostAside) where
+  good : Good t
+  good = accepted t ok
+
+  abbrev n : ℕ
+  n = places t
+
+  abbrev P : Plan
+  P = planOf t
+
+  sounds : All (Sound (n + P .g) (P .info)) (P .list)
+  sounds = well-formed n (checks t) (good .distinct) (good .low)
+
+  fits : n + P .g ≤ 4096
+  fits = let a = good .few-places in omega arith
+
+  -- reading back
+  pub own-info : infoIn (numbersOf t) ≡ P .info
+  own-info = info-back n (size t) P
+
+  pub own-count : stepCount (numbersOf t) ≡ length (P .list)
+  own-count = count-back n (size t) P
+
+  pub own-length : length (numbersOf t) ≡ 7 + length (P .info) + length (P .list)
+  own-length = words-length n (size t) P
+
+  pub own-steps : stepsOf (numbersOf t) ≡ P .list
+  own-steps = ap unpackAll (steps-back n (size t) P) ∙ unpacked (n + P .g) (P .info) fits sounds
+
+  pub own-places : infoCount (numbersOf t) ≡ n - P .M
+  own-places = info-number n (checks t) (good .distinct) (good .low)
+
+  counts : badCounts (numbersOf t) ≡ false
+  counts =
+      let a = own-length in let b = own-count in let c = own-places in
+      let g1 = good .few-places in let g2 = good .few-checks in
+      let k = kept-few n (checks t) (good .distinct) (good .low) in
+      let l = kept-length n (checks t) in
+      let f = aside-few n (checks t) (good .distinct) (good .low) in
+      let m = steps-limit n (checks t) (good .distinct) (good .low) (good .few-ones) few in
+      or-no (le-ltb (length (numbersOf t)) 7 (omega arith))
+      (or-no refl
+      (or-no (within 1024 n (good .some-places) (good .few-places))
+      (or-no (within 1024 (size t) (good .some-bytes) (good .few-bytes))
+      (or-no (le-ltb 32 (P .g) few)
+      (or-no (le-ltb (P .M) (P .g) f)
+      (or-no (le-ltb n (P .M) k)
+      (or-no (le-ltb 512 (P .M) (omega arith))
+      (or-no (ap not (eq-eqb (length (P .info)) (n - P .M) c))
+      (or-no (le-ltb (length (numbersOf t)) (7 + length (P .info)) (omega arith))
+      (or-no (le-ltb 13344 (stepCount (numbersOf t)) (omega arith))
+      (ap not (eq-eqb (length (numbersOf t)) (7 + length (P .info) + stepCount (numbersOf t)) (omega arith)))))))))))))
+
+  -- "the planner's own plan is well-formed"
+  pub own-well-formed : wellFormed (numbersOf t) ≡ true
+  own-well-formed = and-yes (ap not counts)
+      (and-yes (ap (rising n 0) own-info ∙ up-rising n (info-up n (checks t)) (info-low n (checks t) (good .distinct) (good .low)))
+        (ap₂ (λ I l. allPass (λ x. goodStep (n + P .g) I (unpack x)) l) own-info (steps-back n (size t) P) ∙ steps-good (n + P .g) (P .info) fits sounds))
+
+  -- so that the encoder never refuses it with 9
+  pub own-accepted : planRefusal (numbersOf t) ≡ 0
+  own-accepted = ap (λ b. cond b 0 9) own-well-formed

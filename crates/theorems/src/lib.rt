@@ -1,0 +1,1 @@
+// The demands, over the definitions of the calls: see specs/.
