@@ -86,26 +86,28 @@ module _ (t : List ℕ) (ok : refusal t ≡ 0) where
 
   pub rule-numbers : RuleNumbers t
   rule-numbers = record {
-      fitted = fitted-number (places t) (checks t) (good .distinct) (good .low);
-      information = info-number (places t) (checks t) (good .distinct) (good .low);
-      few-kept = kept-few (places t) (checks t) (good .distinct) (good .low);
-      some-ones = kept-ones (places t) (checks t) (good .distinct) (good .low) }
+    fitted = fitted-number (places t) (checks t) (good .distinct) (good .low);
+    information = info-number (places t) (checks t) (good .distinct) (good .low);
+    few-kept = kept-few (places t) (checks t) (good .distinct) (good .low);
+    some-ones = kept-ones (places t) (checks t) (good .distinct) (good .low);
+  }
 
   module _ (few : planOf t .g ≤ mostAside) where
     counted : (information b c : List ℕ) (limit : ℕ) → encodeAnswer (numbersOf t) information b c limit .additions ≤ addSteps (planOf t .list)
     counted information b c limit =
         let p = answered (encodes (numbersOf t) information b c limit) (addSteps (stepsWithin (numbersOf t) limit)) in
         let q : addSteps (stepsWithin (numbersOf t) limit) ≤ addSteps (planOf t .list) =
-            subst (λ l. addSteps (take limit l) ≤ addSteps (planOf t .list)) (sym (own-steps t ok few)) (fewer limit (planOf t .list)) in
+        subst (λ l. addSteps (take limit l) ≤ addSteps (planOf t .list)) (sym (own-steps t ok few)) (fewer limit (planOf t .list)) in
         omega arith
 
     -- demand 3, the bound
     pub addition-bound : AdditionBound t
     addition-bound = record {
-        at-least-one = kept-ones (places t) (checks t) (good .distinct) (good .low);
-        always = λ i b c limit. let p = counted i b c limit in let q = adds-most (places t) (checks t) (good .distinct) (good .low) in
+      at-least-one = kept-ones (places t) (checks t) (good .distinct) (good .low);
+      always = λ i b c limit. let p = counted i b c limit in let q = adds-most (places t) (checks t) (good .distinct) (good .low) in
           let r = kept-ones (places t) (checks t) (good .distinct) (good .low) in omega arith;
-        four = λ h i b c limit. let p = counted i b c limit in let q = adds-bound (places t) (checks t) (good .distinct) (good .low) h in omega arith }
+      four = λ h i b c limit. let p = counted i b c limit in let q = adds-bound (places t) (checks t) (good .distinct) (good .low) h in omega arith;
+    }
 
     module _ (information blockBuffer scratchBuffer : List ℕ) (limit : ℕ) (lent : Lent t information blockBuffer scratchBuffer limit) where
       abbrev n : ℕ
@@ -123,9 +125,13 @@ module _ (t : List ℕ) (ok : refusal t ≡ 0) where
 
       fits : encodes (numbersOf t) information blockBuffer scratchBuffer limit ≡ 0
       unfolding encodeRefusal
-      fits = rw (own-accepted t ok few, encodeRefusal,
-          eq-eqb (length information) (infoCount (numbersOf t) * s) (lent .info-long ∙ ap (λ x. x * s) (sym (own-places t ok few))),
-          eq-eqb (length blockBuffer) (n * s) (lent .block-long), eq-eqb (length scratchBuffer) (planOf t .g * s) (lent .scratch-long)) refl
+      fits = rw (
+        own-accepted t ok few,
+        encodeRefusal,
+        eq-eqb (length information) (infoCount (numbersOf t) * s) (lent .info-long ∙ ap (λ x. x * s) (sym (own-places t ok few))),
+        eq-eqb (length blockBuffer) (n * s) (lent .block-long),
+        eq-eqb (length scratchBuffer) (planOf t .g * s) (lent .scratch-long),
+      ) refl
 
       -- the slots are those of the rule's plan
       slots-are : slotsAfter (numbersOf t) information limit ≡ encode n s (planOf t) ps
@@ -151,22 +157,25 @@ module _ (t : List ℕ) (ok : refusal t ≡ 0) where
 
       made-carries : Carries t information (joined (block n s (checks t) ps))
       made-carries = record {
-          long = joined-length s (made .sized) ∙ ap (λ m. m * s) (made .long);
-          carries = λ j h. sym (packet-at s n (joined (block n s (checks t) ps)) (getD (planOf t .info) j 0) (info-below j h))
+        long = joined-length s (made .sized) ∙ ap (λ m. m * s) (made .long);
+        carries = λ j h. sym (packet-at s n (joined (block n s (checks t) ps)) (getD (planOf t .info) j 0) (info-below j h))
             ∙ ap (λ l. getD l (getD (planOf t .info) j 0) []) back ∙ made .carries j h ∙ packet-at s k information j h;
-          codeword = subst (Codeword s (checks t)) (sym back) (made .zero-sums) }
+        codeword = subst (Codeword s (checks t)) (sym back) (made .zero-sums);
+      }
 
       taken : (b : List ℕ) → Carries t information b → Encodes n s (checks t) ps (packets s n b)
       taken b r = record {
-          long = packets-length s n b;
-          sized = packets-sized s n b (r .long);
-          carries = λ j h. packet-at s n b (getD (planOf t .info) j 0) (info-below j h) ∙ r .carries j h ∙ sym (packet-at s k information j h);
-          zero-sums = r .codeword }
+        long = packets-length s n b;
+        sized = packets-sized s n b (r .long);
+        carries = λ j h. packet-at s n b (getD (planOf t .info) j 0) (info-below j h) ∙ r .carries j h ∙ sym (packet-at s k information j h);
+        zero-sums = r .codeword;
+      }
 
       -- demand 2, planning and then encoding
       pub the-one-block : TheOneBlock t information blockBuffer scratchBuffer limit
       the-one-block = record {
-          not-refused = fits;
-          carries = subst (Carries t information) (sym after) made-carries;
-          only = λ b r. sym (packets-joined s n b (r .long))
-            ∙ ap joined (one-block n s (checks t) (good .distinct) (good .low) ps sized (packets-length s k information) (packets s n b) (taken b r)) ∙ sym after }
+        not-refused = fits;
+        carries = subst (Carries t information) (sym after) made-carries;
+        only = λ b r. sym (packets-joined s n b (r .long))
+            ∙ ap joined (one-block n s (checks t) (good .distinct) (good .low) ps sized (packets-length s k information) (packets s n b) (taken b r)) ∙ sym after;
+      }

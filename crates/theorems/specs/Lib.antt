@@ -1,2 +1,3 @@
 pub mod OwnPlan
 pub mod Demands
+pub mod Starred

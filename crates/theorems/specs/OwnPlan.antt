@@ -114,7 +114,7 @@ module _ (t : List ℕ) (ok : refusal t ≡ 0) (few : planOf t .g ≤ mostAside)
   pub own-well-formed : wellFormed (numbersOf t) ≡ true
   own-well-formed = and-yes (ap not counts)
       (and-yes (ap (rising n 0) own-info ∙ up-rising n (info-up n (checks t)) (info-low n (checks t) (good .distinct) (good .low)))
-        (ap₂ (λ I l. allPass (λ x. goodStep (n + P .g) I (unpack x)) l) own-info (steps-back n (size t) P) ∙ steps-good (n + P .g) (P .info) fits sounds))
+      (ap₂ (λ I l. allPass (λ x. goodStep (n + P .g) I (unpack x)) l) own-info (steps-back n (size t) P) ∙ steps-good (n + P .g) (P .info) fits sounds))
 
   -- so that the encoder never refuses it with 9
   pub own-accepted : planRefusal (numbersOf t) ≡ 0
