@@ -9,14 +9,16 @@ use native.Mathlib.Omega.{arith}
 use lib.ListN.{length, getD, set, take, drop, length-set}
 use lib.Seq.{getD-set-same, getD-set-other, take-suc-set}
 use lib.Dec.{eqb}
+use Rattle.gf2.specs.Bit.{eqb-true, eqb-false}
 use Rattle.gf2.specs.Lists.{highest}
+use Rattle.gf2.specs.Span.{byBool}
 use Rattle.rule.specs.Buffers.{solved}
 use Rattle.table.specs.Checks.{check, offset, Checks}
 use Rattle.rule.specs.Rule.{Solved, inOneOnly, first, without, heaviest, peel, solvedOf, setAsideOf, PeelEvent, took, aside}
 use Rattle.gf2.specs.Places.{has}
 use Rattle.peel.specs.declared.Event.{Event}
 use Rattle.peel.specs.declared.Event.the-variants.{Took, Aside}
-use Rattle.peel.specs.Turn.{lives, less, In, Pick, Picked, Picked.by-place, Picked.by-weight, Ready, Removed, Peeled}
+use Rattle.peel.specs.Turn.{lives, less, In, Pick, Picked, Picked.by-place, Picked.by-weight, Ready, Removed, Low, Peeled}
 use Rattle.peel.proofs.Turns.{in-length, in-flag, highest-lt}
 
 pub record PlaceSays (g : ℕ → List ℕ) (JS : List ℕ) (n p j : ℕ) : Type 0 where
@@ -67,17 +69,41 @@ map-append g (x ∷ l) m = ap (λ r. g x ∷ r) (map-append g l m)
 aside-more : (g : ℕ → List ℕ) (a : List ℕ) (k j : ℕ) → k < length a → map g (take (k + 1) (set a k j)) ≡ map g (take k a) ++ (g j ∷ [])
 aside-more g a k j h = ap (map g) (ap (λ (i : ℕ). take i (set a k j)) (add-one k) ∙ take-suc-set a k j h) ∙ map-append g (take k a) (j ∷ [])
 
+-- ---- one number more
+bound-more : (l : List ℕ) (k v b : ℕ) → k < length l → v < b → ((i : ℕ) → i < k → getD l i 0 < b) → (i : ℕ) → i < k + 1 → getD (set l k v) i 0 < b
+bound-more l k v b h u r i z = byBool (eqb i k)
+    (λ e. let q : i ≡ k = eqb-true i k e in rw (q, getD-set-same l k v 0 h) u)
+    (λ e. let q = eqb-false i k e in rw (getD-set-other l k i v 0 q) (r i (omega arith)))
+
+low-none : (m n : ℕ) (order owns adj : List ℕ) → Low m n order owns adj 0 0
+low-none m n order owns adj = record { numbers = λ i z. absurd (omega arith); own = λ i z. absurd (omega arith); asides = λ i z. absurd (omega arith) }
+
+low-took : {m n : ℕ} {order owns adj : List ℕ} {kt ka : ℕ} (j p : ℕ) → Low m n order owns adj kt ka → j < m → p < n → kt < length order → kt < length owns
+    → Low m n (set order kt j) (set owns kt p) adj (kt + 1) ka
+low-took {m} {n} {order} {owns} {adj} {kt} j p l hj hp lo lw = record {
+  numbers = bound-more order kt j m lo hj (l .numbers);
+  own = bound-more owns kt p n lw hp (l .own);
+  asides = l .asides;
+}
+
+low-aside : {m n : ℕ} {order owns adj : List ℕ} {kt ka : ℕ} (j : ℕ) → Low m n order owns adj kt ka → j < m → ka < length adj → Low m n order owns (set adj ka j) kt (ka + 1)
+low-aside {m} {n} {order} {owns} {adj} {kt} {ka} j l hj la = record { numbers = l .numbers; own = l .own; asides = bound-more adj ka j m la hj (l .asides) }
+
+pub place-low : {g : ℕ → List ℕ} {JS : List ℕ} {n p j : ℕ} → PlaceSays g JS n p j → p < n
+place-low {g} {JS} {n} {p} y = highest-lt n (inOneOnly (map g JS)) p (y .top)
+
 pub record Going (t : List ℕ) (m n total : ℕ) (live₀ live count names order owns adj : List ℕ) (taken put left : ℕ) : Type 0 where
   pub ready : Ready t m n live count names
   pub size : left ≡ length (lives live 0 m)
   pub sum : taken + put + left ≡ total
   pub owned : solvedOf (peel total n (map (check t m) (lives live₀ 0 m))) ≡ solved (check t m) order owns taken ++ solvedOf (peel left n (map (check t m) (lives live 0 m)))
   pub by : setAsideOf (peel total n (map (check t m) (lives live₀ 0 m))) ≡ map (check t m) (take put adj) ++ setAsideOf (peel left n (map (check t m) (lives live 0 m)))
+  pub low : Low m n order owns adj taken put
 
 pub go-start : (t : List ℕ) (m n total : ℕ) (live count names order owns adj : List ℕ) → Ready t m n live count names → total ≡ length (lives live 0 m)
     → Going t m n total live live count names order owns adj 0 0 total
 unfolding solved
-go-start t m n total live count names order owns adj r e = record { ready = r; size = e; sum = omega arith; owned = refl; by = refl }
+go-start t m n total live count names order owns adj r e = record { ready = r; size = e; sum = omega arith; owned = refl; by = refl; low = low-none m n order owns adj }
 
 module _ {t : List ℕ} {m n total : ℕ} {live₀ live count names order owns adj live′ count′ names′ : List ℕ} {taken put left : ℕ}
     (s : Going t m n total live₀ live count names order owns adj taken put left) (more : 0 < left) where
@@ -103,6 +129,7 @@ module _ {t : List ℕ} {m n total : ℕ} {live₀ live count names order owns a
             ∙ sym (append-assoc (solved (check t m) order owns taken) (record { own = p; check = (check t m) j } ∷ []) (solvedOf (peel (left - 1) n (map (check t m) (lives live′ 0 m)))))
             ∙ ap (λ (l : List Solved). l ++ solvedOf (peel (left - 1) n (map (check t m) (lives live′ 0 m)))) (sym (solved-more (check t m) order owns taken j p lo lw));
         by = s .by ∙ ap (λ (es : List PeelEvent). map (check t m) (take put adj) ++ setAsideOf es) P;
+        low = low-took j p (s .low) (in-flag live m j (y .pick .member) .0) (place-low y) lo lw;
       }
 
   pub go-aside : (j : ℕ) → WeightSays (check t m) (lives live 0 m) n j → Removed t m (length count) j live live′ count′ names′ → put < length adj
@@ -121,14 +148,12 @@ module _ {t : List ℕ} {m n total : ℕ} {live₀ live count names order owns a
         by = s .by ∙ ap (λ (es : List PeelEvent). map (check t m) (take put adj) ++ setAsideOf es) P
             ∙ sym (append-assoc (map (check t m) (take put adj)) ((check t m) j ∷ []) (setAsideOf (peel (left - 1) n (map (check t m) (lives live′ 0 m)))))
             ∙ ap (λ (l : List (List ℕ)). l ++ setAsideOf (peel (left - 1) n (map (check t m) (lives live′ 0 m)))) (sym (aside-more (check t m) adj put j la));
+        low = low-aside j (s .low) (in-flag live m j (y .pick .member) .0) la;
       }
 
 pub go-stop : {t : List ℕ} {m n total : ℕ} {live₀ live count names order owns adj : List ℕ} {taken put : ℕ}
-    → Going t m n total live₀ live count names order owns adj taken put 0 → Peeled (check t m) n total (lives live₀ 0 m) order owns adj taken put
-go-stop s = record { took = s .owned ∙ append-nil _; set-aside = s .by ∙ append-nil _ }
+    → Going t m n total live₀ live count names order owns adj taken put 0 → Peeled (check t m) m n total (lives live₀ 0 m) order owns adj taken put
+go-stop s = let sm = s .sum in record { took = s .owned ∙ append-nil _; set-aside = s .by ∙ append-nil _; sum = omega arith; low = s .low }
 
 pub remove-ready : {t : List ℕ} {m n : ℕ} {live c x : List ℕ} → Checks t m n → Ready t m n live c x → Checks t m (length c) × Ready t m (length c) live c x
 remove-ready {t} {m} {n} {live} {c} {x} v r = (subst (λ (k : ℕ). Checks t m k) (r .counts) v, subst (λ (k : ℕ). Ready t m k live c x) (r .counts) r)
-
-pub place-low : {g : ℕ → List ℕ} {JS : List ℕ} {n p j : ℕ} → PlaceSays g JS n p j → p < n
-place-low {g} {JS} {n} {p} y = highest-lt n (inOneOnly (map g JS)) p (y .top)

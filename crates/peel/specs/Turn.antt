@@ -58,7 +58,15 @@ pub record Removed (t : List ℕ) (m n j : ℕ) (live₀ live count names : List
   pub ready : Ready t m n live count names
   pub list : lives live 0 m ≡ less j (lives live₀ 0 m)
 
--- order, owns and aside hold the events of the peeling of JS
-pub record Peeled (g : ℕ → List ℕ) (n left : ℕ) (JS order owns aside : List ℕ) (kt ka : ℕ) : Type 0 where
+-- the numbers written so far: kt checks and their own places, ka checks set aside
+pub record Low (m n : ℕ) (order owns aside : List ℕ) (kt ka : ℕ) : Type 0 where
+  pub numbers : (i : ℕ) → i < kt → getD order i 0 < m
+  pub own : (i : ℕ) → i < kt → getD owns i 0 < n
+  pub asides : (i : ℕ) → i < ka → getD aside i 0 < m
+
+-- order, owns and aside hold the events of the peeling of JS, which are numbers of the m checks g
+pub record Peeled (g : ℕ → List ℕ) (m n left : ℕ) (JS order owns aside : List ℕ) (kt ka : ℕ) : Type 0 where
   pub took : solvedOf (peel left n (map g JS)) ≡ solved g order owns kt
   pub set-aside : setAsideOf (peel left n (map g JS)) ≡ map g (take ka aside)
+  pub sum : kt + ka ≡ left
+  pub low : Low m n order owns aside kt ka

@@ -86,7 +86,7 @@ pub fn peel_checks(
     total: usize,
 ) -> Counts
     requires { ⌜ Checks (now t) m n × Ready (now t) m n (now live) (now count) (now names) × Starts (now t) m (now starts) × (total ≡ length (lives (now live) 0 m)) × (total ≤ m) × (m ≤ length (now order)) × (m ≤ length (now owns)) × (m ≤ length (now aside)) ⌝ }
-    ensures { λ r. ⌜ Peeled (check (now (t .entry)) m) n total (lives (now (live .entry)) 0 m) (now (order .exit)) (now (owns .exit)) (now (aside .exit)) (r .taken) (r .aside) ⌝ }
+    ensures { λ r. ⌜ Peeled (check (now (t .entry)) m) m n total (lives (now (live .entry)) 0 m) (now (order .exit)) (now (owns .exit)) (now (aside .exit)) (r .taken) (r .aside) ⌝ }
 {
     let mut taken = 0;
     let mut put = 0;

@@ -2,7 +2,7 @@
 ghost use mathlib.Core.Path.{_≡_};
 ghost use mathlib.Core.Bool.{true};
 ghost use Prim.Native.Nat.{ℕ, _+_, _*_, _≤_, _<_, _^_};
-ghost use lib.ListN.{length, getD, take, drop};
+ghost use lib.ListN.{length, getD, take, drop, replicate};
 ghost use lib.Bits.{bitXor};
 ghost use Rattle.gf2.specs.Bit.{bit};
 ghost use Rattle.table.specs.Checks.{check, offset, Valid};
@@ -145,5 +145,27 @@ pub fn keep(
         at += weight;
         i += 1;
     }
+    k
+}
+
+// every word becomes zero
+fn clear_work(work: &mut [u64])
+    ensures { λ _. ⌜ now (work .exit) ≡ replicate (length (now (work .entry))) 0 ⌝ }
+{
+    let mut i = 0;
+    while i < work.len() {
+        work[i] = 0;
+        i += 1;
+    }
+}
+
+// step 1: the numbers of the kept checks, and how many; the work is zero afterwards
+pub fn keep_checks(t: &[u16], m: usize, n: usize, work: &mut [u64], ids: &mut [u16]) -> usize
+    requires { ⌜ Valid (now t) m n × (m * 16 ≤ length (now work)) × (m ≤ length (now ids)) ⌝ }
+    ensures { λ r. ⌜ Kept (now (t .entry)) m (now (ids .entry)) (now (ids .exit)) r × (now (work .exit) ≡ replicate (length (now (work .entry))) 0) ⌝ }
+{
+    let mut cols = [0u16; 512];
+    let k = keep(t, m, n, work, &mut cols, ids);
+    clear_work(work);
     k
 }
