@@ -1,9 +1,11 @@
 // The table of checks and its packets.
 ghost use mathlib.Core.Path.{_≡_};
-ghost use Prim.Native.Nat.{_+_, _≤_};
+ghost use Prim.Native.Nat.{_+_, _*_, _≤_};
 ghost use lib.ListN.{length, take, drop};
 ghost use Rattle.gf2.specs.Lists.{allPass};
+ghost use Rattle.table.specs.Checks.{Starts};
 ghost use Rattle.table.specs.LookOver.{weighed};
+ghost use Rattle.table.specs.PacketCall.{packetRefusal, partAt, packetPart};
 ghost use Rattle.table.specs.Table.{number, weights, total, cutUp, rising, beyondLimits, badLengths, badPlaces, refusal};
 ghost use Rattle.table.specs.Table.{outside as isOutside};
 
@@ -157,6 +159,61 @@ pub fn look_over(t: &[u16]) -> u32
         return 4;
     }
     0
+}
+
+// where the places of each of the m checks start
+pub fn fill_starts(t: &[u16], m: usize, starts: &mut [u16])
+    requires { ⌜ (refusal (now t) ≡ 0) × (m ≡ number (now t)) × (m ≤ length (now starts)) ⌝ }
+    ensures { λ _. ⌜ Starts (now (t .entry)) m (now (starts .exit)) ⌝ }
+{
+    let mut at = 5 + m;
+    let mut j = 0;
+    while j < m {
+        starts[j] = at as u16;
+        at += wide(t[4 + j]);
+        j += 1;
+    }
+}
+
+// ---- the packet call
+
+// 2, 5 or 10: what refuses a packet call over a block of len bytes, 0 for nothing
+pub fn packet_refusal(n: usize, s: usize, place: usize, len: usize) -> u32
+    ensures { λ r. ⌜ r ≡ packetRefusal n s place len ⌝ }
+{
+    if outside(MOST_PLACES, n) {
+        return 2;
+    }
+    if outside(MOST_BYTES, s) {
+        return 2;
+    }
+    if len != n * s {
+        return 5;
+    }
+    if n <= place {
+        return 10;
+    }
+    0
+}
+
+// the packet at a place
+pub fn part(block: &[u8], place: usize, s: usize) -> &[u8]
+    requires { ⌜ place * s + s ≤ length (now block) ⌝ }
+    ensures { λ r. ⌜ now r ≡ partAt s place (now (block .entry)) ⌝ }
+{
+    let start = place * s;
+    let end = start + s;
+    &block[start..end]
+}
+
+// the packet at a place, or the empty part
+pub fn packet(n: usize, s: usize, place: usize, block: &[u8]) -> &[u8]
+    ensures { λ r. ⌜ now r ≡ packetPart n s place (now (block .entry)) ⌝ }
+{
+    if packet_refusal(n, s, place, block.len()) == 0 {
+        return part(block, place, s);
+    }
+    &block[..0]
 }
 
 // ---- packets
