@@ -4,7 +4,10 @@ ghost use mathlib.Core.Path.{_≡_};
 ghost use Prim.Native.Nat.{ℕ, _+_, _*_, _≤_, _<_};
 ghost use lib.ListN.{length, getD, take, drop};
 ghost use Rattle.table.specs.Checks.{check, offset, Checks, Starts};
-ghost use Rattle.peel.specs.Turn.{lives, less, heaviestFrom, weight, In, Ready, Picked, Removed, Peeled};
+ghost use mathlib.Core.List.{map};
+ghost use Rattle.table.specs.Table.{total};
+ghost use Rattle.rows.specs.Row.{keptOf};
+ghost use Rattle.peel.specs.Turn.{lives, less, heaviestFrom, weight, In, Ready, Picked, Removed, Peeled, Numbers, Zeros, Entered, First};
 
 pub enum Event {
     Took(usize, usize),
@@ -112,4 +115,58 @@ pub fn peel_checks(
         taken: taken,
         aside: put,
     }
+}
+
+// check j becomes live
+fn enter(
+    live: &mut [u8],
+    count: &mut [u16],
+    names: &mut [u16],
+    t: &[u16],
+    m: usize,
+    starts: &[u16],
+    j: usize,
+)
+    requires { ⌜ Checks (now t) m (length (now count)) × Starts (now t) m (now starts) × (j < m) × (m ≤ length (now live)) × (length (now count) ≤ length (now names)) × ((p : ℕ) → getD (now count) p 0 ≤ m) ⌝ }
+    ensures { λ _. ⌜ Entered (now (t .entry)) m j (now (live .entry)) (now (count .entry)) (now (names .entry)) (now (live .exit)) (now (count .exit)) (now (names .exit)) ⌝ }
+{
+    live[j] = 1;
+    live::note(count, names, t, wide(starts[j]), wide(t[4 + j]), j as u16);
+}
+
+// the kept checks become live
+fn first_tally(
+    live: &mut [u8],
+    count: &mut [u16],
+    names: &mut [u16],
+    t: &[u16],
+    m: usize,
+    starts: &[u16],
+    ids: &[u16],
+    k: usize,
+)
+    requires { ⌜ Checks (now t) m (length (now count)) × Starts (now t) m (now starts) × Numbers (now t) m (now ids) k × (m ≤ length (now live)) × (length (now count) ≤ length (now names)) × Zeros (now live) × Zeros (now count) × Zeros (now names) ⌝ }
+    ensures { λ _. ⌜ First (now (t .entry)) m (length (now (count .entry))) (now (live .exit)) (now (count .exit)) (now (names .exit)) ⌝ }
+{
+    let mut i = k;
+    while 0 < i {
+        i -= 1;
+        let j = wide(ids[i]);
+        enter(live, count, names, t, m, starts, j);
+    }
+}
+
+// the ones of the kept checks
+fn ones_of(t: &[u16], m: usize, ids: &[u16], k: usize) -> usize
+    requires { ⌜ (m ≤ 512) × (5 + m ≤ length (now t)) × Numbers (now t) m (now ids) k ⌝ }
+    ensures { λ r. ⌜ r ≡ total (map (weight (now (t .entry))) (keptOf (now (t .entry)) m)) ⌝ }
+{
+    let mut sum = 0;
+    let mut i = k;
+    while 0 < i {
+        i -= 1;
+        let j = wide(ids[i]);
+        sum += wide(t[4 + j]);
+    }
+    sum
 }
