@@ -4,14 +4,15 @@ use mathlib.Core.Bool.{Bool, true, false, cond}
 use mathlib.Core.List.{List, [], _∷_, _++_, map}
 use Prim.Native.Nat.{ℕ, zero, suc, _+_, _-_, _<_, _≤_}
 use native.Mathlib.Omega.{arith}
-use lib.ListN.{length, getD, set, take, drop, length-set, length-take, length-drop, length-map}
-use lib.Seq.{getD-set-same, getD-set-other, getD-take, getD-drop, drop-cons, drop-length}
+use lib.ListN.{length, getD, set, take, drop, length-set, length-take, length-drop, length-map, replicate, length-replicate}
+use lib.Seq.{getD-set-same, getD-set-other, getD-take, getD-drop, drop-cons, drop-length, length-take-le}
 use lib.Dec.{eqb}
 use borrow.Author.Tests.{eq-eqb, ne-eqb}
 use Rattle.gf2.specs.Bit.{eqb-true, eqb-false, eqb-self}
 use Rattle.gf2.specs.Fit.{isZero}
 use Rattle.gf2.specs.Greedy.{choose}
 use Rattle.gf2.specs.Group.{XorGroup}
+use Rattle.gf2.specs.Lists.{getD-zeros}
 use Rattle.gf2.specs.Places.{has, rowOf}
 use Rattle.gf2.specs.Span.{byBool, isSum}
 use Rattle.gf2.specs.Width.{All, All.nil, All.cons, all-map}
@@ -21,7 +22,7 @@ use Rattle.rule.specs.Rule.{count}
 use Rattle.rows.specs.Row.{keptOf}
 use Rattle.live.specs.Live.{Tally, Noted}
 use Rattle.live.proofs.Laws.{tally-more}
-use Rattle.peel.specs.Turn.{lives, weight, Ready, Numbers, Zeros, Entered, First}
+use Rattle.peel.specs.Turn.{lives, weight, Ready, Numbers, Zeros, Entered, First, Peeled}
 
 -- ---- the kept numbers rise
 from-all : (i c : ℕ) → All (λ j. (i ≤ j) × (j < i + c)) (from i c)
@@ -55,11 +56,14 @@ pub kept-few : (t : List ℕ) (m : ℕ) → length (keptOf t m) ≤ m
 unfolding keptOf
 kept-few t m = chosen-length (λ j. rowOf (check t m j)) [] 0 m
 
-pub kept-low : (t : List ℕ) (m i : ℕ) → i < length (keptOf t m) → getD (keptOf t m) i 0 < m
+pub kept-all : (t : List ℕ) (m : ℕ) → All (λ j. j < m) (keptOf t m)
 unfolding keptOf
-kept-low t m i h = all-at (chosen-all (λ j. rowOf (check t m j)) [] (all-map (λ j r. let b = r .1 in lt j b) (from-all 0 m))) i h where
+kept-all t m = chosen-all (λ j. rowOf (check t m j)) [] (all-map (λ j r. let b = r .1 in lt j b) (from-all 0 m)) where
   lt : (j : ℕ) → j < 0 + m → j < m
   lt j b = omega arith
+
+pub kept-low : (t : List ℕ) (m i : ℕ) → i < length (keptOf t m) → getD (keptOf t m) i 0 < m
+kept-low t m i h = all-at (kept-all t m) i h
 
 -- ---- flags at just these numbers
 lives-chosen : (f : ℕ → ℕ) (live L : List ℕ) (i c : ℕ) → ((j : ℕ) → i ≤ j → getD live j 0 ≡ cond (has j (choose XorGroup isZero f L (from i c))) 1 0)
@@ -153,3 +157,27 @@ ones-turn t m i j sum w h l e g s =
     let q : suc (i - 1) ≡ i = omega arith in
     let d : drop (i - 1) K ≡ j ∷ drop i K = drop-cons K (i - 1) 0 (omega arith) ∙ ap₂ (λ (a b : ℕ). a ∷ drop b K) (sym e) q in
     rw d (omega arith)
+
+-- ---- the whole
+pub first-ready : {t : List ℕ} {m n k : ℕ} {live c x : List ℕ} → First t m k live c x → n ≡ k → Ready t m n live c x
+first-ready {t} {m} {n} {k} {live} {c} {x} f e = subst (λ (j : ℕ). Ready t m j live c x) (sym e) (f .ready)
+
+pub first-peeled : {g : ℕ → List ℕ} {t : List ℕ} {m n k l : ℕ} {live c x order owns adj : List ℕ} {kt ka : ℕ} → First t m l live c x
+    → Peeled g m n k (lives live 0 m) order owns adj kt ka → Peeled g m n k (keptOf t m) order owns adj kt ka
+first-peeled {g} {t} {m} {n} {k} {l} {live} {c} {x} {order} {owns} {adj} {kt} {ka} f p = subst (λ (JS : List ℕ). Peeled g m n k JS order owns adj kt ka) (f .list) p
+
+-- ---- fresh buffers
+zero-take : (n : ℕ) (l : List ℕ) (i : ℕ) → ((j : ℕ) → getD l j 0 ≡ 0) → getD (take n l) i 0 ≡ 0
+zero-take zero l i h = refl
+zero-take (suc n) [] i h = refl
+zero-take (suc n) (x ∷ l) zero h = h 0
+zero-take (suc n) (x ∷ l) (suc i) h = zero-take n l i (λ j. h (suc j))
+
+pub zeros-all : (k : ℕ) → Zeros (replicate k 0)
+zeros-all k = record { each = getD-zeros k }
+
+pub zeros-part : (k n : ℕ) → Zeros (take n (replicate k 0))
+zeros-part k n = record { each = λ i. zero-take n (replicate k 0) i (getD-zeros k) }
+
+pub part-long : (k n : ℕ) → n ≤ k → n ≡ length {A = ℕ} (take n (replicate k 0))
+part-long k n h = sym (length-take-le n (replicate k 0) (let e : length {A = ℕ} (replicate k 0) ≡ k = length-replicate k 0 in omega arith))

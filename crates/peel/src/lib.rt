@@ -2,11 +2,12 @@
 use live::Found;
 ghost use mathlib.Core.Path.{_≡_};
 ghost use Prim.Native.Nat.{ℕ, _+_, _*_, _≤_, _<_};
-ghost use lib.ListN.{length, getD, take, drop};
+ghost use lib.ListN.{length, getD, take, drop, replicate};
 ghost use Rattle.table.specs.Checks.{check, offset, Checks, Starts};
 ghost use mathlib.Core.List.{map};
-ghost use Rattle.table.specs.Table.{total};
+ghost use Rattle.table.specs.Table.{total, number, places, refusal};
 ghost use Rattle.rows.specs.Row.{keptOf};
+ghost use Rattle.peel.specs.Choice.{ChoiceOf};
 ghost use Rattle.peel.specs.Turn.{lives, less, heaviestFrom, weight, In, Ready, Picked, Removed, Peeled, Numbers, Zeros, Entered, First};
 
 pub enum Event {
@@ -169,4 +170,93 @@ fn ones_of(t: &[u16], m: usize, ids: &[u16], k: usize) -> usize
         sum += wide(t[4 + j]);
     }
     sum
+}
+
+// steps 2 and 3 for the kept checks, with room for flags, counts and names
+fn peel_live(
+    t: &[u16],
+    m: usize,
+    n: usize,
+    starts: &[u16],
+    ids: &[u16],
+    k: usize,
+    live: &mut [u8],
+    count: &mut [u16],
+    names: &mut [u16],
+    order: &mut [u16],
+    owns: &mut [u16],
+    aside: &mut [u16],
+) -> Counts
+    requires { ⌜ Checks (now t) m n × Starts (now t) m (now starts) × Numbers (now t) m (now ids) k × (n ≡ length (now count)) × (n ≤ length (now names)) × (m ≤ length (now live)) × Zeros (now live) × Zeros (now count) × Zeros (now names) × (m ≤ length (now order)) × (m ≤ length (now owns)) × (m ≤ length (now aside)) ⌝ }
+    ensures { λ r. ⌜ Peeled (check (now (t .entry)) m) m n k (keptOf (now (t .entry)) m) (now (order .exit)) (now (owns .exit)) (now (aside .exit)) (r .taken) (r .aside) ⌝ }
+{
+    first_tally(live, count, names, t, m, starts, ids, k);
+    peel_checks(t, m, n, starts, live, count, names, order, owns, aside, k)
+}
+
+// steps 2 and 3 for the kept checks
+fn peel_kept(
+    t: &[u16],
+    m: usize,
+    n: usize,
+    starts: &[u16],
+    ids: &[u16],
+    k: usize,
+    order: &mut [u16],
+    owns: &mut [u16],
+    aside: &mut [u16],
+) -> Counts
+    requires { ⌜ Checks (now t) m n × Starts (now t) m (now starts) × Numbers (now t) m (now ids) k × (m ≤ length (now order)) × (m ≤ length (now owns)) × (m ≤ length (now aside)) ⌝ }
+    ensures { λ r. ⌜ Peeled (check (now (t .entry)) m) m n k (keptOf (now (t .entry)) m) (now (order .exit)) (now (owns .exit)) (now (aside .exit)) (r .taken) (r .aside) ⌝ }
+{
+    let mut live = [0u8; 512];
+    let mut count = [0u16; 1024];
+    let mut names = [0u16; 1024];
+    peel_live(
+        t,
+        m,
+        n,
+        starts,
+        ids,
+        k,
+        &mut live,
+        &mut count[..n],
+        &mut names,
+        order,
+        owns,
+        aside,
+    )
+}
+
+pub struct Choice {
+    pub kept: usize,
+    pub ones: usize,
+    pub taken: usize,
+    pub aside: usize,
+}
+
+// steps 1 to 3; the work is zero afterwards
+pub fn choose_checks(
+    t: &[u16],
+    m: usize,
+    n: usize,
+    starts: &[u16],
+    work: &mut [u64],
+    order: &mut [u16],
+    owns: &mut [u16],
+    aside: &mut [u16],
+) -> Choice
+    requires { ⌜ (refusal (now t) ≡ 0) × (m ≡ number (now t)) × (n ≡ places (now t)) × Starts (now t) m (now starts) × (length (now work) ≡ 8192) × (512 ≤ length (now order)) × (512 ≤ length (now owns)) × (512 ≤ length (now aside)) ⌝ }
+    ensures { λ r. ⌜ ChoiceOf (now (t .entry)) (now (order .exit)) (now (owns .exit)) (now (aside .exit)) (r .kept) (r .ones) (r .taken) (r .aside) × (now (work .exit) ≡ replicate 8192 0) ⌝ }
+{
+    let mut ids = [0u16; 512];
+    let k = rows::keep_checks(t, m, n, work, &mut ids);
+    let ones = ones_of(t, m, &ids, k);
+    let c = peel_kept(t, m, n, starts, &ids, k, order, owns, aside);
+    Choice {
+        kept: k,
+        ones: ones,
+        taken: c.taken,
+        aside: c.aside,
+    }
 }
