@@ -1,5 +1,6 @@
 pub mod Checks
 pub mod ChecksLaws
+pub mod LookOver
 pub mod PacketCall
 pub mod PacketLaws
 pub mod Packets
