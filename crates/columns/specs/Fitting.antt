@@ -22,6 +22,10 @@ pub record Aside (t : List ℕ) (m n : ℕ) (starts aside : List ℕ) (g : ℕ) 
   pub room : g ≤ length aside
   pub numbers : (i : ℕ) → i < g → getD aside i 0 < m
 
+-- mask i sees the i-th set-aside check alone
+pub record Units (g : ℕ) (M : List ℕ) : Type 0 where
+  pub each : (i : ℕ) → i < g → getD M i 0 ≡ 2 ^ i
+
 -- the lowest of the first `free` masks that sees the column c; `free` if none does
 pub record Lowest (M : List ℕ) (free c r : ℕ) : Type 0 where
   pub most : r ≤ free

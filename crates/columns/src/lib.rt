@@ -1,7 +1,7 @@
 // Columns of the set-aside checks.
 ghost use mathlib.Core.Path.{_≡_};
 ghost use mathlib.Core.List.{List, [], map};
-ghost use Prim.Native.Nat.{ℕ, _+_, _*_, _≤_, _<_};
+ghost use Prim.Native.Nat.{ℕ, _+_, _*_, _^_, _≤_, _<_};
 ghost use lib.ListN.{length, getD, take, drop};
 ghost use lib.Bits.{bitXor};
 ghost use Rattle.rule.specs.Rule.{reduce};
@@ -10,7 +10,7 @@ ghost use Rattle.table.specs.Checks.{check, Places};
 ghost use Rattle.live.specs.Live.{Upd};
 ghost use Rattle.columns.specs.Dot.{dot};
 ghost use Rattle.columns.specs.Cols.{Columns, Taken};
-ghost use Rattle.columns.specs.Fitting.{Aside};
+ghost use Rattle.columns.specs.Fitting.{Aside, Units, Lowest, mended, Mended, Tied, Scan};
 ghost use Rattle.gf2.specs.Places.{rowOf};
 
 fn wide(x: u16) -> usize
@@ -80,4 +80,61 @@ pub fn sees(mask: u32, col: u32) -> bool
     ensures { λ r. ⌜ r ≡ dot mask col ⌝ }
 {
     u32::count_ones(mask & col) & 1 == 1
+}
+
+// the unit masks
+pub fn units(masks: &mut [u32], g: usize)
+    requires { ⌜ (g ≤ length (now masks)) × (g ≤ 32) ⌝ }
+    ensures { λ _. ⌜ Units g (now (masks .exit)) ⌝ }
+{
+    let mut i = 0;
+    while i < g {
+        masks[i] = 1 << i;
+        i += 1;
+    }
+}
+
+// the lowest free mask that sees the column, or the number of free masks
+pub fn find(masks: &[u32], free: usize, c: u32) -> usize
+    requires { ⌜ free ≤ length (now masks) ⌝ }
+    ensures { λ r. ⌜ Lowest (now (masks .entry)) free c r ⌝ }
+{
+    let mut i = 0;
+    while i < free {
+        if sees(masks[i], c) {
+            break;
+        }
+        i += 1;
+    }
+    i
+}
+
+// v added into a mask that sees the column
+fn mend_one(mask: u32, v: u32, c: u32) -> u32
+    ensures { λ r. ⌜ r ≡ mended v c mask ⌝ }
+{
+    if sees(mask, c) { mask ^ v } else { mask }
+}
+
+// .. into each of g masks
+pub fn mend(masks: &mut [u32], g: usize, v: u32, c: u32)
+    requires { ⌜ g ≤ length (now masks) ⌝ }
+    ensures { λ _. ⌜ Mended g v c (now (masks .entry)) (now (masks .exit)) ⌝ }
+{
+    let mut i = 0;
+    while i < g {
+        masks[i] = mend_one(masks[i], v, c);
+        i += 1;
+    }
+}
+
+// mask i, which sees the column, becomes the last free one, k, and is added into every other that sees it
+pub fn tie(masks: &mut [u32], g: usize, i: usize, k: usize, c: u32)
+    requires { ⌜ (g ≤ length (now masks)) × (i ≤ k) × (k < g) ⌝ }
+    ensures { λ _. ⌜ Tied g i k c (now (masks .entry)) (now (masks .exit)) ⌝ }
+{
+    let v = masks[i];
+    masks[i] = masks[k];
+    mend(masks, g, v, c);
+    masks[k] = v;
 }
