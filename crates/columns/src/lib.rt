@@ -138,3 +138,39 @@ pub fn tie(masks: &mut [u32], g: usize, i: usize, k: usize, c: u32)
     mend(masks, g, v, c);
     masks[k] = v;
 }
+
+// one column: a free mask that sees it is tied to its place, if there is one; how many masks are then free
+pub fn fit_one(
+    masks: &mut [u32],
+    fitted: &mut [u16],
+    g: usize,
+    free: usize,
+    p: usize,
+    c: u32,
+) -> usize
+    requires { ⌜ (g ≤ length (now masks)) × (g ≤ length (now fitted)) × (free ≤ g) × (p < 1024) ⌝ }
+    ensures { λ r. ⌜ (r ≤ free) × ((f : ℕ → ℕ) → (W : List ℕ) → f p ≡ c → Scan f W g (p + 1) free (now (masks .entry)) (now (fitted .entry)) → Scan f W g p r (now (masks .exit)) (now (fitted .exit))) ⌝ }
+{
+    let i = find(masks, free, c);
+    if i < free {
+        tie(masks, g, i, free - 1, c);
+        fitted[free - 1] = p as u16;
+        free - 1
+    } else {
+        free
+    }
+}
+
+// every column, from the highest place down; each mask is then its place's row of the inverse, places ascending
+pub fn fit(col: &[u32], n: usize, g: usize, masks: &mut [u32], fitted: &mut [u16]) -> usize
+    requires { ⌜ (n ≤ length (now col)) × (n ≤ 1024) × (g ≤ length (now masks)) × (g ≤ length (now fitted)) ⌝ }
+    ensures { λ r. ⌜ ((f : ℕ → ℕ) → (W : List ℕ) → ((p : ℕ) → p < n → f p ≡ getD (now (col .entry)) p 0) → Scan f W g n g (now (masks .entry)) (now (fitted .entry)) → Scan f W g 0 r (now (masks .exit)) (now (fitted .exit))) ⌝ }
+{
+    let mut free = g;
+    let mut p = n;
+    while p > 0 {
+        p -= 1;
+        free = fit_one(masks, fitted, g, free, p, col[p]);
+    }
+    free
+}
