@@ -12,6 +12,8 @@ use Rattle.gf2.specs.Fit.{isZero, below}
 use Rattle.gf2.specs.Greedy.{choose}
 use Rattle.gf2.specs.Lists.{rev}
 use Rattle.table.specs.Checks.{Checks, Starts}
+use Rattle.table.specs.Table.{number, places, refusal}
+use Rattle.rule.specs.Buffers.{Chosen}
 use Rattle.columns.specs.Dot.{dot}
 
 -- g checks set aside, by number
@@ -58,3 +60,13 @@ pub record Scan (f : ℕ → ℕ) (W : List ℕ) (g p free : ℕ) (M F : List �
   pub other : (i j : ℕ) → i < g → free ≤ j → j < g → eqb i j ≡ false → dot (getD M i 0) (f (getD F j 0)) ≡ false
   pub tell : (x : ℕ) → x < 2 ^ g → ((i : ℕ) → i < g → dot (getD M i 0) x ≡ false) → x ≡ 0
   pub rest : W ≡ rev (slice free g F) ++ choose XorGroup isZero f (map f (slice free g F)) (below p)
+
+-- what the phases before leave of an accepted table: m checks, n places, g of the kept checks set aside
+pub record Ready (t : List ℕ) (m n : ℕ) (starts order owns : List ℕ) (taken : ℕ) (aside : List ℕ) (g : ℕ) : Type 0 where
+  pub accepted : refusal t ≡ 0
+  pub count : m ≡ number t
+  pub size : n ≡ places t
+  pub checks : Checks t m n
+  pub starts-at : Starts t m starts
+  pub chosen : Chosen t order owns aside taken g
+  pub few : g ≤ 32

@@ -5,12 +5,12 @@ ghost use Prim.Native.Nat.{ℕ, _+_, _*_, _^_, _≤_, _<_};
 ghost use lib.ListN.{length, getD, take, drop};
 ghost use lib.Bits.{bitXor};
 ghost use Rattle.rule.specs.Rule.{reduce};
-ghost use Rattle.rule.specs.Buffers.{solved};
+ghost use Rattle.rule.specs.Buffers.{solved, Fitted};
 ghost use Rattle.table.specs.Checks.{check, Places};
 ghost use Rattle.live.specs.Live.{Upd};
 ghost use Rattle.columns.specs.Dot.{dot};
 ghost use Rattle.columns.specs.Cols.{Columns, Taken};
-ghost use Rattle.columns.specs.Fitting.{Aside, Units, Lowest, mended, Mended, Tied, Scan};
+ghost use Rattle.columns.specs.Fitting.{Aside, Units, Lowest, mended, Mended, Tied, Scan, Ready};
 ghost use Rattle.gf2.specs.Places.{rowOf};
 
 fn wide(x: u16) -> usize
@@ -173,4 +173,28 @@ pub fn fit(col: &[u32], n: usize, g: usize, masks: &mut [u32], fitted: &mut [u16
         free = fit_one(masks, fitted, g, free, p, col[p]);
     }
     free
+}
+
+// the fitted places ascending, and with each its row of the inverse
+pub fn fit_places(
+    t: &[u16],
+    m: usize,
+    n: usize,
+    starts: &[u16],
+    order: &[u16],
+    owns: &[u16],
+    taken: usize,
+    aside: &[u16],
+    g: usize,
+    fitted: &mut [u16],
+    rows: &mut [u32],
+)
+    requires { ⌜ Ready (now t) m n (now starts) (now order) (now owns) taken (now aside) g × (g ≤ length (now fitted)) × (g ≤ length (now rows)) ⌝ }
+    ensures { λ _. ⌜ Fitted n (solved (check (now (t .entry)) m) (now (order .entry)) (now (owns .entry)) taken) (map (check (now (t .entry)) m) (take g (now (aside .entry)))) g (now (fitted .exit)) (now (rows .exit)) ⌝ }
+{
+    let mut col = [0u32; 1024];
+    fill_columns(&mut col, t, m, starts, aside, g);
+    push_all(&mut col, t, m, starts, order, owns, taken);
+    units(rows, g);
+    fit(&col, n, g, rows, fitted);
 }
