@@ -1,10 +1,14 @@
 // Steps into the plan.
 ghost use mathlib.Core.Path.{_≡_};
-ghost use mathlib.Core.List.{map};
+ghost use mathlib.Core.List.{_∷_, map};
 ghost use Prim.Native.Nat.{ℕ, _+_, _*_, _≤_, _<_};
 ghost use lib.ListN.{length, getD, take, drop};
+ghost use Rattle.gf2.specs.Places.{minus};
+ghost use Rattle.table.specs.Checks.{Places};
 ghost use Rattle.plan.specs.declared.Step.the-variants.{Clear, Add};
-ghost use Rattle.emit.specs.Emit.{word, Wrote, line};
+ghost use Rattle.plan.specs.Step.{pack};
+ghost use Rattle.rule.specs.Rule.{clearAndAdd};
+ghost use Rattle.emit.specs.Emit.{Wrote, marked};
 
 fn wide(x: u16) -> usize
     ensures { λ r. ⌜ r ≡ x ⌝ }
@@ -12,54 +16,41 @@ fn wide(x: u16) -> usize
     x as usize
 }
 
-pub enum Step {
-    Clear(u32),
-    Add(u32, u32),
-}
-
-impl Step {
-    pub const ADD: u32 = 1;
-
-    pub const KIND: u32 = 16777216;
-
-    pub const SLOT: u32 = 4096;
-}
-
-fn clear_word(to: u32) -> u32
+fn clear_word(to: usize) -> u32
     requires { ⌜ to < 4096 ⌝ }
-    ensures { λ r. ⌜ r ≡ word (Clear to) ⌝ }
+    ensures { λ r. ⌜ r ≡ pack (Clear to) ⌝ }
 {
-    to * Step::SLOT
+    (to as u32) * 4096
 }
 
-fn add_word(to: u32, from: u32) -> u32
+fn add_word(to: usize, from: usize) -> u32
     requires { ⌜ (to < 4096) × (from < 4096) ⌝ }
-    ensures { λ r. ⌜ r ≡ word (Add to from) ⌝ }
+    ensures { λ r. ⌜ r ≡ pack (Add to from) ⌝ }
 {
-    Step::ADD * Step::KIND + to * Step::SLOT + from
+    16777216 + (to as u32) * 4096 + (from as u32)
 }
 
-// a solved check: clear its own place, add the others, without those that skip names
-pub fn solve(
+// slot to is cleared, and given a check's places, without itself and without the marked ones
+fn sum_check(
     plan: &mut [u32],
     at: usize,
     t: &[u16],
     start: usize,
     weight: usize,
-    own: u16,
+    to: usize,
     skip: &[u8],
 ) -> usize
-    requires { ⌜ (at + 1 + weight ≤ length (now plan)) × (start + weight ≤ length (now t)) × (own < 4096) × ((i : ℕ) → i < weight → (getD (now t) (start + i) 0 < 4096) × (getD (now t) (start + i) 0 < length (now skip))) ⌝ }
-    ensures { λ r. ⌜ Wrote (now (plan .entry)) at (map word (line own (now (skip .entry)) (take weight (drop start (now (t .entry)))))) (now (plan .exit)) r ⌝ }
+    requires { ⌜ (at + length (clearAndAdd to (minus (take weight (drop start (now t))) (to ∷ marked (now skip)))) ≤ length (now plan)) × Places (now t) start weight (length (now skip)) × (length (now skip) ≤ 4096) × (to < 4096) ⌝ }
+    ensures { λ r. ⌜ Wrote (now (plan .entry)) at (map pack (clearAndAdd to (minus (take weight (drop start (now (t .entry)))) (to ∷ marked (now (skip .entry)))))) (now (plan .exit)) r ⌝ }
 {
-    plan[at] = clear_word(own as u32);
+    plan[at] = clear_word(to);
     let mut k = at + 1;
     let mut i = 0;
     while i < weight {
-        let p = t[start + i];
-        if p != own {
-            if skip[wide(p)] != 1 {
-                plan[k] = add_word(own as u32, p as u32);
+        let p = wide(t[start + i]);
+        if p != to {
+            if skip[p] != 1 {
+                plan[k] = add_word(to, p);
                 k += 1;
             }
         }
