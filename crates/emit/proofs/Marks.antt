@@ -5,7 +5,9 @@ use mathlib.Core.List.{List, [], _∷_, _++_, map}
 use Prim.Native.Nat.{ℕ, zero, suc, _+_, _-_, _<_, _≤_}
 use native.Mathlib.Omega.{arith}
 use lib.Dec.{eqb, ltb}
-use lib.ListN.{length, getD, set, List·getD-eq-default}
+use native.Mathlib.Numerals.{add-one}
+use lib.ListN.{length, getD, set, drop, List·getD-eq-default, drop-of-length-le}
+use lib.Seq.{drop-cons}
 use borrow.Author.Tests.{eq-eqb, ne-eqb, ltb-true, ltb-false}
 use Rattle.gf2.specs.Bit.{eqb-true, eqb-false, eqb-self}
 use Rattle.gf2.specs.Lists.{eqb-lt}
@@ -37,3 +39,12 @@ minus-out p c X h = rw h
 
 pub minus-in : (p : ℕ) (c X : List ℕ) → has p X ≡ false → minus (p ∷ c) X ≡ p ∷ minus c X
 minus-in p c X h = rw h
+
+-- ---- marking one place after the other
+pub marking-next : (m l : List ℕ) (i p : ℕ) → i < length l → p ≡ getD l i 0 → marking m (drop i l) ≡ marking (set m p 1) (drop (i + 1) l)
+unfolding marking
+marking-next m l i p h q = ap (marking m) (drop-cons l i 0 h ∙ ap₂ (λ x k. x ∷ drop k l) (sym q) (sym (add-one i)))
+
+pub marking-done : (m l : List ℕ) (i : ℕ) → length l ≤ i → marking m (drop i l) ≡ m
+unfolding marking
+marking-done m l i h = ap (marking m) (drop-of-length-le l h)

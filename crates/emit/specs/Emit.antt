@@ -51,7 +51,7 @@ fittingRows n g fitted rows j (suc c) =
 pub record Readable (t starts marks : List ℕ) : Type 0 where
   pub each : Checks t (number t) (places t)
   pub first : Starts t (number t) starts
-  pub all : places t ≤ length marks
+  pub all : 1024 ≤ length marks
 
 -- the numbers of some checks
 pub record Numbers (t order : List ℕ) (k : ℕ) : Type 0 where
