@@ -1,5 +1,8 @@
 pub mod Largest
 pub mod Repair
+pub mod RepairLaws
+pub mod RepairTheorems
+pub mod RestoringLaws
 pub mod Stopping
 pub mod Tally
 pub mod Values
