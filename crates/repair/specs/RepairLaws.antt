@@ -82,26 +82,30 @@ fitting-refusal t b map f =
 pub accepted-fits : (t b map : List ℕ) → repairRefusal t b map ≡ 0 → Fitting t b map × (consistent (size t) (checks t) (outcome t b map) ≡ true)
 accepted-fits t b map h =
     let r = none-of (refusal t) (eqb (refusal t) 0) (eqb (length b) (places t * size t)) (eqb (length map) (places t)) (anyOf (ltb 1) map)
-    (consistent (size t) (checks t) (outcome t b map)) (eqb-false (refusal t) 0) (sym (by-causes t b map) ∙ h) in
-    (record {
-      table = eqb-true (refusal t) 0 (r .0);
-      block = eqb-true (length b) (places t * size t) (r .1 .0);
-      map-length = eqb-true (length map) (places t) (r .1 .1 .0);
-      map-bytes = r .1 .1 .1 .0;
-    }, r .1 .1 .1 .1)
+    (consistent (size t) (checks t) (outcome t b map)) (eqb-false (refusal t) 0) (sym (by-causes t b map) ∙ h) in (
+      record {
+        table = eqb-true (refusal t) 0 (r .0);
+        block = eqb-true (length b) (places t * size t) (r .1 .0);
+        map-length = eqb-true (length map) (places t) (r .1 .1 .0);
+        map-bytes = r .1 .1 .1 .0;
+      },
+      r .1 .1 .1 .1,
+    )
 
 -- a contradicted one
 pub contradicted-fits : (t b map : List ℕ) → repairRefusal t b map ≡ 8 → Fitting t b map × (consistent (size t) (checks t) (outcome t b map) ≡ false)
 contradicted-fits t b map h =
     let z = refusal-small t in
     let r = last-of (refusal t) (eqb (refusal t) 0) (eqb (length b) (places t * size t)) (eqb (length map) (places t)) (anyOf (ltb 1) map)
-    (consistent (size t) (checks t) (outcome t b map)) (omega arith) (sym (by-causes t b map) ∙ h) in
-    (record {
-      table = eqb-true (refusal t) 0 (r .0);
-      block = eqb-true (length b) (places t * size t) (r .1 .0);
-      map-length = eqb-true (length map) (places t) (r .1 .1 .0);
-      map-bytes = r .1 .1 .1 .0;
-    }, r .1 .1 .1 .1)
+    (consistent (size t) (checks t) (outcome t b map)) (omega arith) (sym (by-causes t b map) ∙ h) in (
+      record {
+        table = eqb-true (refusal t) 0 (r .0);
+        block = eqb-true (length b) (places t * size t) (r .1 .0);
+        map-length = eqb-true (length map) (places t) (r .1 .1 .0);
+        map-bytes = r .1 .1 .1 .0;
+      },
+      r .1 .1 .1 .1,
+    )
 
 -- ---- the map's bytes
 pub bytes-all : (map : List ℕ) → anyOf (ltb 1) map ≡ false → All (λ x. x ≤ 1) map

@@ -143,8 +143,8 @@ module _ (t b map : List ℕ) (ok : repairRefusal t b map ≡ 0) where
     sums = rw (map-is, packets-are) sums-checked;
     counts = rw ok (rw (tally-restored (outcome t b map .lost), tally-lost (outcome t b map .lost), tally-lost map) counts-add);
     whole = λ h. let z : lostIn (outcome t b map .lost) ≡ 0 = sym (tally-lost (outcome t b map .lost)) ∙ (rw ok at h) in record {
-        size-fits = ap length (block-accepted t b map ok) ∙ joined-length (size t) (outcome-sized t b map fits) ∙ ap (λ k. k * size t) (outcome-length t b map fits);
-        sums = rw packets-are (all-map (λ c k. k (none-lost (outcome t b map .lost) c z)) sums-checked);
+      size-fits = ap length (block-accepted t b map ok) ∙ joined-length (size t) (outcome-sized t b map fits) ∙ ap (λ k. k * size t) (outcome-length t b map fits);
+      sums = rw packets-are (all-map (λ c k. k (none-lost (outcome t b map .lost) c z)) sums-checked);
     };
   }
 
@@ -172,11 +172,11 @@ module _ (t b map w : List ℕ) (f : Fitting t b map) (word : IsCodeword t w) (a
 
 pub contradicted-repair : (t b map : List ℕ) → repairRefusal t b map ≡ 8 → Contradicted t b map
 contradicted-repair t b map h = record {
-    no-codeword = λ w word agree. let z : _≡_ {A = ℕ} 8 0 = sym h ∙ repairing t b map w fits word agree .not-refused in omega arith;
-    received = λ p k e. part p k ∙ wipe-kept (size t) map (packets (size t) (places t) b) p (not-lost map p e) ∙ packet-at (size t) (places t) b p k;
-    zeroed = λ p k e. part p k ∙ wipe-zero (size t) map (packets (size t) (places t) b) p (subst (λ x. p < x) (sym (packets-length (size t) (places t) b)) k) (is-lost map p e);
-    map-kept = map-refused t b map 8 h refl;
-  }
+  no-codeword = λ w word agree. let z : _≡_ {A = ℕ} 8 0 = sym h ∙ repairing t b map w fits word agree .not-refused in omega arith;
+  received = λ p k e. part p k ∙ wipe-kept (size t) map (packets (size t) (places t) b) p (not-lost map p e) ∙ packet-at (size t) (places t) b p k;
+  zeroed = λ p k e. part p k ∙ wipe-zero (size t) map (packets (size t) (places t) b) p (subst (λ x. p < x) (sym (packets-length (size t) (places t) b)) k) (is-lost map p e);
+  map-kept = map-refused t b map 8 h refl;
+}
   where
     fits : Fitting t b map
     fits = contradicted-fits t b map h .0
