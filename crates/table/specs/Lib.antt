@@ -1,4 +1,5 @@
 pub mod Checks
+pub mod ChecksLaws
 pub mod PacketCall
 pub mod PacketLaws
 pub mod Packets
