@@ -1,3 +1,4 @@
+pub mod BufferLaws
 pub mod Checks
 pub mod ChecksLaws
 pub mod PacketCall
