@@ -5,6 +5,7 @@ pub mod RepairTheorems
 pub mod RestoringLaws
 pub mod Stopping
 pub mod Tally
+pub mod Turns
 pub mod Values
 pub mod Verify
 pub mod VerifyLaws
