@@ -1,8 +1,9 @@
 -- What an accepted table gives to code that reads its checks in place.
 use mathlib.Core.Path.{_≡_, refl, sym, ap, ap₂, _∙_, subst}
-use mathlib.Core.Bool.{Bool, true, false, cond, not, _||_, _&&_, true≢false, false≢true}
+use mathlib.Core.Bool.{Bool, true, false, cond, not, _&&_, true≢false, false≢true}
 use mathlib.Core.List.{List, [], _∷_, _++_, map}
 use Prim.Native.Nat.{ℕ, zero, suc, _+_, _-_, _<_, _≤_}
+use native.Mathlib.Numerals.{add-one}
 use native.Mathlib.Omega.{arith}
 use borrow.Author.Tests.{ltb-true, ltb-false, leb-true, leb-false, eqb-true, not-false}
 use lib.Dec.{eqb, ltb, leb}
@@ -83,6 +84,16 @@ offset-total t (suc j) h =
     let i : j < length (drop 4 t) = simp length-drop (omega arith) in
     ap₂ _+_ e (sym g) ∙ sym (total-append (take j (drop 4 t)) (getD (drop 4 t) j 0)) ∙ ap total (sym (take-suc (drop 4 t) j 0 i))
 
+-- where check 0 starts
+pub offset-none : (t : List ℕ) (m : ℕ) → 5 + m ≡ 5 + m + offset t 0
+unfolding offset
+offset-none t m = omega arith
+
+-- one check more, as code counts
+pub offset-more : (t : List ℕ) (j : ℕ) → offset t (j + 1) ≡ offset t j + getD t (4 + j) 0
+unfolding offset
+offset-more t j = ap (offset t) (add-one j)
+
 -- they never fall
 pub offset-grows : (t : List ℕ) (i j : ℕ) → i ≤ j → offset t i ≤ offset t j
 unfolding offset
@@ -109,8 +120,7 @@ cut-from t m i (suc c) h =
 pub checks-listed : (t : List ℕ) → 5 + number t ≤ length t → checks t ≡ map (check t (number t)) (from 0 (number t))
 unfolding offset
 checks-listed t h =
-    let z : 5 + number t ≡ 5 + number t + offset t 0 = omega arith in
-    ap (λ k. cutUp (weights t) (drop k t)) z ∙ cut-from t (number t) 0 (number t) (omega arith)
+    ap (λ k. cutUp (weights t) (drop k t)) (offset-none t (number t)) ∙ cut-from t (number t) 0 (number t) (omega arith)
 
 pub from-length : (i c : ℕ) → length (from i c) ≡ c
 unfolding from

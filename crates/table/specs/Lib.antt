@@ -1,6 +1,7 @@
 pub mod BufferLaws
 pub mod Checks
 pub mod ChecksLaws
+pub mod LookOver
 pub mod PacketCall
 pub mod PacketLaws
 pub mod Packets
