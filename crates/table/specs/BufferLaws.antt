@@ -1,20 +1,21 @@
--- Laws of buffers: a part written or added, byte by byte.
+-- Laws of buffers: a part written or added, byte by byte, and packets written or added in a row of packets.
 use mathlib.Core.Path.{_≡_, refl, sym, ap, _∙_}
 use mathlib.Core.Bool.{Bool, true, false}
-use mathlib.Core.List.{List, _++_}
+use mathlib.Core.List.{List, [], _++_, append-nil}
 use mathlib.Core.Logic.{_⊎_, ⊎-elim, inl, inr}
-use Prim.Native.Nat.{ℕ, _+_, _-_, _<_, _≤_}
+use Prim.Native.Nat.{ℕ, suc, _+_, _*_, _-_, _<_, _≤_}
+use native.Mathlib.Nat.{mul-le-mul-right, suc-mul}
 use native.Mathlib.Omega.{arith}
 use borrow.Author.Tests.{ltb-true, ltb-false}
 use lib.Bits.{bitXor}
 use lib.Dec.{ltb}
-use lib.ListN.{length, getD, take, drop, length-append, length-take, length-drop, List·getD-append}
-use lib.ListN.{drop-of-length-le}
-use mathlib.Core.List.{append-nil}
+use lib.ListN.{length, getD, set, take, drop, replicate, length-append, length-take, length-drop, length-replicate, List·getD-append, drop-of-length-le}
 use lib.Seq.{take-all, getD-take, getD-drop, getD-append-add, ext-getD}
 use Rattle.gf2.specs.Group.{XorGroup}
 use Rattle.gf2.specs.Vectors.{add, getD-add, length-add}
-use Rattle.table.specs.Packets.{written, mixed}
+use Rattle.gf2.specs.Lists.{all-getD}
+use Rattle.table.specs.Packets.{Packets, Room, joined, written, mixed}
+use Rattle.table.specs.PacketLaws.{joined-packets, packet-at, joined-set}
 
 -- one number is below the other or not
 pub side : (m n : ℕ) → (m < n) ⊎ (n ≤ m)
@@ -106,3 +107,54 @@ pub mixed-whole : (b x : List ℕ) → length x ≡ length b → mixed b 0 x ≡
 mixed-whole b x h =
     written-whole b (add XorGroup (take (length x) b) x) (length-add XorGroup (take (length x) b) x (length b) (target-length b 0 x (length b) h (omega arith)) h)
     ∙ ap (λ r. add XorGroup r x) (take-all (length x) b (omega arith))
+
+-- ---- packets in a buffer
+-- a place's part lies within
+pub place-fits : (i n s : ℕ) → i < n → i * s + s ≤ n * s
+place-fits i n s h = let m : suc i * s ≤ n * s = mul-le-mul-right s h in omega (arith, suc-mul i s)
+
+-- two different places do not overlap
+pub places-apart : (i k s : ℕ) → (i ≡ k → ⊥) → (i * s + s ≤ k * s) ⊎ (k * s + s ≤ i * s)
+places-apart i k s h = ⊎-elim (λ l. inl (place-fits i k s l)) (λ l. inr (place-fits k i s (let d : (k ≡ i) → ⊥ = λ e. h (sym e) in omega arith))) (side i k)
+
+-- what `add` requires of two places
+pub places-room : (b : List ℕ) (n s i k : ℕ) → length b ≡ n * s → i < n → k < n → Room b (i * s) (k * s) s
+places-room b n s i k l h g = record {
+  at-to = omega (arith, place-fits i n s h);
+  at-from = omega (arith, place-fits k n s g);
+  apart = ⊎-elim (λ m. inr (place-fits k i s m)) (λ m. inl (mul-le-mul-right s m)) (side k i);
+}
+
+module _ (s : ℕ) {ps : List (List ℕ)} (sized : Packets s ps) where
+  -- a packet is its part of the buffer
+  pub packet-part : (k : ℕ) → k < length ps → getD ps k [] ≡ take s (drop (k * s) (joined ps))
+  packet-part k h = ap (λ (l : List (List ℕ)). getD l k []) (sym (joined-packets s sized)) ∙ packet-at s (length ps) (joined ps) k h
+
+  -- a packet written
+  pub set-written : (i : ℕ) (v : List ℕ) → i < length ps → length v ≡ s → joined (set ps i v) ≡ written (joined ps) (i * s) v
+  set-written i v h e = joined-set s sized i v h ∙ ap (λ n. take (i * s) (joined ps) ++ (v ++ drop (i * s + n) (joined ps))) (sym e)
+
+  -- a packet cleared
+  pub set-cleared : (i : ℕ) → i < length ps → joined (set ps i (replicate s 0)) ≡ written (joined ps) (i * s) (replicate s 0)
+  set-cleared i h = set-written i (replicate s 0) h (length-replicate s 0)
+
+  -- s bytes added to a packet
+  pub set-mixed : (i : ℕ) (x : List ℕ) → i < length ps → length x ≡ s → joined (set ps i (add XorGroup (getD ps i []) x)) ≡ mixed (joined ps) (i * s) x
+  set-mixed i x h e =
+      set-written i (add XorGroup (getD ps i []) x) h (length-add XorGroup (getD ps i []) x s (all-getD sized i h) e)
+      ∙ ap (λ y. written (joined ps) (i * s) (add XorGroup y x)) (packet-part i h ∙ ap (λ n. take n (drop (i * s) (joined ps))) (sym e))
+
+  -- a packet of the same buffer added
+  pub set-added : (i k : ℕ) → i < length ps → k < length ps
+      → joined (set ps i (add XorGroup (getD ps i []) (getD ps k []))) ≡ mixed (joined ps) (i * s) (take s (drop (k * s) (joined ps)))
+  set-added i k h g = set-mixed i (getD ps k []) h (all-getD sized k g) ∙ ap (mixed (joined ps) (i * s)) (packet-part k g)
+
+-- a packet of another buffer added
+pub set-added-from : (s : ℕ) {ps qs : List (List ℕ)} → Packets s ps → Packets s qs → (i k : ℕ) → i < length ps → k < length qs
+    → joined (set ps i (add XorGroup (getD ps i []) (getD qs k []))) ≡ mixed (joined ps) (i * s) (take s (drop (k * s) (joined qs)))
+set-added-from s {ps} {qs} a b i k h g = set-mixed s a i (getD qs k []) h (all-getD b k g) ∙ ap (mixed (joined ps) (i * s)) (packet-part s b k g)
+
+-- a packet of another buffer copied
+pub set-copied : (s : ℕ) {ps qs : List (List ℕ)} → Packets s ps → Packets s qs → (i k : ℕ) → i < length ps → k < length qs
+    → joined (set ps i (getD qs k [])) ≡ written (joined ps) (i * s) (take s (drop (k * s) (joined qs)))
+set-copied s {ps} {qs} a b i k h g = set-written s a i (getD qs k []) h (all-getD b k g) ∙ ap (written (joined ps) (i * s)) (packet-part s b k g)

@@ -1,7 +1,7 @@
 -- The checks of a table as code reads them: check j is a run of places behind the weights.
 use mathlib.Core.Path.{_≡_}
 use mathlib.Core.List.{List, [], _∷_}
-use Prim.Native.Nat.{ℕ, zero, suc, _+_, _<_, _≤_}
+use Prim.Native.Nat.{ℕ, zero, suc, _+_, _*_, _<_, _≤_}
 use lib.ListN.{length, getD, take, drop}
 
 -- the ones of the checks before check j
@@ -43,3 +43,9 @@ pub record Checks (t : List ℕ) (m n : ℕ) : Type 0 where
 pub record Starts (t : List ℕ) (m : ℕ) (starts : List ℕ) : Type 0 where
   pub room : m ≤ length starts
   pub each : (j : ℕ) → j < m → getD starts j 0 ≡ 5 + m + offset t j
+
+-- weight places of t from at lie below n, and b holds n packets of s bytes
+pub record CheckIn (t : List ℕ) (at weight : ℕ) (b : List ℕ) (n s : ℕ) : Type 0 where
+  pub room : at + weight ≤ length t
+  pub below : (i : ℕ) → i < weight → getD t (at + i) 0 < n
+  pub bytes : length b ≡ n * s

@@ -5,5 +5,6 @@ pub mod LookOver
 pub mod PacketCall
 pub mod PacketLaws
 pub mod Packets
+pub mod SumLaws
 pub mod Table
 pub mod TableLaws

@@ -45,3 +45,9 @@ pub record Room (b : List ℕ) (to from s : ℕ) : Type 0 where
   pub at-to : to + s ≤ length b
   pub at-from : from + s ≤ length b
   pub apart : (to ≤ from) ⊎ (from + s ≤ to)
+
+-- the position of the lowest byte that isn't zero; the length where all are zero
+unfoldable pub lowestNonzero : List ℕ → ℕ
+lowestNonzero [] = 0
+lowestNonzero (zero ∷ x) = suc (lowestNonzero x)
+lowestNonzero (suc v ∷ x) = 0
