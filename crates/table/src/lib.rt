@@ -187,7 +187,8 @@ pub fn packet_refusal(n: usize, s: usize, place: usize, len: usize) -> u32
     if outside(MOST_BYTES, s) {
         return 2;
     }
-    if len != n * s {
+    let bytes = n * s;
+    if len != bytes {
         return 5;
     }
     if n <= place {
@@ -207,13 +208,34 @@ pub fn part(block: &[u8], place: usize, s: usize) -> &[u8]
 }
 
 // the packet at a place, or the empty part
-pub fn packet(n: usize, s: usize, place: usize, block: &[u8]) -> &[u8]
+pub fn packet_part(n: usize, s: usize, place: usize, block: &[u8]) -> &[u8]
     ensures { λ r. ⌜ now r ≡ packetPart n s place (now (block .entry)) ⌝ }
 {
     if packet_refusal(n, s, place, block.len()) == 0 {
         return part(block, place, s);
     }
     &block[..0]
+}
+
+// what refuses a packet call over a block
+fn packet_number(n: usize, s: usize, place: usize, block: &[u8]) -> u32
+    ensures { λ r. ⌜ r ≡ packetRefusal n s place (length (now (block .entry))) ⌝ }
+{
+    packet_refusal(n, s, place, block.len())
+}
+
+// the answer of a packet call: 0 and the packet, or the number of a refusal and the empty part
+pub struct Packet<'a> {
+    pub refusal: u32,
+    pub part: &'a [u8],
+}
+
+pub fn packet_call<'a>(n: usize, s: usize, place: usize, block: &'a [u8]) -> Packet<'a>
+    ensures { λ r. ⌜ (r .refusal ≡ packetRefusal n s place (length (now (block .entry)))) × (now (r .part) ≡ packetPart n s place (now (block .entry))) ⌝ }
+{
+    let part = packet_part(n, s, place, block);
+    let refusal = packet_number(n, s, place, block);
+    Packet { refusal, part }
 }
 
 // ---- packets
