@@ -239,14 +239,15 @@ pub fn packet_call<'a>(n: usize, s: usize, place: usize, block: &'a [u8]) -> Pac
 }
 
 // ---- packets
+ghost use mathlib.Core.List.{[], _∷_};
 ghost use mathlib.Core.Path.{_≡_};
 ghost use Prim.Native.Nat.{ℕ, _+_, _*_, _≤_, _<_};
-ghost use lib.ListN.{length, getD, take, drop, replicate};
+ghost use lib.ListN.{length, getD, set, take, drop, replicate};
 ghost use Rattle.gf2.specs.Group.{XorGroup};
 ghost use Rattle.gf2.specs.Places.{minus};
 ghost use Rattle.gf2.specs.Vectors.{add as addVectors};
 ghost use Rattle.table.specs.Checks.{CheckIn};
-ghost use Rattle.table.specs.Packets.{Room, packets, joined, packetSum, written, mixed, lowestNonzero};
+ghost use Rattle.table.specs.Packets.{Room, packets, joined, packetSum, written, mixed, lowestNonzero, withOthers};
 
 // s zeros are written at at.
 pub fn clear(b: &mut [u8], at: usize, s: usize)
@@ -454,4 +455,28 @@ pub fn sum_of_check(t: &[u16], at: usize, weight: usize, block: &[u8], n: usize,
         i += 64;
     }
     i + lowest_in_rest(t, at, weight, block, n, s, i)
+}
+
+// The packets of a check's other places are added into the packet at place p.
+fn add_others(t: &[u16], at: usize, weight: usize, block: &mut [u8], n: usize, s: usize, p: usize)
+    requires { ⌜ CheckIn (now t) at weight (now block) n s × (p < n) ⌝ }
+    ensures { λ _. ⌜ now (block .exit) ≡ withOthers (now (block .entry)) n s (take weight (drop at (now (t .entry)))) p ⌝ }
+{
+    let mut m = 0;
+    while m < weight {
+        let q = place_of(t[at + m]);
+        if q != p {
+            add(block, p * s, q * s, s);
+        }
+        m += 1;
+    }
+}
+
+// The packet at place p becomes the sum of the packets of the check's other places.
+pub fn restore(t: &[u16], at: usize, weight: usize, block: &mut [u8], n: usize, s: usize, p: usize)
+    requires { ⌜ CheckIn (now t) at weight (now block) n s × (p < n) ⌝ }
+    ensures { λ _. ⌜ now (block .exit) ≡ joined (set (packets s n (now (block .entry))) p (packetSum s (packets s n (now (block .entry))) (minus (take weight (drop at (now (t .entry)))) (p ∷ [])))) ⌝ }
+{
+    clear(block, p * s, s);
+    add_others(t, at, weight, block, n, s, p);
 }
