@@ -1,2 +1,3 @@
+pub mod BlockLaws
 pub mod MapLaws
 pub mod TableUse

@@ -6,7 +6,7 @@ use Prim.Native.Nat.{ℕ, zero, suc, _+_, _-_}
 use lib.Dec.{eqb}
 use lib.ListN.{length, getD, set}
 use Rattle.gf2.specs.Places.{minus}
-use Rattle.table.specs.Packets.{packetSum}
+use Rattle.table.specs.Packets.{packets, packetSum}
 use Rattle.table.specs.Table.{places, size, number, refusal}
 use Rattle.repair.specs.Repair.{State, lostPlaces}
 
@@ -16,6 +16,10 @@ pub record TableOf (t : List ℕ) (m n s : ℕ) : Type 0 where
   pub number-is : m ≡ number t
   pub places-are : n ≡ places t
   pub size-is : s ≡ size t
+
+-- a block of n·s bytes, its map and the additions so far
+abbrev pub stateOf : ℕ → ℕ → List ℕ → List ℕ → ℕ → State
+stateOf s n b lost adds = record { block = packets s n b; lost = lost; adds = adds }
 
 -- check c restores its one lost place
 abbrev pub turn : ℕ → List ℕ → State → State
