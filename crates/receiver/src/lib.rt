@@ -2,6 +2,9 @@
 ghost use mathlib.Core.Path.{_≡_};
 ghost use lib.ListN.{length};
 ghost use Rattle.table.specs.PacketCall.{packetRefusal, partStart, partLength};
+ghost use Rattle.repair.specs.Verify.{verification, valuesOf};
+ghost use Rattle.receiver.specs.Answers.{verified};
+use repair::Verified;
 
 // Where in the block a packet lies: 0 and 0 on refusal.
 #[repr(C)]
@@ -30,5 +33,36 @@ pub extern "C" fn bs_packet(n: usize, s: usize, place: usize, block: &[u8]) -> P
             start: 0,
             length: 0,
         }
+    }
+}
+
+// What verification says: codeword 1 or 0, and the lowest check that fails, else 0.
+#[repr(C)]
+pub struct Verification {
+    pub refusal: u32,
+    pub codeword: u32,
+    pub check: u32,
+}
+
+#[no_mangle]
+pub extern "C" fn bs_verify(table: &[u16], block: &[u8]) -> Verification
+    ensures { λ r. ⌜ verified r ≡ valuesOf (verification (now (table .entry)) (now (block .entry))) ⌝ }
+{
+    match repair::verify(table, block) {
+        Verified::Refused(refusal) => Verification {
+            refusal: refusal,
+            codeword: 0,
+            check: 0,
+        },
+        Verified::Codeword => Verification {
+            refusal: 0,
+            codeword: 1,
+            check: 0,
+        },
+        Verified::Fails(check) => Verification {
+            refusal: 0,
+            codeword: 0,
+            check: check as u32,
+        },
     }
 }

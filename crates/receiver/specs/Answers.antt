@@ -1,0 +1,6 @@
+-- The answers of the library for C, as the definitions' records.
+use Rattle.repair.specs.Verify.{Values}
+use Rattle.receiver.specs.declared.Verification.{Verification}
+
+abbrev pub verified : Verification → Values
+verified r = record { refusal = r .refusal; codeword = r .codeword; check = r .check }
