@@ -8,8 +8,9 @@ ghost use Rattle.gf2.specs.Span.{anyOf};
 ghost use Rattle.table.specs.Checks.{Places, Starts};
 ghost use Rattle.table.specs.Packets.{packets, joined};
 ghost use Rattle.table.specs.Table.{checks};
-ghost use Rattle.repair.specs.Repair.{lostPlaces, tally, zeroLost, consistent};
-ghost use Rattle.repair.specs.Turns.{TableOf, readyNumber, stateOf, unmarked};
+ghost use Rattle.repair.specs.Repair.{lostPlaces, tally, zeroLost, consistent, restoring, repairReport, repairBlock, repairMap};
+ghost use Rattle.repair.specs.RepairLaws.{Fitting};
+ghost use Rattle.repair.specs.Turns.{TableOf, Holds, Restored, readyNumber, stateOf, turn, unmarked, reportOf, Answers};
 ghost use Rattle.repair.specs.Verify.{failing, verdict, verification};
 
 // What verification says: a refusal, a codeword, or the lowest check that fails.
@@ -17,6 +18,14 @@ pub enum Verified {
     Refused(u32),
     Codeword,
     Fails(usize),
+}
+
+// What repair reports: the refusal, 0 for none, and the counts.
+pub struct Repaired {
+    pub refusal: u32,
+    pub restored: u32,
+    pub lost: u32,
+    pub additions: u32,
 }
 
 // ---- verification
@@ -183,4 +192,60 @@ fn agrees(t: &[u16], m: usize, n: usize, s: usize, block: &[u8], map: &[u8]) -> 
         j += 1;
     }
     true
+}
+
+// ---- repair
+
+// the check at at, of which one place is lost, restores that place
+fn restore_one(
+    t: &[u16],
+    at: usize,
+    weight: usize,
+    n: usize,
+    s: usize,
+    block: &mut [u8],
+    map: &mut [u8],
+)
+    requires { ⌜ Places (now t) at weight n × (length (now block) ≡ n * s) × (length (now map) ≡ n) × (length (lostPlaces (now map) (take weight (drop at (now t)))) ≡ 1) ⌝ }
+    ensures { λ _. ⌜ Holds (turn s (take weight (drop at (now (t .entry)))) (stateOf s n (now (block .entry)) (now (map .entry)) 0)) (now (block .exit)) (now (map .exit)) ⌝ }
+{
+    let p = first_lost(t, at, weight, map);
+    table::restore(t, at, weight, block, n, s, p);
+    map[p] = 2;
+}
+
+// while some check has exactly one lost place, the lowest such check restores it; the additions
+fn restore_all(
+    t: &[u16],
+    m: usize,
+    n: usize,
+    s: usize,
+    starts: &[u16],
+    block: &mut [u8],
+    map: &mut [u8],
+) -> usize
+    requires { ⌜ TableOf (now t) m n s × Starts (now t) m (now starts) × (length (now block) ≡ n * s) × (length (now map) ≡ n) ⌝ }
+    ensures { λ r. ⌜ Restored n s (checks (now (t .entry))) (now (block .entry)) (now (map .entry)) (now (block .exit)) (now (map .exit)) r ⌝ }
+{
+    let mut adds = 0;
+    loop {
+        let j = next_ready(t, m, n, s, starts, map);
+        if j == m {
+            return adds;
+        }
+        let w = wide(t[4 + j]);
+        restore_one(t, wide(starts[j]), w, n, s, block, map);
+        adds += w - 1;
+    }
+}
+
+fn refused(refusal: u32) -> Repaired
+    ensures { λ r. ⌜ (r .refusal ≡ refusal) × (r .restored ≡ 0) × (r .lost ≡ 0) × (r .additions ≡ 0) ⌝ }
+{
+    Repaired {
+        refusal: refusal,
+        restored: 0,
+        lost: 0,
+        additions: 0,
+    }
 }
