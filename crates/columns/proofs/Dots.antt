@@ -1,16 +1,20 @@
 -- The parity is linear on both sides.
 use mathlib.Core.Path.{_≡_, refl, sym, ap, ap₂, _∙_}
-use mathlib.Core.Bool.{Bool, true, false}
-use Prim.Native.Nat.{ℕ, zero, suc, _+_, _*_, _/_, _%_, _<_}
-use native.Mathlib.Nat.{mod-lt}
+use mathlib.Core.Bool.{Bool, true, false, cond}
+use Prim.Native.Nat.{ℕ, zero, suc, _+_, _*_, _/_, _%_, _^_, _<_}
+use native.Mathlib.Nat.{mod-lt, pow-suc, mul-div-cancel}
 use native.Mathlib.Omega.{arith}
 use lib.Arith.{bin-ind}
 use lib.Bits.{bitAnd, bitXor, and-shr, and-mod, and-comm, and-zero-l, and-mask, xor-shr, xor-mod}
 use lib.Count.{ones, ones-step, ones-le}
-use lib.Dec.{eqb}
+use lib.Dec.{eqb, eqb·zero-suc}
+use lib.ListN.{length}
 use Rattle.gf2.specs.Group.{XorGroup, bxor, two-pos}
-use Rattle.gf2.specs.Bit.{odd}
-use Rattle.gf2.specs.Width.{Hom}
+use Rattle.gf2.specs.Bit.{odd, bit, bit-pow}
+use Rattle.gf2.specs.Fit.{pair}
+use Rattle.gf2.specs.Span.{byBool}
+use Rattle.gf2.specs.Width.{Hom, hom-o}
+use Rattle.rule.specs.Buffers.{maskBits}
 use Rattle.columns.specs.Dot.{dot}
 use Rattle.columns.proofs.Dual.{bxor4}
 
@@ -80,3 +84,36 @@ one-odd (suc (suc x)) h = absurd (omega arith)
 pub seen : (m x : ℕ) → eqb (bitAnd (ones (bitAnd m x)) 1) 1 ≡ dot m x
 unfolding dot
 seen m x = ap (λ (y : ℕ). eqb y 1) (and-mask (ones (bitAnd m x)) 1) ∙ one-odd (ones (bitAnd m x) % 2) (omega arith)
+
+-- ---- digit by digit
+low-and : (a b : ℕ) → a < 2 → b < 2 → odd (bitAnd a b) ≡ cond (odd a) (odd b) false
+low-and zero b h k = refl
+low-and (suc zero) zero h k = refl
+low-and (suc zero) (suc zero) h k = refl
+low-and (suc zero) (suc (suc b)) h k = absurd (omega arith)
+low-and (suc (suc a)) b h k = absurd (omega arith)
+
+pub dot-digit : (m x : ℕ) → dot m x ≡ bxor (cond (bit 0 m) (bit 0 x) false) (dot (m / 2) (x / 2))
+dot-digit m x = dot-step m x ∙ ap (λ (b : Bool). bxor b (dot (m / 2) (x / 2))) (ap odd (and-mod m x 1) ∙ low-and (m % 2) (x % 2) (omega arith) (omega arith))
+
+bxor-none : (b : Bool) → bxor b false ≡ b
+bxor-none true = refl
+bxor-none false = refl
+
+-- a unit mask sees one digit
+pub dot-unit : (i x : ℕ) → dot (2 ^ i) x ≡ bit i x
+dot-unit zero x = dot-digit 1 x ∙ ap (bxor (bit 0 x)) (dot-zero (x / 2)) ∙ bxor-none (bit 0 x)
+dot-unit (suc i) x = dot-digit (2 ^ suc i) x
+    ∙ ap₂ bxor (ap (λ (b : Bool). cond b (bit 0 x) false) (bit-pow 0 (suc i) ∙ eqb·zero-suc i))
+    (ap (λ (m : ℕ). dot m (x / 2)) (ap (λ (m : ℕ). m / 2) (pow-suc 2 i) ∙ mul-div-cancel (2 ^ i) two-pos) ∙ dot-unit i (x / 2))
+
+-- a mask as a list of digits
+pub pair-dot : (g m x : ℕ) → x < 2 ^ g → pair (maskBits g m) x ≡ dot m x
+pair-dot zero m x h = let z : x ≡ 0 = omega arith in sym (ap (dot m) z ∙ hom-o XorGroup (dot-hom m))
+pair-dot (suc g) m x h = let ih = pair-dot g (m / 2) (x / 2) (omega (arith, pow-suc 2 g)) in byBool (bit 0 m)
+    (λ e. rw e (ap (bxor (bit 0 x)) ih ∙ sym (dot-digit m x ∙ rw e)))
+    (λ e. rw e (ih ∙ sym (dot-digit m x ∙ rw e)))
+
+pub length-bits : (g m : ℕ) → length (maskBits g m) ≡ g
+length-bits zero m = refl
+length-bits (suc g) m = ap suc (length-bits g (m / 2))

@@ -3,10 +3,12 @@ use mathlib.Core.Path.{_≡_, refl, sym, ap, ap₂, _∙_, subst}
 use mathlib.Core.Bool.{Bool, true, false, cond, _||_, true≢false, false≢true}
 use mathlib.Core.List.{List, [], _∷_, _++_, map}
 use Prim.Native.Nat.{ℕ, zero, suc, _+_, _*_, _-_, _/_, _%_, _^_, _<_, _≤_}
+use native.Mathlib.Nat.{pow-suc}
 use native.Mathlib.Numerals.{add-one}
 use native.Mathlib.Omega.{arith}
 use lib.ListN.{length, getD, set, take, drop, length-drop, length-take}
-use lib.Seq.{getD-drop, getD-take}
+use lib.Seq.{getD-drop, getD-take, take-suc, length-take-le}
+use lib.Pow.{shl-exact}
 use lib.Bits.{bitXor, xor-block, xor-zero-r, xor-comm}
 use lib.Dec.{eqb}
 use Rattle.gf2.specs.Group.{bxor}
@@ -115,4 +117,57 @@ turn t m n j o at wt order owns E k {col} {d} v qj qo qa qw c u =
           (λ h. let a : getD d p 0 ≡ getD col p 0 = u .each p ∙ rw h in
           let b : column (map (put T) R) p ≡ column R p = column-put T R p ∙ rw (once t at wt n v′ p, h) (xor-zero-r _) in
           a ∙ c .each p ∙ sym (ap (λ (l : List ℕ). column l p) list ∙ b));
+    }
+
+-- ---- the columns of the checks set aside, one check more
+bxor-none : (b : Bool) → b ≡ bxor b false
+bxor-none true = refl
+bxor-none false = refl
+
+snoc-digit : (a k : ℕ) (b : Bool) → bitXor a (2 ^ k) * 2 + num b ≡ bitXor (a * 2 + num b) (2 ^ suc k)
+snoc-digit a k b = ap (λ (x : Bool). bitXor a (2 ^ k) * 2 + num x) (bxor-none b) ∙ sym (push-digit a (2 ^ k) b false)
+    ∙ ap (bitXor (a * 2 + num b)) (let e = pow-suc 2 k in omega arith)
+
+column-snoc : (E : List ℕ) (e p : ℕ) → column (E ++ (e ∷ [])) p ≡ bitXor (column E p) (cond (bit p e) (2 ^ length E) 0)
+column-snoc [] e p = byBool (bit p e) (λ k. rw k) (λ k. rw k)
+column-snoc (x ∷ E) e p = ap (λ (a : ℕ). a * 2 + num (bit p x)) (column-snoc E e p) ∙ byBool (bit p e)
+    (λ k. rw k (snoc-digit (column E p) (length E) (bit p x)))
+    (λ k. rw k (ap (λ (a : ℕ). a * 2 + num (bit p x)) (xor-zero-r (column E p)) ∙ sym (xor-zero-r (column E p * 2 + num (bit p x)))))
+
+-- the code's 1 << i
+pub unit-word : (i : ℕ) → i < 32 → 1 * 2 ^ i % 2 ^ 32 ≡ 2 ^ i
+unit-word i h = shl-exact 1 i 32 (omega arith) (omega arith) ∙ omega arith
+
+rows-snoc : (g : ℕ → List ℕ) (l : List ℕ) (j : ℕ) → map rowOf (map g (l ++ (j ∷ []))) ≡ map rowOf (map g l) ++ (rowOf (g j) ∷ [])
+rows-snoc g [] j = refl
+rows-snoc g (x ∷ l) j = ap (λ r. rowOf (g x) ∷ r) (rows-snoc g l j)
+
+rows-length : (g : ℕ → List ℕ) (l : List ℕ) → length (map rowOf (map g l)) ≡ length l
+rows-length g [] = refl
+rows-length g (x ∷ l) = ap suc (rows-length g l)
+
+pub fill-turn : (t : List ℕ) (m n j at wt i c : ℕ) (aside : List ℕ) {col d : List ℕ} → Places t (5 + m + offset t j) (getD t (4 + j) 0) n
+    → i < length aside → j ≡ getD aside i 0 → at ≡ 5 + m + offset t j → wt ≡ getD t (4 + j) 0 → c ≡ 2 ^ i
+    → Columns (map rowOf (map (check t m) (take i aside))) col → Upd (λ a. bitXor a c) col (take wt (drop at t)) d
+    → Columns (map rowOf (map (check t m) (take (i + 1) aside))) d
+unfolding check
+fill-turn t m n j at wt i c aside {col} {d} v il qj qa qw qc k u =
+    let E = map rowOf (map (check t m) (take i aside)) in
+    let r = rowOf (take wt (drop at t)) in
+    let same : check t m (getD aside i 0) ≡ take wt (drop at t) = ap (check t m) (sym qj) ∙ ap₂ (λ (x y : ℕ). take x (drop y t)) (sym qw) (sym qa) in
+    let list : map rowOf (map (check t m) (take (i + 1) aside)) ≡ E ++ (r ∷ []) =
+    ap (λ (x : ℕ). map rowOf (map (check t m) (take x aside))) (add-one i)
+    ∙ ap (λ (l : List ℕ). map rowOf (map (check t m) l)) (take-suc aside i 0 il)
+    ∙ rows-snoc (check t m) (take i aside) (getD aside i 0)
+    ∙ ap (λ (l : List ℕ). E ++ (rowOf l ∷ [])) same in
+    let len : length E ≡ i = rows-length (check t m) (take i aside) ∙ length-take-le i aside (omega arith) in
+    let v′ : Places t at wt n = rw (qa, qw) v in
+    record {
+      each = λ p. byBool (has p (take wt (drop at t)))
+          (λ h. let a : getD d p 0 ≡ bitXor (getD col p 0) c = u .each p ∙ rw h in
+          let b : column (E ++ (r ∷ [])) p ≡ bitXor (column E p) (2 ^ length E) = column-snoc E r p ∙ rw (once t at wt n v′ p, h) in
+          a ∙ ap₂ bitXor (k .each p) (qc ∙ ap (λ (x : ℕ). 2 ^ x) (sym len)) ∙ sym (ap (λ (l : List ℕ). column l p) list ∙ b))
+          (λ h. let a : getD d p 0 ≡ getD col p 0 = u .each p ∙ rw h in
+          let b : column (E ++ (r ∷ [])) p ≡ column E p = column-snoc E r p ∙ rw (once t at wt n v′ p, h) (xor-zero-r _) in
+          a ∙ k .each p ∙ sym (ap (λ (l : List ℕ). column l p) list ∙ b));
     }

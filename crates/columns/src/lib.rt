@@ -1,20 +1,48 @@
 // Columns of the set-aside checks.
 ghost use mathlib.Core.Path.{_≡_};
-ghost use mathlib.Core.List.{List, map};
-ghost use Prim.Native.Nat.{ℕ, _+_, _*_, _≤_, _<_};
+ghost use mathlib.Core.List.{List, [], map};
+ghost use Prim.Native.Nat.{ℕ, _+_, _*_, _^_, _≤_, _<_};
 ghost use lib.ListN.{length, getD, take, drop};
 ghost use lib.Bits.{bitXor};
 ghost use Rattle.rule.specs.Rule.{reduce};
-ghost use Rattle.rule.specs.Buffers.{solved};
+ghost use Rattle.rule.specs.Buffers.{solved, Fitted};
 ghost use Rattle.table.specs.Checks.{check, Places};
 ghost use Rattle.live.specs.Live.{Upd};
 ghost use Rattle.columns.specs.Dot.{dot};
 ghost use Rattle.columns.specs.Cols.{Columns, Taken};
+ghost use Rattle.columns.specs.Fitting.{Aside, Units, Lowest, mended, Mended, Tied, Scan, Ready};
+ghost use Rattle.gf2.specs.Places.{rowOf};
 
 fn wide(x: u16) -> usize
     ensures { λ r. ⌜ r ≡ x ⌝ }
 {
     x as usize
+}
+
+// c added into the columns of a check's places
+pub fn spread(col: &mut [u32], t: &[u16], at: usize, weight: usize, c: u32)
+    requires { ⌜ Places (now t) at weight (length (now col)) ⌝ }
+    ensures { λ _. ⌜ Upd (λ a. bitXor a c) (now (col .entry)) (take weight (drop at (now (t .entry)))) (now (col .exit)) ⌝ }
+{
+    let mut i = 0;
+    while i < weight {
+        let p = wide(t[at + i]);
+        col[p] = col[p] ^ c;
+        i += 1;
+    }
+}
+
+// bit i of a place's column: whether the i-th set-aside check holds the place
+pub fn fill_columns(col: &mut [u32], t: &[u16], m: usize, starts: &[u16], aside: &[u16], g: usize)
+    requires { ⌜ Aside (now t) m (length (now col)) (now starts) (now aside) g × Columns [] (now col) ⌝ }
+    ensures { λ _. ⌜ Columns (map rowOf (map (check (now (t .entry)) m) (take g (now (aside .entry))))) (now (col .exit)) ⌝ }
+{
+    let mut i = 0;
+    while i < g {
+        let j = wide(aside[i]);
+        spread(col, t, wide(starts[j]), wide(t[4 + j]), 1 << i);
+        i += 1;
+    }
 }
 
 // one solved check put in
@@ -23,12 +51,7 @@ pub fn push(col: &mut [u32], t: &[u16], at: usize, weight: usize, own: usize)
     ensures { λ _. ⌜ Upd (λ a. bitXor a (getD (now (col .entry)) own 0)) (now (col .entry)) (take weight (drop at (now (t .entry)))) (now (col .exit)) ⌝ }
 {
     let c = col[own];
-    let mut i = 0;
-    while i < weight {
-        let p = wide(t[at + i]);
-        col[p] = col[p] ^ c;
-        i += 1;
-    }
+    spread(col, t, at, weight, c);
 }
 
 // all of them, in the order of taking
@@ -57,4 +80,121 @@ pub fn sees(mask: u32, col: u32) -> bool
     ensures { λ r. ⌜ r ≡ dot mask col ⌝ }
 {
     u32::count_ones(mask & col) & 1 == 1
+}
+
+// the unit masks
+pub fn units(masks: &mut [u32], g: usize)
+    requires { ⌜ (g ≤ length (now masks)) × (g ≤ 32) ⌝ }
+    ensures { λ _. ⌜ Units g (now (masks .exit)) ⌝ }
+{
+    let mut i = 0;
+    while i < g {
+        masks[i] = 1 << i;
+        i += 1;
+    }
+}
+
+// the lowest free mask that sees the column, or the number of free masks
+pub fn find(masks: &[u32], free: usize, c: u32) -> usize
+    requires { ⌜ free ≤ length (now masks) ⌝ }
+    ensures { λ r. ⌜ Lowest (now (masks .entry)) free c r ⌝ }
+{
+    let mut i = 0;
+    while i < free {
+        if sees(masks[i], c) {
+            break;
+        }
+        i += 1;
+    }
+    i
+}
+
+// v added into a mask that sees the column
+fn mend_one(mask: u32, v: u32, c: u32) -> u32
+    ensures { λ r. ⌜ r ≡ mended v c mask ⌝ }
+{
+    if sees(mask, c) { mask ^ v } else { mask }
+}
+
+// .. into each of g masks
+pub fn mend(masks: &mut [u32], g: usize, v: u32, c: u32)
+    requires { ⌜ g ≤ length (now masks) ⌝ }
+    ensures { λ _. ⌜ Mended g v c (now (masks .entry)) (now (masks .exit)) ⌝ }
+{
+    let mut i = 0;
+    while i < g {
+        masks[i] = mend_one(masks[i], v, c);
+        i += 1;
+    }
+}
+
+// mask i, which sees the column, becomes the last free one, k, and is added into every other that sees it
+pub fn tie(masks: &mut [u32], g: usize, i: usize, k: usize, c: u32)
+    requires { ⌜ (g ≤ length (now masks)) × (i ≤ k) × (k < g) ⌝ }
+    ensures { λ _. ⌜ Tied g i k c (now (masks .entry)) (now (masks .exit)) ⌝ }
+{
+    let v = masks[i];
+    masks[i] = masks[k];
+    mend(masks, g, v, c);
+    masks[k] = v;
+}
+
+// one column: a free mask that sees it is tied to its place, if there is one; how many masks are then free
+pub fn fit_one(
+    masks: &mut [u32],
+    fitted: &mut [u16],
+    g: usize,
+    free: usize,
+    p: usize,
+    c: u32,
+) -> usize
+    requires { ⌜ (g ≤ length (now masks)) × (g ≤ length (now fitted)) × (free ≤ g) × (p < 1024) ⌝ }
+    ensures { λ r. ⌜ (r ≤ free) × ((f : ℕ → ℕ) → (W : List ℕ) → f p ≡ c → Scan f W g (p + 1) free (now (masks .entry)) (now (fitted .entry)) → Scan f W g p r (now (masks .exit)) (now (fitted .exit))) ⌝ }
+{
+    let i = find(masks, free, c);
+    if i < free {
+        tie(masks, g, i, free - 1, c);
+        fitted[free - 1] = p as u16;
+        free - 1
+    } else {
+        free
+    }
+}
+
+// every column, from the highest place down; each mask is then its place's row of the inverse, places ascending
+pub fn fit(col: &[u32], n: usize, g: usize, masks: &mut [u32], fitted: &mut [u16]) -> usize
+    requires { ⌜ (n ≤ length (now col)) × (n ≤ 1024) × (g ≤ length (now masks)) × (g ≤ length (now fitted)) ⌝ }
+    ensures { λ r. ⌜ ((f : ℕ → ℕ) → (W : List ℕ) → ((p : ℕ) → p < n → f p ≡ getD (now (col .entry)) p 0) → Scan f W g n g (now (masks .entry)) (now (fitted .entry)) → Scan f W g 0 r (now (masks .exit)) (now (fitted .exit))) ⌝ }
+{
+    let mut free = g;
+    let mut p = n;
+    while p > 0 {
+        p -= 1;
+        free = fit_one(masks, fitted, g, free, p, col[p]);
+    }
+    free
+}
+
+// the fitted places ascending, and with each its row of the inverse
+pub fn fit_places(
+    t: &[u16],
+    m: usize,
+    n: usize,
+    starts: &[u16],
+    order: &[u16],
+    owns: &[u16],
+    taken: usize,
+    aside: &[u16],
+    g: usize,
+    fitted: &mut [u16],
+    rows: &mut [u32],
+)
+    requires { ⌜ Ready (now t) m n (now starts) (now order) (now owns) taken (now aside) g × (g ≤ length (now fitted)) × (g ≤ length (now rows)) ⌝ }
+    ensures { λ _. ⌜ Fitted n (solved (check (now (t .entry)) m) (now (order .entry)) (now (owns .entry)) taken) (map (check (now (t .entry)) m) (take g (now (aside .entry)))) g (now (fitted .exit)) (now (rows .exit)) ⌝ }
+{
+    let mut col = [0u32; 1024];
+    fill_columns(&mut col, t, m, starts, aside, g);
+    push_all(&mut col, t, m, starts, order, owns, taken);
+    units(rows, g);
+    fit(&col, n, g, rows, fitted);
 }

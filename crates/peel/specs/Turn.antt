@@ -4,14 +4,15 @@ use mathlib.Core.Bool.{Bool, true, false, cond}
 use mathlib.Core.List.{List, [], _∷_, _++_, map}
 use mathlib.Core.Option.{Option, none, some}
 use Prim.Native.Nat.{ℕ, zero, suc, _+_, _-_, _*_, _<_, _≤_}
-use lib.ListN.{length, getD, take, drop}
+use lib.ListN.{length, getD, set, take, drop}
 use lib.Dec.{eqb, leb}
 use Rattle.gf2.specs.Lists.{highest}
 use Rattle.rule.specs.Buffers.{solved}
 use Rattle.table.specs.Checks.{check, offset, Places}
 use Rattle.rule.specs.Rule.{Solved, count, inOneOnly, first, without, heaviest, greatest, peel, solvedOf, setAsideOf}
 use Rattle.gf2.specs.Places.{has}
-use Rattle.live.specs.Live.{Tally}
+use Rattle.live.specs.Live.{Tally, Noted}
+use Rattle.rows.specs.Row.{keptOf}
 use Rattle.peel.specs.declared.Event.{Event}
 use Rattle.peel.specs.declared.Event.the-variants.{Took, Aside}
 
@@ -70,3 +71,23 @@ pub record Peeled (g : ℕ → List ℕ) (m n left : ℕ) (JS order owns aside :
   pub set-aside : setAsideOf (peel left n (map g JS)) ≡ map g (take ka aside)
   pub sum : kt + ka ≡ left
   pub low : Low m n order owns aside kt ka
+
+-- ---- the kept checks at first
+-- the first k of ids are the numbers of the kept checks
+pub record Numbers (t : List ℕ) (m : ℕ) (ids : List ℕ) (k : ℕ) : Type 0 where
+  pub count : k ≡ length (keptOf t m)
+  pub list : take k ids ≡ keptOf t m
+
+-- nothing but zeros
+pub record Zeros (l : List ℕ) : Type 0 where
+  pub each : (i : ℕ) → getD l i 0 ≡ 0
+
+-- check j is live too
+pub record Entered (t : List ℕ) (m j : ℕ) (live₀ count₀ names₀ live count names : List ℕ) : Type 0 where
+  pub flags : live ≡ set live₀ j 1
+  pub noted : Noted count₀ names₀ (check t m j) j count names
+
+-- the kept checks are live
+pub record First (t : List ℕ) (m n : ℕ) (live count names : List ℕ) : Type 0 where
+  pub ready : Ready t m n live count names
+  pub list : lives live 0 m ≡ keptOf t m

@@ -2,9 +2,13 @@
 use live::Found;
 ghost use mathlib.Core.Path.{_≡_};
 ghost use Prim.Native.Nat.{ℕ, _+_, _*_, _≤_, _<_};
-ghost use lib.ListN.{length, getD, take, drop};
+ghost use lib.ListN.{length, getD, take, drop, replicate};
 ghost use Rattle.table.specs.Checks.{check, offset, Checks, Starts};
-ghost use Rattle.peel.specs.Turn.{lives, less, heaviestFrom, weight, In, Ready, Picked, Removed, Peeled};
+ghost use mathlib.Core.List.{map};
+ghost use Rattle.table.specs.Table.{total, number, places, refusal};
+ghost use Rattle.rows.specs.Row.{keptOf};
+ghost use Rattle.peel.specs.Choice.{ChoiceOf};
+ghost use Rattle.peel.specs.Turn.{lives, less, heaviestFrom, weight, In, Ready, Picked, Removed, Peeled, Numbers, Zeros, Entered, First};
 
 pub enum Event {
     Took(usize, usize),
@@ -111,5 +115,148 @@ pub fn peel_checks(
     Counts {
         taken: taken,
         aside: put,
+    }
+}
+
+// check j becomes live
+fn enter(
+    live: &mut [u8],
+    count: &mut [u16],
+    names: &mut [u16],
+    t: &[u16],
+    m: usize,
+    starts: &[u16],
+    j: usize,
+)
+    requires { ⌜ Checks (now t) m (length (now count)) × Starts (now t) m (now starts) × (j < m) × (m ≤ length (now live)) × (length (now count) ≤ length (now names)) × ((p : ℕ) → getD (now count) p 0 ≤ m) ⌝ }
+    ensures { λ _. ⌜ Entered (now (t .entry)) m j (now (live .entry)) (now (count .entry)) (now (names .entry)) (now (live .exit)) (now (count .exit)) (now (names .exit)) ⌝ }
+{
+    live[j] = 1;
+    live::note(count, names, t, wide(starts[j]), wide(t[4 + j]), j as u16);
+}
+
+// the kept checks become live
+fn first_tally(
+    live: &mut [u8],
+    count: &mut [u16],
+    names: &mut [u16],
+    t: &[u16],
+    m: usize,
+    starts: &[u16],
+    ids: &[u16],
+    k: usize,
+)
+    requires { ⌜ Checks (now t) m (length (now count)) × Starts (now t) m (now starts) × Numbers (now t) m (now ids) k × (m ≤ length (now live)) × (length (now count) ≤ length (now names)) × Zeros (now live) × Zeros (now count) × Zeros (now names) ⌝ }
+    ensures { λ _. ⌜ First (now (t .entry)) m (length (now (count .entry))) (now (live .exit)) (now (count .exit)) (now (names .exit)) ⌝ }
+{
+    let mut i = k;
+    while 0 < i {
+        i -= 1;
+        let j = wide(ids[i]);
+        enter(live, count, names, t, m, starts, j);
+    }
+}
+
+// the ones of the kept checks
+fn ones_of(t: &[u16], m: usize, ids: &[u16], k: usize) -> usize
+    requires { ⌜ (m ≤ 512) × (5 + m ≤ length (now t)) × Numbers (now t) m (now ids) k ⌝ }
+    ensures { λ r. ⌜ r ≡ total (map (weight (now (t .entry))) (keptOf (now (t .entry)) m)) ⌝ }
+{
+    let mut sum = 0;
+    let mut i = k;
+    while 0 < i {
+        i -= 1;
+        let j = wide(ids[i]);
+        sum += wide(t[4 + j]);
+    }
+    sum
+}
+
+// steps 2 and 3 for the kept checks, with room for flags, counts and names
+fn peel_live(
+    t: &[u16],
+    m: usize,
+    n: usize,
+    starts: &[u16],
+    ids: &[u16],
+    k: usize,
+    live: &mut [u8],
+    count: &mut [u16],
+    names: &mut [u16],
+    order: &mut [u16],
+    owns: &mut [u16],
+    aside: &mut [u16],
+) -> Counts
+    requires { ⌜ Checks (now t) m n × Starts (now t) m (now starts) × Numbers (now t) m (now ids) k × (n ≡ length (now count)) × (n ≤ length (now names)) × (m ≤ length (now live)) × Zeros (now live) × Zeros (now count) × Zeros (now names) × (m ≤ length (now order)) × (m ≤ length (now owns)) × (m ≤ length (now aside)) ⌝ }
+    ensures { λ r. ⌜ Peeled (check (now (t .entry)) m) m n k (keptOf (now (t .entry)) m) (now (order .exit)) (now (owns .exit)) (now (aside .exit)) (r .taken) (r .aside) ⌝ }
+{
+    first_tally(live, count, names, t, m, starts, ids, k);
+    peel_checks(t, m, n, starts, live, count, names, order, owns, aside, k)
+}
+
+// steps 2 and 3 for the kept checks
+fn peel_kept(
+    t: &[u16],
+    m: usize,
+    n: usize,
+    starts: &[u16],
+    ids: &[u16],
+    k: usize,
+    order: &mut [u16],
+    owns: &mut [u16],
+    aside: &mut [u16],
+) -> Counts
+    requires { ⌜ Checks (now t) m n × Starts (now t) m (now starts) × Numbers (now t) m (now ids) k × (m ≤ length (now order)) × (m ≤ length (now owns)) × (m ≤ length (now aside)) ⌝ }
+    ensures { λ r. ⌜ Peeled (check (now (t .entry)) m) m n k (keptOf (now (t .entry)) m) (now (order .exit)) (now (owns .exit)) (now (aside .exit)) (r .taken) (r .aside) ⌝ }
+{
+    let mut live = [0u8; 512];
+    let mut count = [0u16; 1024];
+    let mut names = [0u16; 1024];
+    peel_live(
+        t,
+        m,
+        n,
+        starts,
+        ids,
+        k,
+        &mut live,
+        &mut count[..n],
+        &mut names,
+        order,
+        owns,
+        aside,
+    )
+}
+
+pub struct Choice {
+    pub kept: usize,
+    pub ones: usize,
+    pub taken: usize,
+    pub aside: usize,
+}
+
+// steps 1 to 3; the work is zero afterwards
+pub fn choose_checks(
+    t: &[u16],
+    m: usize,
+    n: usize,
+    starts: &[u16],
+    work: &mut [u64],
+    order: &mut [u16],
+    owns: &mut [u16],
+    aside: &mut [u16],
+) -> Choice
+    requires { ⌜ (refusal (now t) ≡ 0) × (m ≡ number (now t)) × (n ≡ places (now t)) × Starts (now t) m (now starts) × (length (now work) ≡ 8192) × (512 ≤ length (now order)) × (512 ≤ length (now owns)) × (512 ≤ length (now aside)) ⌝ }
+    ensures { λ r. ⌜ ChoiceOf (now (t .entry)) (now (order .exit)) (now (owns .exit)) (now (aside .exit)) (r .kept) (r .ones) (r .taken) (r .aside) × (now (work .exit) ≡ replicate 8192 0) ⌝ }
+{
+    let mut ids = [0u16; 512];
+    let k = rows::keep_checks(t, m, n, work, &mut ids);
+    let ones = ones_of(t, m, &ids, k);
+    let c = peel_kept(t, m, n, starts, &ids, k, order, owns, aside);
+    Choice {
+        kept: k,
+        ones: ones,
+        taken: c.taken,
+        aside: c.aside,
     }
 }

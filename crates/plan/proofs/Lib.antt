@@ -1,1 +1,4 @@
+pub mod Counts
 pub mod Decoding
+pub mod Marking
+pub mod Passing

@@ -1,6 +1,13 @@
 // A step of a plan, and a plan's look-over.
 ghost use mathlib.Core.Path.{_≡_};
-ghost use Prim.Native.Nat.{_+_, _*_, _<_};
+ghost use Prim.Native.Nat.{ℕ, _+_, _*_, _<_, _≤_};
+ghost use mathlib.Core.List.{[]};
+ghost use mathlib.Core.Option.{some};
+ghost use lib.ListN.{length, getD, drop};
+ghost use Rattle.gf2.specs.Lists.{allPass};
+ghost use Rattle.table.specs.Table.{outside};
+ghost use Rattle.plan.specs.Layout.{planPlaces, planSize, planGap, planKept, infoCount, infoIn, stepCount, badCounts, planRefusal};
+ghost use Rattle.plan.specs.LookOver.{badLengths, badLimits, Marks, Marking, isMarked, writable, goodStepBy};
 ghost use Rattle.plan.specs.Step.{SlotsBelow, pack, unpack, decodedOf};
 
 // clears a slot, or adds one slot into another: Add(to, from)
@@ -53,4 +60,210 @@ impl Step {
         }
         Decoded::Invalid
     }
+}
+
+fn wide(x: u32) -> usize
+    ensures { λ r. ⌜ r ≡ x ⌝ }
+{
+    x as usize
+}
+
+// ---- a plan's counts
+pub fn places(w: &[u32]) -> usize
+    requires { ⌜ 6 < length (now w) ⌝ }
+    ensures { λ r. ⌜ r ≡ planPlaces (now (w .entry)) ⌝ }
+{
+    wide(w[1])
+}
+
+pub fn size(w: &[u32]) -> usize
+    requires { ⌜ 6 < length (now w) ⌝ }
+    ensures { λ r. ⌜ r ≡ planSize (now (w .entry)) ⌝ }
+{
+    wide(w[2])
+}
+
+pub fn gap(w: &[u32]) -> usize
+    requires { ⌜ 6 < length (now w) ⌝ }
+    ensures { λ r. ⌜ r ≡ planGap (now (w .entry)) ⌝ }
+{
+    wide(w[3])
+}
+
+pub fn kept(w: &[u32]) -> usize
+    requires { ⌜ 6 < length (now w) ⌝ }
+    ensures { λ r. ⌜ r ≡ planKept (now (w .entry)) ⌝ }
+{
+    wide(w[4])
+}
+
+pub fn info_count(w: &[u32]) -> usize
+    requires { ⌜ 6 < length (now w) ⌝ }
+    ensures { λ r. ⌜ r ≡ infoCount (now (w .entry)) ⌝ }
+{
+    wide(w[5])
+}
+
+pub fn step_count(w: &[u32]) -> usize
+    requires { ⌜ 6 + infoCount (now w) < length (now w) ⌝ }
+    ensures { λ r. ⌜ r ≡ stepCount (now (w .entry)) ⌝ }
+{
+    wide(w[6 + info_count(w)])
+}
+
+// the k-th information place
+pub fn info_place(w: &[u32], k: usize) -> usize
+    requires { ⌜ (k < infoCount (now w)) × (6 + infoCount (now w) ≤ length (now w)) ⌝ }
+    ensures { λ r. ⌜ r ≡ getD (infoIn (now (w .entry))) k 0 ⌝ }
+{
+    wide(w[6 + k])
+}
+
+// ---- cause 9
+fn beyond(most: usize, x: usize) -> bool
+    ensures { λ r. ⌜ r ≡ outside most x ⌝ }
+{
+    x == 0 || most < x
+}
+
+// wrong counts or length, over 13,344 steps
+fn bad_lengths(w: &[u32]) -> bool
+    requires { ⌜ (6 < length (now w)) × (planKept (now w) ≤ planPlaces (now w)) ⌝ }
+    ensures { λ r. ⌜ r ≡ badLengths (now (w .entry)) ⌝ }
+{
+    let info = info_count(w);
+    if info != places(w) - kept(w) {
+        return true;
+    }
+    if w.len() < 7 + info {
+        return true;
+    }
+    let steps = step_count(w);
+    13344 < steps || w.len() != 7 + info + steps
+}
+
+// n or s beyond limits, g over 32 or over M, M over n or 512
+fn bad_limits(w: &[u32]) -> bool
+    requires { ⌜ 6 < length (now w) ⌝ }
+    ensures { λ r. ⌜ r ≡ badLimits (now (w .entry)) ⌝ }
+{
+    let n = places(w);
+    let g = gap(w);
+    let m = kept(w);
+    if beyond(1024, n) || beyond(1024, size(w)) {
+        return true;
+    }
+    if 32 < g || m < g || n < m || 512 < m {
+        return true;
+    }
+    bad_lengths(w)
+}
+
+fn bad_counts(w: &[u32]) -> bool
+    ensures { λ r. ⌜ r ≡ badCounts (now (w .entry)) ⌝ }
+{
+    if w.len() < 7 {
+        return true;
+    }
+    if w[0] != 4 {
+        return true;
+    }
+    bad_limits(w)
+}
+
+// Marks the information places, a byte a slot; false where one is not below n or does not ascend.
+fn mark_places(w: &[u32], n: usize, marks: &mut [u8]) -> bool
+    requires { ⌜ (6 < length (now w)) × (6 + infoCount (now w) ≤ length (now w)) × (n ≤ length (now marks)) × Marks [] (now marks) ⌝ }
+    ensures { λ r. ⌜ Marking n (infoIn (now (w .entry))) r (now (marks .exit)) ⌝ }
+{
+    let count = info_count(w);
+    let mut low = 0;
+    let mut i = 0;
+    while i < count {
+        let p = info_place(w, i);
+        if p < low {
+            return false;
+        }
+        if n <= p {
+            return false;
+        }
+        marks[p] = 1;
+        low = p + 1;
+        i += 1;
+    }
+    true
+}
+
+// a slot below k without a mark
+fn may_write(k: usize, marks: &[u8], to: usize) -> bool
+    requires { ⌜ k ≤ length (now marks) ⌝ }
+    ensures { λ r. ⌜ r ≡ writable k (isMarked (now (marks .entry))) to ⌝ }
+{
+    if k <= to {
+        return false;
+    }
+    marks[to] != 1
+}
+
+// a slot outside, a slot added into itself, an information place written: none of them
+fn good_step(k: usize, marks: &[u8], x: Step) -> bool
+    requires { ⌜ k ≤ length (now marks) ⌝ }
+    ensures { λ r. ⌜ r ≡ goodStepBy k (isMarked (now (marks .entry))) (some x) ⌝ }
+{
+    match x {
+        Step::Clear(to) => may_write(k, marks, to),
+        Step::Add(to, from) => {
+            if k <= from {
+                return false;
+            }
+            if to == from {
+                return false;
+            }
+            may_write(k, marks, to)
+        }
+    }
+}
+
+// the same of a plan number, and that it is a step
+fn good_number(k: usize, marks: &[u8], word: u32) -> bool
+    requires { ⌜ k ≤ length (now marks) ⌝ }
+    ensures { λ r. ⌜ r ≡ goodStepBy k (isMarked (now (marks .entry))) (unpack word) ⌝ }
+{
+    match Step::unpack(word) {
+        Decoded::Valid(x) => good_step(k, marks, x),
+        Decoded::Invalid => false,
+    }
+}
+
+// all numbers from at on
+fn good_steps(k: usize, marks: &[u8], w: &[u32], at: usize) -> bool
+    requires { ⌜ (k ≤ length (now marks)) × (at ≤ length (now w)) ⌝ }
+    ensures { λ r. ⌜ r ≡ allPass (λ x. goodStepBy k (isMarked (now (marks .entry))) (unpack x)) (drop at (now (w .entry))) ⌝ }
+{
+    let mut i = at;
+    while i < w.len() {
+        if !good_number(k, marks, w[i]) {
+            return false;
+        }
+        i += 1;
+    }
+    true
+}
+
+// The plan's refusal: 9 for a plan that is not well-formed, 0 for none.
+pub fn look_over(w: &[u32]) -> u32
+    ensures { λ r. ⌜ r ≡ planRefusal (now (w .entry)) ⌝ }
+{
+    if bad_counts(w) {
+        return 9;
+    }
+    let n = places(w);
+    let mut marks = [0u8; 1056];
+    if !mark_places(w, n, &mut marks) {
+        return 9;
+    }
+    if !good_steps(n + gap(w), &marks, w, 7 + info_count(w)) {
+        return 9;
+    }
+    0
 }

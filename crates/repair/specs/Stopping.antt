@@ -74,7 +74,7 @@ pub first-lost : (f : ℕ → Bool) (c : List ℕ) → length (filter f c) ≡ 1
 first-lost f [] l = absurd (omega arith)
 first-lost f (x ∷ c) l = byBool (f x) (λ t. rw (t, filter) t) (λ t. rw (t, filter) (first-lost f c (rw (t, filter) at l)))
 
-no-lost : (lost : List ℕ) → lostIn lost ≡ 0 → (p : ℕ) → isLost lost p ≡ false
+pub no-lost : (lost : List ℕ) → lostIn lost ≡ 0 → (p : ℕ) → isLost lost p ≡ false
 no-lost [] h p = refl
 no-lost (x ∷ l) h zero = byBool (eqb x 1) (λ e. absurd (omega (arith, rw (e, lostIn) at h))) (λ e. e)
 no-lost (x ∷ l) h (suc p) = byBool (eqb x 1) (λ e. absurd (omega (arith, rw (e, lostIn) at h))) (λ e. no-lost l (rw (e, lostIn) at h) p)

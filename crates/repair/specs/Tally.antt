@@ -41,6 +41,6 @@ none-restored nil = refl
 none-restored (cons {x = x} h a) = byBool (eqb x 2) (λ e. let q = eqb-true x 2 e in absurd (omega arith)) (λ e. rw (e, restoredIn) (none-restored a))
 
 -- for a map of bytes 0 and 1
-pub tally : (n s : ℕ) (cs b : List (List ℕ)) (lost : List ℕ) → All (λ x. x ≤ 1) lost
+pub restored-and-lost : (n s : ℕ) (cs b : List (List ℕ)) (lost : List ℕ) → All (λ x. x ≤ 1) lost
     → restoredIn (repaired n s cs b lost .lost) + lostIn (repaired n s cs b lost .lost) ≡ lostIn lost
-tally n s cs b lost h = mend-tally n s cs _ ∙ let z = none-restored h in omega arith
+restored-and-lost n s cs b lost h = mend-tally n s cs _ ∙ let z = none-restored h in omega arith

@@ -59,20 +59,20 @@ sum-agree s b e nil = refl
 sum-agree s b e (cons h a) = ap₂ (add XorGroup) h (sum-agree s b e a)
 
 -- ---- the start
-wipe-length : (s : ℕ) (lost : List ℕ) (b : List (List ℕ)) → length (zeroLost s lost b) ≡ length b
+pub wipe-length : (s : ℕ) (lost : List ℕ) (b : List (List ℕ)) → length (zeroLost s lost b) ≡ length b
 wipe-length s [] b = refl
 wipe-length s (l ∷ ls) [] = refl
 wipe-length s (l ∷ ls) (p ∷ b) = ap suc (wipe-length s ls b)
 
 -- received packets stand
-wipe-kept : (s : ℕ) (lost : List ℕ) (b : List (List ℕ)) (p : ℕ) → isLost lost p ≡ false → getD (zeroLost s lost b) p [] ≡ getD b p []
+pub wipe-kept : (s : ℕ) (lost : List ℕ) (b : List (List ℕ)) (p : ℕ) → isLost lost p ≡ false → getD (zeroLost s lost b) p [] ≡ getD b p []
 wipe-kept s [] b p h = refl
 wipe-kept s (l ∷ ls) [] p h = refl
 wipe-kept s (l ∷ ls) (x ∷ b) zero h = rw h
 wipe-kept s (l ∷ ls) (x ∷ b) (suc p) h = wipe-kept s ls b p h
 
 -- lost ones are zero
-wipe-zero : (s : ℕ) (lost : List ℕ) (b : List (List ℕ)) (p : ℕ) → p < length b → isLost lost p ≡ true → getD (zeroLost s lost b) p [] ≡ replicate s 0
+pub wipe-zero : (s : ℕ) (lost : List ℕ) (b : List (List ℕ)) (p : ℕ) → p < length b → isLost lost p ≡ true → getD (zeroLost s lost b) p [] ≡ replicate s 0
 wipe-zero s [] b p l h = absurd (false≢true h)
 wipe-zero s (l ∷ ls) [] p k h = absurd (omega arith)
 wipe-zero s (l ∷ ls) (x ∷ b) zero k h = rw h
@@ -90,7 +90,7 @@ all-units [] = nil
 all-units (x ∷ l) = cons tt (all-units l)
 
 -- ---- what repair leaves alone: places that were received, and places that stay lost
-mend-kept : (k s : ℕ) (cs : List (List ℕ)) (m : State) (p : ℕ) → isLost (m .lost) p ≡ false → getD (restoring k s cs m .block) p [] ≡ getD (m .block) p []
+pub mend-kept : (k s : ℕ) (cs : List (List ℕ)) (m : State) (p : ℕ) → isLost (m .lost) p ≡ false → getD (restoring k s cs m .block) p [] ≡ getD (m .block) p []
 mend-kept zero s cs m p h = refl
 mend-kept (suc k) s cs m p h = byOpt (ready (m .lost) cs)
     (λ c r. let w = ready-all (m .lost) (all-units cs) c r in
@@ -100,7 +100,7 @@ mend-kept (suc k) s cs m p h = byOpt (ready (m .lost) cs)
     (λ r. rw (r, restoring))
 
 -- a place that stays lost is not written
-mend-left : (k s : ℕ) (cs : List (List ℕ)) (m : State) (p : ℕ) → isLost (restoring k s cs m .lost) p ≡ true → getD (restoring k s cs m .block) p [] ≡ getD (m .block) p []
+pub mend-left : (k s : ℕ) (cs : List (List ℕ)) (m : State) (p : ℕ) → isLost (restoring k s cs m .lost) p ≡ true → getD (restoring k s cs m .block) p [] ≡ getD (m .block) p []
 mend-left zero s cs m p h = refl
 mend-left (suc k) s cs m p h = byOpt (ready (m .lost) cs)
     (λ c r. let w = ready-all (m .lost) (all-units cs) c r in

@@ -4,13 +4,16 @@ use mathlib.Core.Bool.{Bool, true, false, _&&_, true≢false, false≢true}
 use mathlib.Core.List.{List, [], _∷_}
 use mathlib.Core.Logic.{_≢_}
 use mathlib.Core.Option.{Option, none, some}
-use Prim.Native.Nat.{ℕ, zero, suc, _+_, _<_, _≤_}
+use Prim.Native.Nat.{ℕ, zero, suc, _+_, _*_, _<_, _≤_}
 use native.Mathlib.Omega.{arith}
 use lib.Dec.{eqb}
 use lib.ListN.{length, getD, take, replicate}
-use Rattle.gf2.specs.Bit.{eqb-true}
-use Rattle.table.specs.Packets.{packetSum}
-use Rattle.repair.specs.Verify.{zeroSum, failing}
+use Rattle.gf2.specs.Bit.{eqb-true, eqb-self}
+use Rattle.table.specs.Packets.{packets, packetSum}
+use Rattle.table.specs.Table.{places, size, checks, refusal}
+use Rattle.repair.specs.Verify.{zeroSum, failing, verdict, verification}
+use Rattle.repair.specs.declared.Verified.{Verified}
+use Rattle.repair.specs.declared.Verified.the-variants.{Refused, Codeword, Fails}
 use Rattle.gf2.specs.Lists.{sameList}
 use Rattle.gf2.specs.Span.{byBool}
 use Rattle.repair.specs.Values.{same-self}
@@ -60,3 +63,44 @@ verify-lowest s b i (c ∷ cs) k h = byBool (zeroSum s b c)
   where
     inj : {u v : ℕ} → _≡_ {A = Option ℕ} (some u) (some v) → u ≡ v
     inj p = cc
+
+-- ---- the call by cases
+abbrev answers : ℕ → Bool → Bool → Option ℕ → Verified
+answers r table block v = elim table [ false ↦ Refused r | true ↦ elim block [ false ↦ Refused 5 | true ↦ verdict v ] ]
+
+by-answers : (t b : List ℕ) → verification t b ≡ answers (refusal t) (eqb (refusal t) 0) (eqb (length b) (places t * size t)) (failing (size t) (packets (size t) (places t) b) 0 (checks t))
+unfolding verification
+by-answers t b = refl
+
+-- a verdict is given only where nothing refuses
+judged : (r : ℕ) (a b : Bool) (v : Option ℕ) (x : Verified) → answers r a b v ≡ x → ((q : ℕ) → x ≡ Refused q → ⊥) → (a ≡ true) × ((b ≡ true) × (verdict v ≡ x))
+judged r false b v x h k = absurd (k r (sym h))
+judged r true false v x h k = absurd (k 5 (sym h))
+judged r true true v x h k = (refl, (refl, h))
+
+-- the verdict of a call that is not refused
+pub verification-is : (t b : List ℕ) → refusal t ≡ 0 → length b ≡ places t * size t → verification t b ≡ verdict (failing (size t) (packets (size t) (places t) b) 0 (checks t))
+verification-is t b ok l =
+    let e1 : eqb (refusal t) 0 ≡ true = ap (λ x. eqb x 0) ok in
+    let e2 : eqb (length b) (places t * size t) ≡ true = ap (λ x. eqb x (places t * size t)) l ∙ eqb-self (places t * size t) in
+    by-answers t b ∙ rw (e1, e2)
+
+-- a table that is refused
+pub verification-refused : (t b : List ℕ) → refusal t ≢ 0 → verification t b ≡ Refused (refusal t)
+verification-refused t b ne =
+    let e : eqb (refusal t) 0 ≡ false = byBool (eqb (refusal t) 0) (λ z. absurd (ne (eqb-true (refusal t) 0 z))) (λ z. z) in
+    by-answers t b ∙ rw e
+
+-- a block of another length
+pub verification-short : (t b : List ℕ) → refusal t ≡ 0 → length b ≢ places t * size t → verification t b ≡ Refused 5
+verification-short t b ok ne =
+    let e1 : eqb (refusal t) 0 ≡ true = ap (λ x. eqb x 0) ok in
+    let e2 : eqb (length b) (places t * size t) ≡ false = byBool (eqb (length b) (places t * size t)) (λ z. absurd (ne (eqb-true _ _ z))) (λ z. z) in
+    by-answers t b ∙ rw (e1, e2)
+
+-- and the other way: a verdict says that nothing refuses
+pub verification-judged : (t b : List ℕ) (x : Verified) → verification t b ≡ x → ((q : ℕ) → x ≡ Refused q → ⊥)
+    → (refusal t ≡ 0) × ((length b ≡ places t * size t) × (verdict (failing (size t) (packets (size t) (places t) b) 0 (checks t)) ≡ x))
+verification-judged t b x h k =
+    let r = judged (refusal t) (eqb (refusal t) 0) (eqb (length b) (places t * size t)) (failing (size t) (packets (size t) (places t) b) 0 (checks t)) x (sym (by-answers t b) ∙ h) k in
+    (eqb-true (refusal t) 0 (r .0), (eqb-true (length b) (places t * size t) (r .1 .0), r .1 .1))

@@ -207,7 +207,7 @@ pub fn part(block: &[u8], place: usize, s: usize) -> &[u8]
 }
 
 // the packet at a place, or the empty part
-pub fn packet(n: usize, s: usize, place: usize, block: &[u8]) -> &[u8]
+pub fn packet_part(n: usize, s: usize, place: usize, block: &[u8]) -> &[u8]
     ensures { λ r. ⌜ now r ≡ packetPart n s place (now (block .entry)) ⌝ }
 {
     if packet_refusal(n, s, place, block.len()) == 0 {
@@ -216,15 +216,37 @@ pub fn packet(n: usize, s: usize, place: usize, block: &[u8]) -> &[u8]
     &block[..0]
 }
 
+// what refuses a packet call over a block
+fn packet_number(n: usize, s: usize, place: usize, block: &[u8]) -> u32
+    ensures { λ r. ⌜ r ≡ packetRefusal n s place (length (now (block .entry))) ⌝ }
+{
+    packet_refusal(n, s, place, block.len())
+}
+
+// the answer of a packet call: 0 and the packet, or the number of a refusal and the empty part
+pub struct Packet<'a> {
+    pub refusal: u32,
+    pub part: &'a [u8],
+}
+
+pub fn packet_call<'a>(n: usize, s: usize, place: usize, block: &'a [u8]) -> Packet<'a>
+    ensures { λ r. ⌜ (r .refusal ≡ packetRefusal n s place (length (now (block .entry)))) × (now (r .part) ≡ packetPart n s place (now (block .entry))) ⌝ }
+{
+    let part = packet_part(n, s, place, block);
+    let refusal = packet_number(n, s, place, block);
+    Packet { refusal, part }
+}
+
 // ---- packets
+ghost use mathlib.Core.List.{[], _∷_};
 ghost use mathlib.Core.Path.{_≡_};
 ghost use Prim.Native.Nat.{ℕ, _+_, _*_, _≤_, _<_};
-ghost use lib.ListN.{length, getD, take, drop, replicate};
+ghost use lib.ListN.{length, getD, set, take, drop, replicate};
 ghost use Rattle.gf2.specs.Group.{XorGroup};
 ghost use Rattle.gf2.specs.Places.{minus};
 ghost use Rattle.gf2.specs.Vectors.{add as addVectors};
 ghost use Rattle.table.specs.Checks.{CheckIn};
-ghost use Rattle.table.specs.Packets.{Room, packets, joined, packetSum, written, mixed, lowestNonzero};
+ghost use Rattle.table.specs.Packets.{Room, packets, joined, packetSum, written, mixed, lowestNonzero, withOthers};
 
 // s zeros are written at at.
 pub fn clear(b: &mut [u8], at: usize, s: usize)
@@ -432,4 +454,28 @@ pub fn sum_of_check(t: &[u16], at: usize, weight: usize, block: &[u8], n: usize,
         i += 64;
     }
     i + lowest_in_rest(t, at, weight, block, n, s, i)
+}
+
+// The packets of a check's other places are added into the packet at place p.
+fn add_others(t: &[u16], at: usize, weight: usize, block: &mut [u8], n: usize, s: usize, p: usize)
+    requires { ⌜ CheckIn (now t) at weight (now block) n s × (p < n) ⌝ }
+    ensures { λ _. ⌜ now (block .exit) ≡ withOthers (now (block .entry)) n s (take weight (drop at (now (t .entry)))) p ⌝ }
+{
+    let mut m = 0;
+    while m < weight {
+        let q = place_of(t[at + m]);
+        if q != p {
+            add(block, p * s, q * s, s);
+        }
+        m += 1;
+    }
+}
+
+// The packet at place p becomes the sum of the packets of the check's other places.
+pub fn restore(t: &[u16], at: usize, weight: usize, block: &mut [u8], n: usize, s: usize, p: usize)
+    requires { ⌜ CheckIn (now t) at weight (now block) n s × (p < n) ⌝ }
+    ensures { λ _. ⌜ now (block .exit) ≡ joined (set (packets s n (now (block .entry))) p (packetSum s (packets s n (now (block .entry))) (minus (take weight (drop at (now (t .entry)))) (p ∷ [])))) ⌝ }
+{
+    clear(block, p * s, s);
+    add_others(t, at, weight, block, n, s, p);
 }

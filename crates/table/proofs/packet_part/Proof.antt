@@ -1,9 +1,9 @@
--- `packet` meets its contract.
+-- `packet_part` meets its contract.
 use mathlib.Core.Path.{sym, _∙_}
 use borrow.Author.Needs.{needs}
 use Rattle.table.proofs.Calling.{packet-room, part-given, part-empty}
-use Rattle.table.proofs.packet.Statement.{statement}
-use Rattle.table.proofs.packet.Tie as tie
+use Rattle.table.proofs.packet_part.Statement.{statement}
+use Rattle.table.proofs.packet_part.Tie as tie
 
 packet-refusal-requires : tie.Need-packet-refusal-requires
 packet-refusal-requires c κs = search needs
@@ -20,7 +20,7 @@ slice-aggregate-result c = search needs
 returns-2 : tie.Need-returns-2
 returns-2 c = part-empty (c .before .before .before .before .args .n) (c .before .before .before .before .args .s) (c .before .before .before .before .args .place) (c .before .before .before .before .args .block .now) (λ z. c .before .if1 .left (c .before .before .packet-refusal .ensures ∙ z))
 
-pub packet-spec : {M : Type 1} → statement M
-packet-spec =
+pub packet-part-spec : {M : Type 1} → statement M
+packet-part-spec =
     tie.close
     (tie.spec packet-refusal-requires part-requires returns slice-aggregate-result returns-2)

@@ -1,0 +1,221 @@
+use mathlib.Core.List.{map}
+use Rattle.gf2.specs.Places.{rowOf}
+use Rattle.table.specs.Checks.{check, offset, Places}
+use Rattle.columns.specs.Cols.{Columns}
+use Rattle.columns.proofs.Laws.{fill-turn, unit-word}
+use Prim.Native.Nat.{ℕ, zero, suc, _+_, _-_, _*_, _/_, _%_, _^_, _≤_, _<_}
+use mathlib.Core.Path.{_≡_, refl, sym, ap, ap₂, _∙_, subst}
+use mathlib.Core.Bool.{Bool, true, false}
+use mathlib.Core.List.{List, [], _∷_, _++_}
+use mathlib.Core.Logic.{⊎-elim}
+use native.Mathlib.Omega.{arith}
+use lib.ListN.{length, getD, set, take, drop, length-set}
+use borrow.Author.Needs.{needs}
+use Rattle.columns.proofs.fill_columns.Statement.{statement}
+use Rattle.columns.proofs.fill_columns.Tie as tie
+use Rattle.columns.proofs.fill_columns.Reads as reads
+use Rattle.columns.proofs.fill_columns.Lts as lts
+use Rattle.columns.proofs.spread.Reads as spread-reads
+use Rattle.columns.proofs.wide.Reads as wide-reads
+
+abbrev Inv-loop : tie.InvT-loop
+Inv-loop col₀ t m starts aside g i₀ col i = (i ≤ g) × (length col ≡ length col₀) × Columns (map rowOf (map (check t m) (take i aside))) col
+
+abbrev μ-loop : tie.MeasureT-loop
+μ-loop col₀ t m starts aside g i₀ col i = g - i
+
+loop-holds : tie.Need-loop-holds Inv-loop μ-loop
+loop-holds c = (omega arith, refl, c .before .before .before .before .pre .1)
+
+mul-wide : tie.Need-mul-wide Inv-loop μ-loop
+mul-wide c =
+    let s = c .before .loop in
+    let less = c .loop-test .taken in
+    let v = c .before .before .before .before .before .before .pre .0 in
+    let jm = v .numbers (s .i) less in
+    let few = v .few in
+    let room = v .room in
+    let wts = v .checks .weights in
+    let sr = v .starts-at .room in
+    omega arith
+
+shared-slice-read-wide : tie.Need-shared-slice-read-wide Inv-loop μ-loop
+shared-slice-read-wide c =
+    let s = c .before .before .loop in
+    let less = c .before .loop-test .taken in
+    let v = c .before .before .before .before .before .before .before .pre .0 in
+    let jm = v .numbers (s .i) less in
+    let few = v .few in
+    let room = v .room in
+    let wts = v .checks .weights in
+    let sr = v .starts-at .room in
+    omega arith
+
+wide-requires : tie.Need-wide-requires Inv-loop μ-loop
+wide-requires c κs = omega arith
+
+mul-wide-2 : tie.Need-mul-wide-2 Inv-loop μ-loop
+mul-wide-2 c =
+    let s = c .before .before .before .before .loop in
+    let less = c .before .before .before .loop-test .taken in
+    let v = c .before .before .before .before .before .before .before .before .before .pre .0 in
+    let jm = v .numbers (s .i) less in
+    let few = v .few in
+    let room = v .room in
+    let wts = v .checks .weights in
+    let sr = v .starts-at .room in
+    omega arith
+
+shared-slice-read-wide-2 : tie.Need-shared-slice-read-wide-2 Inv-loop μ-loop
+shared-slice-read-wide-2 c =
+    let s = c .before .before .before .before .before .loop in
+    let less = c .before .before .before .before .loop-test .taken in
+    let v = c .before .before .before .before .before .before .before .before .before .before .pre .0 in
+    let jm = v .numbers (s .i) less in
+    let few = v .few in
+    let room = v .room in
+    let wts = v .checks .weights in
+    let sr = v .starts-at .room in
+    omega arith
+
+wide-requires-2 : tie.Need-wide-requires-2 Inv-loop μ-loop
+wide-requires-2 c κs = omega arith
+
+add-wide : tie.Need-add-wide Inv-loop μ-loop
+add-wide c =
+    let s = c .before .before .before .before .before .before .loop in
+    let less = c .before .before .before .before .before .loop-test .taken in
+    let v = c .before .before .before .before .before .before .before .before .before .before .before .pre .0 in
+    let jm = v .numbers (s .i) less in
+    let few = v .few in
+    let room = v .room in
+    let wts = v .checks .weights in
+    let sr = v .starts-at .room in
+    omega arith
+
+mul-wide-3 : tie.Need-mul-wide-3 Inv-loop μ-loop
+mul-wide-3 c =
+    let s = c .before .before .before .before .before .before .loop in
+    let less = c .before .before .before .before .before .loop-test .taken in
+    let v = c .before .before .before .before .before .before .before .before .before .before .before .pre .0 in
+    let jm = v .numbers (s .i) less in
+    let few = v .few in
+    let room = v .room in
+    let wts = v .checks .weights in
+    let sr = v .starts-at .room in
+    omega arith
+
+shared-slice-read-wide-3 : tie.Need-shared-slice-read-wide-3 Inv-loop μ-loop
+shared-slice-read-wide-3 c =
+    let s = c .before .before .before .before .before .before .before .loop in
+    let less = c .before .before .before .before .before .before .loop-test .taken in
+    let v = c .before .before .before .before .before .before .before .before .before .before .before .before .pre .0 in
+    let jm = v .numbers (s .i) less in
+    let few = v .few in
+    let room = v .room in
+    let wts = v .checks .weights in
+    let sr = v .starts-at .room in
+    omega arith
+
+wide-requires-3 : tie.Need-wide-requires-3 Inv-loop μ-loop
+wide-requires-3 c κs = omega arith
+
+cast-spread : tie.Need-cast-spread Inv-loop μ-loop
+cast-spread c =
+    let s = c .before .before .before .before .before .before .before .before .loop in
+    let less = c .before .before .before .before .before .before .before .loop-test .taken in
+    let v = c .before .before .before .before .before .before .before .before .before .before .before .before .before .pre .0 in
+    let jm = v .numbers (s .i) less in
+    let few = v .few in
+    let room = v .room in
+    let wts = v .checks .weights in
+    let sr = v .starts-at .room in
+    omega arith
+
+shl-spread : tie.Need-shl-spread Inv-loop μ-loop
+shl-spread c =
+    let s = c .before .before .before .before .before .before .before .before .loop in
+    let less = c .before .before .before .before .before .before .before .loop-test .taken in
+    let v = c .before .before .before .before .before .before .before .before .before .before .before .before .before .pre .0 in
+    let jm = v .numbers (s .i) less in
+    let few = v .few in
+    let room = v .room in
+    let wts = v .checks .weights in
+    let sr = v .starts-at .room in
+    omega arith
+
+spread-requires : tie.Need-spread-requires Inv-loop μ-loop
+spread-requires c κs =
+    let s = c .before .before .before .before .before .before .before .before .loop in
+    let less = c .before .before .before .before .before .before .before .loop-test .taken in
+    let v = c .before .before .before .before .before .before .before .before .before .before .before .before .before .pre .0 in
+    let jm = v .numbers (s .i) less in
+    let few = v .few in
+    let room = v .room in
+    let wts = v .checks .weights in
+    let sr = v .starts-at .room in
+    let a = c .before .before .before .before .before .before .before .before .before .before .before .before .before .args in
+    let j = c .before .before .before .before .before .wide .result in
+    let jl : j < a .m = omega (arith, c .before .before .before .before .before .wide .ensures) in
+    let e1 : c .before .before .wide2 .result ≡ 5 + a .m + offset (a .t .now) j = c .before .before .wide2 .ensures ∙ v .starts-at .each j jl in
+    let e2 : c .wide3 .result ≡ getD (a .t .now) (4 + j) 0 = c .wide3 .ensures in
+    let pl : Places (a .t .now) (5 + a .m + offset (a .t .now) j) (getD (a .t .now) (4 + j) 0) (length (s .col)) = rw (s .inv .1) (v .checks .each j jl) in
+    rw (e1, e2) pl
+
+add-i : tie.Need-add-i Inv-loop μ-loop
+add-i c = omega arith
+
+loop-less : tie.Need-loop-less Inv-loop μ-loop
+loop-less c = omega arith
+
+loop-again : tie.Need-loop-again Inv-loop μ-loop
+loop-again c =
+    let s = c .before .before .before .before .before .before .before .before .before .before .before .loop in
+    let less = c .before .before .before .before .before .before .before .before .before .before .loop-test .taken in
+    let v = c .before .before .before .before .before .before .before .before .before .before .before .before .before .before .before .before .pre .0 in
+    let jm = v .numbers (s .i) less in
+    let few = v .few in
+    let room = v .room in
+    let wts = v .checks .weights in
+    let sr = v .starts-at .room in
+    let a = c .before .before .before .before .before .before .before .before .before .before .before .before .before .before .before .before .args in
+    let j = c .before .before .before .before .before .before .before .before .wide .result in
+    let jl : j < a .m = omega (arith, c .before .before .before .before .before .before .before .before .wide .ensures) in
+    let e1 : c .before .before .before .before .before .wide2 .result ≡ 5 + a .m + offset (a .t .now) j = c .before .before .before .before .before .wide2 .ensures ∙ v .starts-at .each j jl in
+    let e2 : c .before .before .before .wide3 .result ≡ getD (a .t .now) (4 + j) 0 = c .before .before .before .wide3 .ensures in
+    (omega arith, c .before .col .given ∙ s .inv .1, fill-turn _ _ _ j _ _ (s .i) _ _ (v .checks .each j jl) (omega arith) (c .before .before .before .before .before .before .before .before .wide .ensures) e1 e2 (unit-word (s .i) (omega arith)) (s .inv .2) (c .before .before .spread .ensures))
+
+same-length : tie.Need-same-length Inv-loop μ-loop
+same-length c = c .before .loop .inv .1
+
+returns : tie.Need-returns Inv-loop μ-loop
+returns c =
+    let s = c .before .loop in
+    let e : s .i ≡ c .before .before .before .before .before .before .args .g = omega arith in
+    rw e at (s .inv .2)
+
+pub fill-columns-spec : {M : Type 1} → statement M
+fill-columns-spec =
+    tie.close
+    (tie.spec
+    Inv-loop
+    μ-loop
+    loop-holds
+    mul-wide
+    shared-slice-read-wide
+    wide-requires
+    mul-wide-2
+    shared-slice-read-wide-2
+    wide-requires-2
+    add-wide
+    mul-wide-3
+    shared-slice-read-wide-3
+    wide-requires-3
+    cast-spread
+    shl-spread
+    spread-requires
+    add-i
+    loop-less
+    loop-again
+    same-length
+    returns)

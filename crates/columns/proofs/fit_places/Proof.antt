@@ -1,0 +1,62 @@
+use Rattle.columns.proofs.Inverse.{asks-aside, asks-taken, no-columns, all-fitted}
+use Prim.Native.Nat.{ℕ, zero, suc, _+_, _-_, _*_, _/_, _%_, _^_, _≤_, _<_}
+use mathlib.Core.Path.{_≡_, refl, sym, ap, ap₂, _∙_, subst}
+use mathlib.Core.Bool.{Bool, true, false}
+use mathlib.Core.List.{List, [], _∷_, _++_}
+use mathlib.Core.Logic.{⊎-elim}
+use native.Mathlib.Omega.{arith}
+use lib.ListN.{length, getD, set, take, drop, length-set}
+use borrow.Author.Needs.{needs}
+use Rattle.columns.proofs.fit_places.Statement.{statement}
+use Rattle.columns.proofs.fit_places.Tie as tie
+use Rattle.columns.proofs.fit_places.Reads as reads
+use Rattle.columns.proofs.fit_places.Lts as lts
+use Rattle.columns.proofs.fill_columns.Reads as fill-columns-reads
+use Rattle.columns.proofs.fit.Reads as fit-reads
+use Rattle.columns.proofs.push_all.Reads as push-all-reads
+use Rattle.columns.proofs.units.Reads as units-reads
+
+slice-aggregate-fill-columns : tie.Need-slice-aggregate-fill-columns
+slice-aggregate-fill-columns c = search needs
+
+fill-columns-requires : tie.Need-fill-columns-requires
+fill-columns-requires c κs = (asks-aside _ (c .before .before .before .before .before .before .before .before .pre .0) (omega arith), no-columns 1024)
+
+slice-aggregate-push-all : tie.Need-slice-aggregate-push-all
+slice-aggregate-push-all c = search needs
+
+push-all-requires : tie.Need-push-all-requires
+push-all-requires c κs = asks-taken _ (c .before .before .before .before .before .before .before .before .before .before .before .pre .0) (omega arith)
+
+units-requires : tie.Need-units-requires
+units-requires c κs = search needs
+
+slice-aggregate-fit : tie.Need-slice-aggregate-fit
+slice-aggregate-fit c = search needs
+
+fit-requires : tie.Need-fit-requires
+fit-requires c κs = search needs
+
+same-length : tie.Need-same-length
+same-length c = search needs
+
+same-length-2 : tie.Need-same-length-2
+same-length-2 c = search needs
+
+returns : tie.Need-returns
+returns c = all-fitted (c .before .before .before .before .before .before .before .before .before .before .before .before .before .before .before .before .before .before .before .before .before .before .before .before .before .pre .0) _ (c .before .before .before .before .before .before .before .before .before .before .before .before .before .push-all .ensures _ (c .before .before .before .before .before .before .before .before .before .before .before .before .before .before .before .before .fill-columns .ensures)) (c .before .before .before .before .before .before .before .before .before .before .units .ensures) (omega arith) (omega arith) (c .before .before .before .before .fit .ensures)
+
+pub fit-places-spec : {M : Type 1} → statement M
+fit-places-spec =
+    tie.close
+    (tie.spec
+    slice-aggregate-fill-columns
+    fill-columns-requires
+    slice-aggregate-push-all
+    push-all-requires
+    units-requires
+    slice-aggregate-fit
+    fit-requires
+    same-length
+    same-length-2
+    returns)

@@ -1,0 +1,26 @@
+use Rattle.columns.proofs.Masks.{mended-on, mended-off}
+use Prim.Native.Nat.{ℕ, zero, suc, _+_, _-_, _*_, _/_, _%_, _^_, _≤_, _<_}
+use mathlib.Core.Path.{_≡_, refl, sym, ap, ap₂, _∙_, subst}
+use mathlib.Core.Bool.{Bool, true, false}
+use mathlib.Core.List.{List, [], _∷_, _++_}
+use mathlib.Core.Logic.{⊎-elim}
+use native.Mathlib.Omega.{arith}
+use lib.ListN.{length, getD, set, take, drop, length-set}
+use borrow.Author.Needs.{needs}
+use Rattle.columns.proofs.mend_one.Statement.{statement}
+use Rattle.columns.proofs.mend_one.Tie as tie
+use Rattle.columns.proofs.mend_one.Reads as reads
+use Rattle.columns.proofs.mend_one.Lts as lts
+use Rattle.columns.proofs.sees.Reads as sees-reads
+
+sees-requires : tie.Need-sees-requires
+sees-requires c κs = search needs
+
+returns : tie.Need-returns
+returns c = mended-on _ _ _ (sym (c .before .sees .ensures) ∙ c .if1 .taken)
+
+returns-2 : tie.Need-returns-2
+returns-2 c = mended-off _ _ _ (sym (c .before .sees .ensures) ∙ c .if1 .left)
+
+pub mend-one-spec : {M : Type 1} → statement M
+mend-one-spec = tie.close (tie.spec sees-requires returns returns-2)

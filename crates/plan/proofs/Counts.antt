@@ -1,0 +1,68 @@
+-- The tests of the counts, one after the other: what the first that fires, or the last, says of all.
+use mathlib.Core.Path.{_≡_}
+use mathlib.Core.Bool.{true, false, not}
+use mathlib.Core.List.{List}
+use Prim.Native.Nat.{ℕ, _+_, _-_, _<_, _≤_}
+use borrow.Author.Tests.{eq-eqb, ne-eqb, lt-ltb, le-ltb}
+use lib.Dec.{eqb, ltb}
+use lib.ListN.{length, getD}
+use Rattle.table.specs.Table.{outside}
+use Rattle.plan.specs.Layout.{planPlaces, planSize, planGap, planKept, infoCount, stepCount, badCounts}
+use Rattle.plan.specs.LookOver.{badLengths, badLimits}
+
+pub outside-zero : (most x : ℕ) → x ≡ 0 → true ≡ outside most x
+outside-zero most x h = rw h
+
+pub outside-most : (most x : ℕ) → (x ≡ 0 → ⊥) → ltb most x ≡ outside most x
+outside-most most x h = rw (ne-eqb x 0 h)
+
+module _ (w : List ℕ) where
+  pub lengths-info : (infoCount w ≡ planPlaces w - planKept w → ⊥) → true ≡ badLengths w
+  lengths-info a = rw (ne-eqb (infoCount w) (planPlaces w - planKept w) a)
+
+  pub lengths-short : infoCount w ≡ planPlaces w - planKept w → length w < 7 + infoCount w → true ≡ badLengths w
+  lengths-short a b = rw (eq-eqb (infoCount w) (planPlaces w - planKept w) a, lt-ltb (length w) (7 + infoCount w) b)
+
+  pub lengths-steps : infoCount w ≡ planPlaces w - planKept w → 7 + infoCount w ≤ length w → 13344 < stepCount w → true ≡ badLengths w
+  lengths-steps a b d =
+      rw (eq-eqb (infoCount w) (planPlaces w - planKept w) a, le-ltb (length w) (7 + infoCount w) b, lt-ltb 13344 (stepCount w) d)
+
+  pub lengths-last : infoCount w ≡ planPlaces w - planKept w → 7 + infoCount w ≤ length w → stepCount w ≤ 13344
+      → not (eqb (length w) (7 + infoCount w + stepCount w)) ≡ badLengths w
+  lengths-last a b d =
+      rw (eq-eqb (infoCount w) (planPlaces w - planKept w) a, le-ltb (length w) (7 + infoCount w) b, le-ltb 13344 (stepCount w) d)
+
+  pub limits-places : outside 1024 (planPlaces w) ≡ true → true ≡ badLimits w
+  limits-places a = rw a
+
+  module _ (a : outside 1024 (planPlaces w) ≡ false) where
+    pub limits-size : outside 1024 (planSize w) ≡ true → true ≡ badLimits w
+    limits-size b = rw (a, b)
+
+    module _ (b : outside 1024 (planSize w) ≡ false) where
+      pub limits-gap : 32 < planGap w → true ≡ badLimits w
+      limits-gap d = rw (a, b, lt-ltb 32 (planGap w) d)
+
+      module _ (d : planGap w ≤ 32) where
+        pub limits-aside : planKept w < planGap w → true ≡ badLimits w
+        limits-aside e = rw (a, b, le-ltb 32 (planGap w) d, lt-ltb (planKept w) (planGap w) e)
+
+        module _ (e : planGap w ≤ planKept w) where
+          pub limits-kept : planPlaces w < planKept w → true ≡ badLimits w
+          limits-kept f = rw (a, b, le-ltb 32 (planGap w) d, le-ltb (planKept w) (planGap w) e, lt-ltb (planPlaces w) (planKept w) f)
+
+          module _ (f : planKept w ≤ planPlaces w) where
+            pub limits-checks : 512 < planKept w → true ≡ badLimits w
+            limits-checks h = rw (a, b, le-ltb 32 (planGap w) d, le-ltb (planKept w) (planGap w) e, le-ltb (planPlaces w) (planKept w) f, lt-ltb 512 (planKept w) h)
+
+            pub limits-last : planKept w ≤ 512 → badLengths w ≡ badLimits w
+            limits-last h = rw (a, b, le-ltb 32 (planGap w) d, le-ltb (planKept w) (planGap w) e, le-ltb (planPlaces w) (planKept w) f, le-ltb 512 (planKept w) h)
+
+  pub counts-short : length w < 7 → true ≡ badCounts w
+  counts-short a = rw (lt-ltb (length w) 7 a)
+
+  pub counts-first : 7 ≤ length w → (getD w 0 0 ≡ 4 → ⊥) → true ≡ badCounts w
+  counts-first a b = rw (le-ltb (length w) 7 a, ne-eqb (getD w 0 0) 4 b)
+
+  pub counts-last : 7 ≤ length w → getD w 0 0 ≡ 4 → badLimits w ≡ badCounts w
+  counts-last a b = rw (le-ltb (length w) 7 a, eq-eqb (getD w 0 0) 4 b)

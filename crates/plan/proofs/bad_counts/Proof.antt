@@ -1,0 +1,25 @@
+use Rattle.plan.proofs.Counts.{counts-short, counts-first, counts-last}
+use mathlib.Core.Path.{_∙_}
+use native.Mathlib.Omega.{arith}
+use borrow.Author.Needs.{needs}
+use Rattle.plan.proofs.bad_counts.Statement.{statement}
+use Rattle.plan.proofs.bad_counts.Tie as tie
+
+returns : tie.Need-returns
+returns c = counts-short (c .before .before .args .w .now) (omega arith)
+
+shared-slice-read-if2 : tie.Need-shared-slice-read-if2
+shared-slice-read-if2 c = search needs
+
+returns-2 : tie.Need-returns-2
+returns-2 c = counts-first (c .before .before .before .before .args .w .now) (omega arith) (c .if2 .taken)
+
+bad-limits-requires : tie.Need-bad-limits-requires
+bad-limits-requires c κs = search needs
+
+returns-3 : tie.Need-returns-3
+returns-3 c = c .bad-limits .ensures ∙ counts-last (c .before .before .before .before .before .args .w .now) (omega arith) (c .before .if2 .left)
+
+pub bad-counts-spec : {M : Type 1} → statement M
+bad-counts-spec =
+    tie.close (tie.spec returns shared-slice-read-if2 returns-2 bad-limits-requires returns-3)

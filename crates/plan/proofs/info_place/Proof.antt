@@ -1,0 +1,28 @@
+use Rattle.plan.specs.Layout.{infoCount}
+use lib.Seq.{getD-take, getD-drop}
+use mathlib.Core.Path.{sym, _∙_}
+use native.Mathlib.Omega.{arith}
+use lib.ListN.{drop}
+use borrow.Author.Needs.{needs}
+use Rattle.plan.proofs.info_place.Statement.{statement}
+use Rattle.plan.proofs.info_place.Tie as tie
+
+add-wide : tie.Need-add-wide
+add-wide c = search needs
+
+mul-wide : tie.Need-mul-wide
+mul-wide c = search needs
+
+shared-slice-read-wide : tie.Need-shared-slice-read-wide
+shared-slice-read-wide c = search needs
+
+wide-requires : tie.Need-wide-requires
+wide-requires c κs = search needs
+
+returns : tie.Need-returns
+returns c = let w = c .before .before .before .args .w .now in let k = c .before .before .before .args .k in
+    c .wide .ensures ∙ sym (getD-take (infoCount w) (drop 6 w) k 0 (omega arith) ∙ getD-drop 6 w k 0)
+
+pub info-place-spec : {M : Type 1} → statement M
+info-place-spec =
+    tie.close (tie.spec add-wide mul-wide shared-slice-read-wide wide-requires returns)

@@ -1,0 +1,88 @@
+use Rattle.plan.proofs.Passing.{refuse-counts, refuse-places, refuse-steps, refuse-none, same-steps}
+use Rattle.plan.proofs.Marking.{marks-none}
+use Rattle.plan.specs.LayoutLaws.{counted}
+use Rattle.plan.specs.Layout.{infoIn, slots, badCounts}
+use Rattle.table.specs.Table.{rising}
+use lib.ListN.{length-replicate}
+use borrow.Author.Tests.{not-true, not-false}
+use Prim.Native.Nat.{ℕ, _≤_}
+use mathlib.Core.Path.{_≡_, sym, ap, _∙_}
+use mathlib.Core.Bool.{true, false}
+use native.Mathlib.Omega.{arith}
+use lib.ListN.{length}
+use borrow.Author.Needs.{needs}
+use Rattle.plan.proofs.look_over.Statement.{statement}
+use Rattle.plan.proofs.look_over.Tie as tie
+
+bad-counts-requires : tie.Need-bad-counts-requires
+bad-counts-requires c κs = search needs
+
+returns : tie.Need-returns
+returns c = refuse-counts (c .before .before .before .args .w .now) (sym (c .before .bad-counts .ensures) ∙ c .if1 .taken)
+
+places-requires : tie.Need-places-requires
+places-requires c κs = let w = c .before .before .before .args .w .now in let q : badCounts w ≡ false = sym (c .before .bad-counts .ensures) ∙ c .if1 .left in let k = counted w q in omega arith
+
+slice-aggregate-mark-places : tie.Need-slice-aggregate-mark-places
+slice-aggregate-mark-places c = search needs
+
+mark-places-requires : tie.Need-mark-places-requires
+mark-places-requires c κs = let w = c .before .before .before .before .before .args .w .now in let q : badCounts w ≡ false = sym (c .before .before .before .bad-counts .ensures) ∙ c .before .before .if1 .left in let k = counted w q in
+    (omega arith, omega arith, simp length-replicate (omega arith), marks-none 1056)
+
+returns-2 : tie.Need-returns-2
+returns-2 c = let w = c .before .before .before .before .before .before .before .before .args .w .now in let q : badCounts w ≡ false = sym (c .before .before .before .before .before .before .bad-counts .ensures) ∙ c .before .before .before .before .before .if1 .left in let k = counted w q in
+    refuse-places w q (ap (λ (n : ℕ). rising n 0 (infoIn w)) (sym (c .before .before .before .before .places .ensures)) ∙ sym (c .before .before .mark-places .ensures .rises) ∙ not-true _ (c .if2 .taken))
+
+gap-requires : tie.Need-gap-requires
+gap-requires c κs = let w = c .before .before .before .before .before .before .before .before .args .w .now in let q : badCounts w ≡ false = sym (c .before .before .before .before .before .before .bad-counts .ensures) ∙ c .before .before .before .before .before .if1 .left in let k = counted w q in omega arith
+
+add-good-steps : tie.Need-add-good-steps
+add-good-steps c = let w = c .before .before .before .before .before .before .before .before .before .args .w .now in let q : badCounts w ≡ false = sym (c .before .before .before .before .before .before .before .bad-counts .ensures) ∙ c .before .before .before .before .before .before .if1 .left in let k = counted w q in omega arith
+
+slice-aggregate-good-steps : tie.Need-slice-aggregate-good-steps
+slice-aggregate-good-steps c = search needs
+
+info-count-requires : tie.Need-info-count-requires
+info-count-requires c κs = let w = c .before .before .before .before .before .before .before .before .before .before .args .w .now in let q : badCounts w ≡ false = sym (c .before .before .before .before .before .before .before .before .bad-counts .ensures) ∙ c .before .before .before .before .before .before .before .if1 .left in let k = counted w q in omega arith
+
+add-good-steps-2 : tie.Need-add-good-steps-2
+add-good-steps-2 c = let w = c .before .before .before .before .before .before .before .before .before .before .before .args .w .now in let q : badCounts w ≡ false = sym (c .before .before .before .before .before .before .before .before .before .bad-counts .ensures) ∙ c .before .before .before .before .before .before .before .before .if1 .left in let k = counted w q in omega arith
+
+good-steps-requires : tie.Need-good-steps-requires
+good-steps-requires c κs = let w = c .before .before .before .before .before .before .before .before .before .before .before .args .w .now in let q : badCounts w ≡ false = sym (c .before .before .before .before .before .before .before .before .before .bad-counts .ensures) ∙ c .before .before .before .before .before .before .before .before .if1 .left in let k = counted w q in (omega (arith, c .before .before .before .before .before .mark-places .kept .1 .1 .0, length-replicate {A = ℕ} 1056 0), omega arith)
+
+returns-3 : tie.Need-returns-3
+returns-3 c = let w = c .before .before .before .before .before .before .before .before .before .before .before .before .before .args .w .now in let q : badCounts w ≡ false = sym (c .before .before .before .before .before .before .before .before .before .before .before .bad-counts .ensures) ∙ c .before .before .before .before .before .before .before .before .before .before .if1 .left in let k = counted w q in
+    let long : slots w ≤ length (c .before .before .before .before .before .before .before .mark-places .last .1 .1 .0) = omega (arith, c .before .before .before .before .before .before .before .mark-places .kept .1 .1 .0, length-replicate {A = ℕ} 1056 0) in
+    let found : c .before .before .before .before .before .before .before .mark-places .result ≡ true = not-false _ (c .before .before .before .before .before .if2 .left) in
+    refuse-steps w q
+    (ap (λ (n : ℕ). rising n 0 (infoIn w)) (sym (c .before .before .before .before .before .before .before .before .before .places .ensures)) ∙ sym (c .before .before .before .before .before .before .before .mark-places .ensures .rises) ∙ found)
+    (sym (same-steps w _ _ _ _ (c .before .before .before .before .before .before .before .before .before .places .ensures) (c .before .before .before .before .gap .ensures) (c .before .before .info-count .ensures) long (c .before .before .before .before .before .before .before .mark-places .ensures .marked found)) ∙ sym (c .before .good-steps .ensures) ∙ not-true _ (c .if3 .taken))
+
+returns-4 : tie.Need-returns-4
+returns-4 c = let w = c .before .before .before .before .before .before .before .before .before .before .before .before .before .args .w .now in let q : badCounts w ≡ false = sym (c .before .before .before .before .before .before .before .before .before .before .before .bad-counts .ensures) ∙ c .before .before .before .before .before .before .before .before .before .before .if1 .left in let k = counted w q in
+    let long : slots w ≤ length (c .before .before .before .before .before .before .before .mark-places .last .1 .1 .0) = omega (arith, c .before .before .before .before .before .before .before .mark-places .kept .1 .1 .0, length-replicate {A = ℕ} 1056 0) in
+    let found : c .before .before .before .before .before .before .before .mark-places .result ≡ true = not-false _ (c .before .before .before .before .before .if2 .left) in
+    refuse-none w q
+    (ap (λ (n : ℕ). rising n 0 (infoIn w)) (sym (c .before .before .before .before .before .before .before .before .before .places .ensures)) ∙ sym (c .before .before .before .before .before .before .before .mark-places .ensures .rises) ∙ found)
+    (sym (same-steps w _ _ _ _ (c .before .before .before .before .before .before .before .before .before .places .ensures) (c .before .before .before .before .gap .ensures) (c .before .before .info-count .ensures) long (c .before .before .before .before .before .before .before .mark-places .ensures .marked found)) ∙ sym (c .before .good-steps .ensures) ∙ not-false _ (c .if3 .left))
+
+pub look-over-spec : {M : Type 1} → statement M
+look-over-spec =
+    tie.close
+    (tie.spec
+    bad-counts-requires
+    returns
+    places-requires
+    slice-aggregate-mark-places
+    mark-places-requires
+    returns-2
+    gap-requires
+    add-good-steps
+    slice-aggregate-good-steps
+    info-count-requires
+    add-good-steps-2
+    good-steps-requires
+    returns-3
+    returns-4)

@@ -1,0 +1,265 @@
+-- What a well-formed plan gives.
+use mathlib.Core.Path.{_≡_, refl, sym, ap, _∙_, subst}
+use mathlib.Core.Bool.{Bool, true, false, not, _||_, _&&_, true≢false, false≢true}
+use mathlib.Core.List.{List, [], _∷_}
+use mathlib.Core.Option.{Option, none, some}
+use Prim.Native.Nat.{ℕ, zero, suc, _+_, _-_, _<_, _≤_}
+use native.Mathlib.Omega.{arith}
+use borrow.Author.Tests.{ltb-true, ltb-false, leb-true, eqb-true, eqb-false, not-true, not-false}
+use lib.Dec.{eqb, ltb, leb}
+use lib.ListN.{length, getD, drop, length-drop}
+use lib.Seq.{length-take-le, getD-drop}
+use Rattle.gf2.specs.Lists.{allPass}
+use Rattle.gf2.specs.Places.{has}
+use Rattle.gf2.specs.Span.{byBool}
+use Rattle.table.specs.Table.{outside, rising}
+use Rattle.plan.specs.declared.Step.{Step}
+use Rattle.plan.specs.declared.Step.the-variants.{Clear, Add}
+use Rattle.plan.specs.Layout.{planPlaces, planSize, planGap, planKept, infoCount, infoIn, stepCount, stepsIn, slots, stepsOf, badCounts, goodStep, wellFormed, planRefusal}
+use Rattle.plan.specs.Step.{unpack, unpackAll, SlotsBelow}
+
+-- ---- tests
+-- the first of two tests does not hold
+pub or-left : (a b : Bool) → (a || b) ≡ false → a ≡ false
+or-left true b e = e
+or-left false b e = refl
+
+-- and the second
+pub or-right : (a b : Bool) → (a || b) ≡ false → b ≡ false
+or-right true b e = absurd (true≢false e)
+or-right false b e = e
+
+-- the first of two tests holds
+pub and-left : (a b : Bool) → (a && b) ≡ true → a ≡ true
+and-left true b e = refl
+and-left false b e = absurd (false≢true e)
+
+-- and the second
+pub and-right : (a b : Bool) → (a && b) ≡ true → b ≡ true
+and-right true b e = e
+and-right false b e = absurd (false≢true e)
+
+-- ---- the counts
+pub record Counted (w : List ℕ) : Type 0 where
+  pub first : getD w 0 0 ≡ 4
+  pub some-places : 1 ≤ planPlaces w
+  pub few-places : planPlaces w ≤ 1024
+  pub some-bytes : 1 ≤ planSize w
+  pub few-bytes : planSize w ≤ 1024
+  pub few-aside : planGap w ≤ 32
+  pub aside-kept : planGap w ≤ planKept w
+  pub kept-places : planKept w ≤ planPlaces w
+  pub few-kept : planKept w ≤ 512
+  pub info : infoCount w ≡ planPlaces w - planKept w
+  pub few-steps : stepCount w ≤ 13344
+  pub whole : length w ≡ 7 + infoCount w + stepCount w
+
+-- a number within its limits
+inside-low : (most x : ℕ) → outside most x ≡ false → 1 ≤ x
+inside-low most x h = let n = eqb-false x 0 (or-left (eqb x 0) (ltb most x) h) in omega arith
+
+inside-high : (most x : ℕ) → outside most x ≡ false → x ≤ most
+inside-high most x h = ltb-false most x (or-right (eqb x 0) (ltb most x) h)
+
+-- twelve tests, none of which holds
+record None (a b c d e f g h i j k l : Bool) : Type 0 where
+  t0 : a ≡ false
+  t1 : b ≡ false
+  t2 : c ≡ false
+  t3 : d ≡ false
+  t4 : e ≡ false
+  t5 : f ≡ false
+  t6 : g ≡ false
+  t7 : h ≡ false
+  t8 : i ≡ false
+  t9 : j ≡ false
+  t10 : k ≡ false
+  t11 : l ≡ false
+
+none-of : (a b c d e f g h i j k l : Bool) → (a || (b || (c || (d || (e || (f || (g || (h || (i || (j || (k || l))))))))))) ≡ false
+    → None a b c d e f g h i j k l
+none-of a b c d e f g h i j k l z =
+    let r1 = or-right a _ z in let r2 = or-right b _ r1 in let r3 = or-right c _ r2 in let r4 = or-right d _ r3 in
+    let r5 = or-right e _ r4 in let r6 = or-right f _ r5 in let r7 = or-right g _ r6 in let r8 = or-right h _ r7 in
+    let r9 = or-right i _ r8 in let r10 = or-right j _ r9 in
+    record {
+      t0 = or-left a _ z;
+      t1 = or-left b _ r1;
+      t2 = or-left c _ r2;
+      t3 = or-left d _ r3;
+      t4 = or-left e _ r4;
+      t5 = or-left f _ r5;
+      t6 = or-left g _ r6;
+      t7 = or-left h _ r7;
+      t8 = or-left i _ r8;
+      t9 = or-left j _ r9;
+      t10 = or-left k l r10;
+      t11 = or-right k l r10;
+    }
+
+pub counted : (w : List ℕ) → badCounts w ≡ false → Counted w
+counted w h = let t = none-of (ltb (length w) 7) (not (eqb (getD w 0 0) 4)) (outside 1024 (planPlaces w)) (outside 1024 (planSize w)) (ltb 32 (planGap w))
+    (ltb (planKept w) (planGap w)) (ltb (planPlaces w) (planKept w)) (ltb 512 (planKept w)) (not (eqb (infoCount w) (planPlaces w - planKept w)))
+    (ltb (length w) (7 + infoCount w)) (ltb 13344 (stepCount w)) (not (eqb (length w) (7 + infoCount w + stepCount w))) h in record {
+      first = eqb-true (getD w 0 0) 4 (not-false (eqb (getD w 0 0) 4) (t .t1));
+      some-places = inside-low 1024 (planPlaces w) (t .t2);
+      few-places = inside-high 1024 (planPlaces w) (t .t2);
+      some-bytes = inside-low 1024 (planSize w) (t .t3);
+      few-bytes = inside-high 1024 (planSize w) (t .t3);
+      few-aside = ltb-false 32 (planGap w) (t .t4);
+      aside-kept = ltb-false (planKept w) (planGap w) (t .t5);
+      kept-places = ltb-false (planPlaces w) (planKept w) (t .t6);
+      few-kept = ltb-false 512 (planKept w) (t .t7);
+      info = eqb-true (infoCount w) (planPlaces w - planKept w) (not-false (eqb (infoCount w) (planPlaces w - planKept w)) (t .t8));
+      few-steps = ltb-false 13344 (stepCount w) (t .t10);
+      whole = eqb-true (length w) (7 + infoCount w + stepCount w) (not-false (eqb (length w) (7 + infoCount w + stepCount w)) (t .t11));
+    }
+
+-- ---- places in ascending order
+-- each from b on and below n
+pub rising-at : (n b : ℕ) (I : List ℕ) → rising n b I ≡ true → (k : ℕ) → k < length I → (b ≤ getD I k 0) × (getD I k 0 < n)
+rising-at n b [] h k l = absurd (omega arith)
+rising-at n b (p ∷ I) h zero l =
+    let q = and-left (leb b p && ltb p n) (rising n (suc p) I) h in
+    (leb-true b p (and-left (leb b p) (ltb p n) q), ltb-true p n (and-right (leb b p) (ltb p n) q))
+rising-at n b (p ∷ I) h (suc k) l =
+    let q = and-left (leb b p && ltb p n) (rising n (suc p) I) h in
+    let low = leb-true b p (and-left (leb b p) (ltb p n) q) in
+    let r = rising-at n (suc p) I (and-right (leb b p && ltb p n) (rising n (suc p) I) h) k (omega arith) in
+    (omega (arith, r .0), r .1)
+
+-- a later place is higher
+pub rising-order : (n b : ℕ) (I : List ℕ) → rising n b I ≡ true → (i k : ℕ) → i < k → k < length I → getD I i 0 < getD I k 0
+rising-order n b [] h i k l m = absurd (omega arith)
+rising-order n b (p ∷ I) h zero zero l m = absurd (omega arith)
+rising-order n b (p ∷ I) h (suc i) zero l m = absurd (omega arith)
+rising-order n b (p ∷ I) h zero (suc k) l m = rising-at n (suc p) I (and-right (leb b p && ltb p n) (rising n (suc p) I) h) k (omega arith) .0
+rising-order n b (p ∷ I) h (suc i) (suc k) l m = rising-order n (suc p) I (and-right (leb b p && ltb p n) (rising n (suc p) I) h) i k (omega arith) (omega arith)
+
+-- ---- steps
+-- a step over k slots that leaves the places of I alone
+abbrev pub Leaves : List ℕ → Step → Type 0
+Leaves I (Clear to) = has to I ≡ false
+Leaves I (Add to from) = has to I ≡ false
+
+abbrev pub Apart : Step → Type 0
+Apart (Clear to) = Unit
+Apart (Add to from) = to ≡ from → ⊥
+
+pub record Sound (k : ℕ) (I : List ℕ) (x : Step) : Type 0 where
+  pub below : SlotsBelow k x
+  pub apart : Apart x
+  pub leaves : Leaves I x
+
+pub sound : (k : ℕ) (I : List ℕ) (x : Step) → goodStep k I (some x) ≡ true → Sound k I x
+sound k I (Clear to) h = record {
+  below = ltb-true to k (and-left (ltb to k) (not (has to I)) h);
+  apart = tt;
+  leaves = not-true (has to I) (and-right (ltb to k) (not (has to I)) h);
+}
+sound k I (Add to from) h =
+    let r = and-right (ltb to k) (ltb from k && (not (eqb to from) && not (has to I))) h in
+    let q = and-right (ltb from k) (not (eqb to from) && not (has to I)) r in
+    record {
+      below = (ltb-true to k (and-left (ltb to k) (ltb from k && (not (eqb to from) && not (has to I))) h), ltb-true from k (and-left (ltb from k) (not (eqb to from) && not (has to I)) r));
+      apart = eqb-false to from (not-true (eqb to from) (and-left (not (eqb to from)) (not (has to I)) q));
+      leaves = not-true (has to I) (and-right (not (eqb to from)) (not (has to I)) q);
+    }
+
+-- a number that is a step gives it
+pub unpackAll-cons : (w : ℕ) (ws : List ℕ) (x : Step) → unpack w ≡ some x → unpackAll (w ∷ ws) ≡ x ∷ unpackAll ws
+unpackAll-cons w ws x e = rw (e, unpackAll)
+
+-- numbers that all are such steps
+module _ (k : ℕ) (I : List ℕ) where
+  abbrev pub allGood : List ℕ → Bool
+  allGood ws = allPass (λ x. goodStep k I (unpack x)) ws
+
+  -- a number that passes is a step
+  pub good-some : (o : Option Step) → goodStep k I o ≡ true → (x : Step) × (o ≡ some x)
+  good-some none h = absurd (false≢true h)
+  good-some (some x) h = (x, refl)
+
+  -- one step a number
+  pub unpacks : (w : ℕ) (ws : List ℕ) → goodStep k I (unpack w) ≡ true → (x : Step) × ((unpack w ≡ some x) × (unpackAll (w ∷ ws) ≡ x ∷ unpackAll ws))
+  unpacks w ws h = let r = good-some (unpack w) h in (r .0, (r .1, unpackAll-cons w ws (r .0) (r .1)))
+
+  pub unpackAll-length : (ws : List ℕ) → allGood ws ≡ true → length (unpackAll ws) ≡ length ws
+  unpackAll-length [] h = refl
+  unpackAll-length (w ∷ ws) h =
+      ap length (unpacks w ws (and-left (goodStep k I (unpack w)) (allGood ws) h) .1 .1)
+      ∙ ap suc (unpackAll-length ws (and-right (goodStep k I (unpack w)) (allGood ws) h))
+
+  -- the i-th number is the i-th step
+  pub unpackAll-at : (d : Step) (ws : List ℕ) → allGood ws ≡ true → (i : ℕ) → i < length ws → unpack (getD ws i 0) ≡ some (getD (unpackAll ws) i d)
+  unpackAll-at d [] h i l = absurd (omega arith)
+  unpackAll-at d (w ∷ ws) h zero l =
+      let r = unpacks w ws (and-left (goodStep k I (unpack w)) (allGood ws) h) in
+      r .1 .0 ∙ ap (λ (xs : List Step). some (getD xs 0 d)) (sym (r .1 .1))
+  unpackAll-at d (w ∷ ws) h (suc i) l =
+      let r = unpacks w ws (and-left (goodStep k I (unpack w)) (allGood ws) h) in
+      unpackAll-at d ws (and-right (goodStep k I (unpack w)) (allGood ws) h) i (omega arith)
+      ∙ ap (λ (xs : List Step). some (getD xs (suc i) d)) (sym (r .1 .1))
+
+  pub good-at : (ws : List ℕ) → allGood ws ≡ true → (i : ℕ) → i < length ws → goodStep k I (unpack (getD ws i 0)) ≡ true
+  good-at [] h i l = absurd (omega arith)
+  good-at (w ∷ ws) h zero l = and-left (goodStep k I (unpack w)) (allGood ws) h
+  good-at (w ∷ ws) h (suc i) l = good-at ws (and-right (goodStep k I (unpack w)) (allGood ws) h) i (omega arith)
+
+-- ---- the whole plan
+pub record Formed (w : List ℕ) : Type 0 where
+  pub counts : Counted w
+  pub rises : rising (planPlaces w) 0 (infoIn w) ≡ true
+  pub steps : allGood (slots w) (infoIn w) (stepsIn w) ≡ true
+
+pub formed : (w : List ℕ) → wellFormed w ≡ true → Formed w
+formed w h =
+    let r = and-right (not (badCounts w)) (rising (planPlaces w) 0 (infoIn w) && allGood (slots w) (infoIn w) (stepsIn w)) h in
+    record {
+      counts = counted w (not-true (badCounts w) (and-left (not (badCounts w)) (rising (planPlaces w) 0 (infoIn w) && allGood (slots w) (infoIn w) (stepsIn w)) h));
+      rises = and-left (rising (planPlaces w) 0 (infoIn w)) (allGood (slots w) (infoIn w) (stepsIn w)) r;
+      steps = and-right (rising (planPlaces w) 0 (infoIn w)) (allGood (slots w) (infoIn w) (stepsIn w)) r;
+    }
+
+-- refused with 9 or with nothing
+pub not-refused : (w : List ℕ) → planRefusal w ≡ 0 → wellFormed w ≡ true
+not-refused w h = byBool (wellFormed w) (λ e. e) (λ e. let z : _≡_ {A = ℕ} 9 0 = rw e at h in absurd (omega arith))
+
+pub refused : (w : List ℕ) → (planRefusal w ≡ 0 → ⊥) → planRefusal w ≡ 9
+refused w h = byBool (wellFormed w) (λ e. absurd (h (rw e))) (λ e. rw e)
+
+-- as many information places as their count says
+pub info-long : (w : List ℕ) → 6 + infoCount w ≤ length w → length (infoIn w) ≡ infoCount w
+info-long w h = length-take-le (infoCount w) (drop 6 w) (let d = length-drop 6 w in omega arith)
+
+module _ (w : List ℕ) (f : Formed w) where
+  pub info-length : length (infoIn w) ≡ infoCount w
+  info-length = info-long w (let c = f .counts in omega arith)
+
+  pub steps-in : length (stepsIn w) ≡ stepCount w
+  steps-in = let c = f .counts in let d = length-drop (7 + infoCount w) w in omega arith
+
+  -- every information place is below n
+  pub info-below : (k : ℕ) → k < infoCount w → getD (infoIn w) k 0 < planPlaces w
+  info-below k l = rising-at (planPlaces w) 0 (infoIn w) (f .rises) k (let e = info-length in omega arith) .1
+
+  -- and they ascend
+  pub info-order : (i k : ℕ) → i < k → k < infoCount w → getD (infoIn w) i 0 < getD (infoIn w) k 0
+  info-order i k l m = rising-order (planPlaces w) 0 (infoIn w) (f .rises) i k l (let e = info-length in omega arith)
+
+  -- one step a number
+  pub steps-length : length (stepsOf w) ≡ stepCount w
+  steps-length = unpackAll-length (slots w) (infoIn w) (stepsIn w) (f .steps) ∙ steps-in
+
+  pub step-at : (d : Step) (i : ℕ) → i < stepCount w → unpack (getD w (7 + infoCount w + i) 0) ≡ some (getD (stepsOf w) i d)
+  step-at d i l =
+      ap unpack (sym (getD-drop (7 + infoCount w) w i 0))
+      ∙ unpackAll-at (slots w) (infoIn w) d (stepsIn w) (f .steps) i (let e = steps-in in omega arith)
+
+  -- its slots are there and different, and no information place is written
+  pub step-sound : (d : Step) (i : ℕ) → i < stepCount w → Sound (slots w) (infoIn w) (getD (stepsOf w) i d)
+  step-sound d i l =
+      let b : i < length (stepsIn w) = (let e = steps-in in omega arith) in
+      sound (slots w) (infoIn w) (getD (stepsOf w) i d)
+      (subst (λ (o : Option Step). goodStep (slots w) (infoIn w) o ≡ true) (unpackAll-at (slots w) (infoIn w) d (stepsIn w) (f .steps) i b)
+      (good-at (slots w) (infoIn w) (stepsIn w) (f .steps) i b))

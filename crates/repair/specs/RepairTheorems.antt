@@ -1,0 +1,224 @@
+-- Demand 2 on repair and verification, over the definitions of the calls, for every table that is accepted, every block and every pattern of loss.
+use mathlib.Core.Path.{_≡_, refl, sym, ap, ap₂, _∙_, subst}
+use mathlib.Core.Bool.{Bool, true, false, cond, not, _||_, _&&_, true≢false, false≢true}
+use mathlib.Core.List.{List, [], _∷_}
+use mathlib.Core.Logic.{_≢_, _⊎_, inl, inr}
+use mathlib.Core.Option.{Option, none, some}
+use Prim.Native.Nat.{ℕ, zero, suc, _+_, _-_, _*_, _<_, _≤_}
+use native.Mathlib.Omega.{arith}
+use lib.Dec.{eqb, ltb}
+use lib.ListN.{length, getD, take, drop, replicate}
+use Rattle.gf2.specs.Bit.{eqb-true, eqb-false, eqb-self}
+use Rattle.gf2.specs.Lists.{allPass, sameList, all-zip}
+use Rattle.gf2.specs.Places.{filter}
+use Rattle.gf2.specs.Span.{byBool, anyOf}
+use Rattle.gf2.specs.Width.{All, All.nil, All.cons, all-map}
+use Rattle.table.specs.PacketCall.{partAt}
+use Rattle.table.specs.PacketLaws.{packets-length, packets-sized, joined-packets, joined-length, packet-at}
+use Rattle.table.specs.Packets.{Packets, packets, joined, packetSum, Codeword as SumsToZero}
+use Rattle.table.specs.Table.{places, size, checks, refusal}
+use Rattle.table.specs.TableLaws.{Good, accepted}
+use Rattle.repair.specs.Largest.{left-stopping, left-within, left-largest}
+use Rattle.repair.specs.Repair.{State, lostPlaces, zeroLost, consistent, tally, outcome, repairRefusal, Report, repairReport, repairBlock, repairMap}
+use Rattle.repair.specs.RepairLaws.{Fitting, fitting-refusal, accepted-fits, contradicted-fits, bytes-all, byte-at, tally-lost, tally-restored, start-length, start-sized, outcome-length, outcome-sized, block-accepted, block-contradicted, map-accepted, map-refused}
+use Rattle.repair.specs.RestoringLaws.{restoring-same, restoring-mark}
+use Rattle.repair.specs.Stopping.{isLost, Stopping, lostIn, no-lost}
+use Rattle.repair.specs.Tally.{restoredIn, restored-and-lost}
+use Rattle.repair.specs.Values.{received-kept, left-zero, restored, no-contradiction, wipe-kept, wipe-zero}
+use Rattle.repair.specs.Verify.{failing, verdict, verification}
+use Rattle.repair.specs.VerifyLaws.{zero-sound, verify-sound, verify-complete, verify-lowest, verification-is, verification-judged}
+use Rattle.repair.specs.declared.Verified.{Verified}
+use Rattle.repair.specs.declared.Verified.the-variants.{Refused, Codeword, Fails}
+
+-- a block of n·s bytes whose packets sum to zero over every check
+pub record IsCodeword (t w : List ℕ) : Type 0 where
+  pub size-fits : length w ≡ places t * size t
+  pub sums : SumsToZero (size t) (checks t) (packets (size t) (places t) w)
+
+-- the same packet in b and w wherever the map says received
+abbrev pub Agree : List ℕ → List ℕ → List ℕ → List ℕ → Type 0
+Agree t b map w = (p : ℕ) → p < places t → getD map p 0 ≡ 0 → partAt (size t) p b ≡ partAt (size t) p w
+
+-- an accepted repair, whatever was received
+pub record Accepted (t b map : List ℕ) : Type 0 where
+  -- "received packets are untouched", and so is their mark
+  pub received : (p : ℕ) → p < places t → getD map p 0 ≡ 0 → (partAt (size t) p (repairBlock t b map) ≡ partAt (size t) p b) × (getD (repairMap t b map) p 0 ≡ 0)
+  -- a lost place stays lost or is marked as restored
+  pub lost : (p : ℕ) → getD map p 0 ≡ 1 → (getD (repairMap t b map) p 0 ≡ 1) ⊎ (getD (repairMap t b map) p 0 ≡ 2)
+  -- "places still lost hold zero bytes"
+  pub zeroed : (p : ℕ) → p < places t → getD (repairMap t b map) p 0 ≡ 1 → partAt (size t) p (repairBlock t b map) ≡ replicate (size t) 0
+  -- what stays lost is a stopping set ..
+  pub stopping : Stopping (checks t) (isLost (repairMap t b map))
+  -- .. within the lost places ..
+  pub within : (p : ℕ) → isLost (repairMap t b map) p ≡ true → isLost map p ≡ true
+  -- .. and has every stopping set within them inside
+  pub largest : (S : ℕ → Bool) → Stopping (checks t) S → ((p : ℕ) → S p ≡ true → isLost map p ≡ true) → (p : ℕ) → S p ≡ true → isLost (repairMap t b map) p ≡ true
+  -- "every check without a lost place must sum to zero"
+  pub sums : All (λ c. length (lostPlaces (repairMap t b map) c) ≡ 0 → packetSum (size t) (packets (size t) (places t) (repairBlock t b map)) c ≡ replicate (size t) 0) (checks t)
+  -- restored and still lost are the places that were lost
+  pub counts : repairReport t b map .restored + repairReport t b map .lost ≡ tally 1 map
+  -- where nothing stays lost, the block is a codeword
+  pub whole : repairReport t b map .lost ≡ 0 → IsCodeword t (repairBlock t b map)
+
+-- repair of packets that come from the codeword w
+pub record Repairing (t b map w : List ℕ) : Type 0 where
+  pub not-refused : repairRefusal t b map ≡ 0
+  -- every restored packet is the codeword's, and every received one
+  pub values : (p : ℕ) → p < places t → getD (repairMap t b map) p 0 ≢ 1 → partAt (size t) p (repairBlock t b map) ≡ partAt (size t) p w
+
+-- packets that contradict
+pub record Contradicted (t b map : List ℕ) : Type 0 where
+  -- come from no codeword
+  pub no-codeword : (w : List ℕ) → IsCodeword t w → Agree t b map w → ⊥
+  pub received : (p : ℕ) → p < places t → getD map p 0 ≡ 0 → partAt (size t) p (repairBlock t b map) ≡ partAt (size t) p b
+  pub zeroed : (p : ℕ) → p < places t → getD map p 0 ≡ 1 → partAt (size t) p (repairBlock t b map) ≡ replicate (size t) 0
+  pub map-kept : repairMap t b map ≡ map
+
+-- ---- the tests
+not-lost : (map : List ℕ) (p : ℕ) → getD map p 0 ≡ 0 → isLost map p ≡ false
+not-lost map p e = ap (λ x. eqb x 1) e
+
+is-lost : (map : List ℕ) (p : ℕ) → getD map p 0 ≡ 1 → isLost map p ≡ true
+is-lost map p e = ap (λ x. eqb x 1) e
+
+lost-byte : {map : List ℕ} → All (λ x. x ≤ 1) map → (p : ℕ) → isLost map p ≡ false → getD map p 0 ≡ 0
+lost-byte {map} a p e = let k = byte-at a p in let z = eqb-false (getD map p 0) 1 e in omega arith
+
+-- a check without a lost place that passes the test
+sums-of : (s : ℕ) (m : State) (cs : List (List ℕ)) → consistent s cs m ≡ true
+    → All (λ c. length (lostPlaces (m .lost) c) ≡ 0 → packetSum s (m .block) c ≡ replicate s 0) cs
+sums-of s m [] h = nil
+sums-of s m (c ∷ cs) h = byBool (eqb (length (lostPlaces (m .lost) c)) 0)
+    (λ e. byBool (sameList (packetSum s (m .block) c) (replicate s 0))
+    (λ z. cons (λ k. zero-sound s (m .block) c z) (sums-of s m cs (rw (e, z) at h)))
+    (λ z. absurd (false≢true (rw (e, z) at h))))
+    (λ e. cons (λ k. absurd (eqb-false (length (lostPlaces (m .lost) c)) 0 e k)) (sums-of s m cs (rw e at h)))
+
+-- no lost place among none
+none-lost : (lost c : List ℕ) → lostIn lost ≡ 0 → length (lostPlaces lost c) ≡ 0
+none-lost lost [] h = refl
+none-lost lost (p ∷ c) h = rw (no-lost lost h p) (none-lost lost c h)
+
+-- the packet of a place among packets in a row
+part-joined : (s n : ℕ) (ps : List (List ℕ)) → length ps ≡ n → Packets s ps → (p : ℕ) → p < n → partAt s p (joined ps) ≡ getD ps p []
+part-joined s n ps l w p h = sym (packet-at s n (joined ps) p h) ∙ ap (λ q. getD q p []) (ap (λ k. packets s k (joined ps)) (sym l) ∙ joined-packets s w)
+
+module _ (t b map : List ℕ) (ok : repairRefusal t b map ≡ 0) where
+  fits : Fitting t b map
+  fits = accepted-fits t b map ok .0
+
+  map-is : repairMap t b map ≡ outcome t b map .lost
+  map-is = map-accepted t b map ok
+
+  part-is : (p : ℕ) → p < places t → partAt (size t) p (repairBlock t b map) ≡ getD (outcome t b map .block) p []
+  part-is p h = ap (partAt (size t) p) (block-accepted t b map ok) ∙ part-joined (size t) (places t) (outcome t b map .block) (outcome-length t b map fits) (outcome-sized t b map fits) p h
+
+  packets-are : packets (size t) (places t) (repairBlock t b map) ≡ outcome t b map .block
+  packets-are = ap (packets (size t) (places t)) (block-accepted t b map ok) ∙ ap (λ k. packets (size t) k (joined (outcome t b map .block))) (sym (outcome-length t b map fits))
+      ∙ joined-packets (size t) (outcome-sized t b map fits)
+
+  -- the same of the outcome
+  mark-kept : (p : ℕ) → getD map p 0 ≡ 0 → getD (outcome t b map .lost) p 0 ≡ 0
+  mark-kept p e = restoring-same (places t) (size t) (checks t) _ p (not-lost map p e) ∙ e
+
+  mark-of : (p : ℕ) → getD map p 0 ≡ 1 → (getD (outcome t b map .lost) p 0 ≡ 1) ⊎ (getD (outcome t b map .lost) p 0 ≡ 2)
+  mark-of p e = byBool (isLost (outcome t b map .lost) p)
+      (λ z. inl (eqb-true _ 1 z))
+      (λ z. inr (restoring-mark (places t) (size t) (checks t) _ p (is-lost map p e) z))
+
+  counts-add : restoredIn (outcome t b map .lost) + lostIn (outcome t b map .lost) ≡ lostIn map
+  counts-add = restored-and-lost (places t) (size t) (checks t) (packets (size t) (places t) b) map (bytes-all map (fits .map-bytes))
+
+  sums-checked : All (λ c. length (lostPlaces (outcome t b map .lost) c) ≡ 0 → packetSum (size t) (outcome t b map .block) c ≡ replicate (size t) 0) (checks t)
+  sums-checked = sums-of (size t) (outcome t b map) (checks t) (accepted-fits t b map ok .1)
+
+  pub accepted-repair : Accepted t b map
+  accepted-repair = record {
+    received = λ p h e. (part-is p h ∙ received-kept (places t) (size t) (checks t) _ map p (not-lost map p e) ∙ packet-at (size t) (places t) b p h, ap (λ l. getD l p 0) map-is ∙ mark-kept p e);
+    lost = λ p e. rw map-is (mark-of p e);
+    zeroed = λ p h e. part-is p h ∙ left-zero (places t) (size t) (checks t) _ map p (subst (λ k. p < k) (sym (packets-length (size t) (places t) b)) h) (is-lost (outcome t b map .lost) p (ap (λ l. getD l p 0) (sym map-is) ∙ e));
+    stopping = rw map-is (left-stopping (places t) (size t) (checks t) _ map (fits .map-length));
+    within = rw map-is (left-within (places t) (size t) (checks t) _ map (fits .map-length));
+    largest = rw map-is (left-largest (places t) (size t) (checks t) _ map (fits .map-length));
+    sums = rw (map-is, packets-are) sums-checked;
+    counts = rw ok (rw (tally-restored (outcome t b map .lost), tally-lost (outcome t b map .lost), tally-lost map) counts-add);
+    whole = λ h. let z : lostIn (outcome t b map .lost) ≡ 0 = sym (tally-lost (outcome t b map .lost)) ∙ (rw ok at h) in record {
+      size-fits = ap length (block-accepted t b map ok) ∙ joined-length (size t) (outcome-sized t b map fits) ∙ ap (λ k. k * size t) (outcome-length t b map fits);
+      sums = rw packets-are (all-map (λ c k. k (none-lost (outcome t b map .lost) c z)) sums-checked);
+    };
+  }
+
+-- ---- with a codeword behind it
+module _ (t b map w : List ℕ) (f : Fitting t b map) (word : IsCodeword t w) (agree : Agree t b map w) where
+  packets-agree : (p : ℕ) → p < places t → isLost map p ≡ false → getD (packets (size t) (places t) b) p [] ≡ getD (packets (size t) (places t) w) p []
+  packets-agree p h e = packet-at (size t) (places t) b p h ∙ agree p h (lost-byte (bytes-all map (f .map-bytes)) p e) ∙ sym (packet-at (size t) (places t) w p h)
+
+  passes : repairRefusal t b map ≡ 0
+  passes = fitting-refusal t b map f ∙ ap (λ v. cond v 0 8) (no-contradiction (places t) (size t) (checks t) (accepted t (f .table) .low) (packets (size t) (places t) w)
+      (packets-length (size t) (places t) w) (packets-sized (size t) (places t) w (word .size-fits)) (word .sums)
+      (packets (size t) (places t) b) map (packets-length (size t) (places t) b) packets-agree)
+
+  value : (p : ℕ) → p < places t → isLost (outcome t b map .lost) p ≡ false → getD (outcome t b map .block) p [] ≡ getD (packets (size t) (places t) w) p []
+  value = restored (places t) (size t) (checks t) (accepted t (f .table) .low) (packets (size t) (places t) w)
+      (packets-length (size t) (places t) w) (packets-sized (size t) (places t) w (word .size-fits)) (word .sums)
+      (packets (size t) (places t) b) map (packets-length (size t) (places t) b) packets-agree
+
+  pub repairing : Repairing t b map w
+  repairing = record {
+    not-refused = passes;
+    values = λ p h e. part-is t b map passes p h ∙ value p h (byBool (isLost (outcome t b map .lost) p)
+        (λ z. absurd (e (ap (λ l. getD l p 0) (map-is t b map passes) ∙ eqb-true _ 1 z))) (λ z. z)) ∙ packet-at (size t) (places t) w p h;
+  }
+
+pub contradicted-repair : (t b map : List ℕ) → repairRefusal t b map ≡ 8 → Contradicted t b map
+contradicted-repair t b map h = record {
+  no-codeword = λ w word agree. let z : _≡_ {A = ℕ} 8 0 = sym h ∙ repairing t b map w fits word agree .not-refused in omega arith;
+  received = λ p k e. part p k ∙ wipe-kept (size t) map (packets (size t) (places t) b) p (not-lost map p e) ∙ packet-at (size t) (places t) b p k;
+  zeroed = λ p k e. part p k ∙ wipe-zero (size t) map (packets (size t) (places t) b) p (subst (λ x. p < x) (sym (packets-length (size t) (places t) b)) k) (is-lost map p e);
+  map-kept = map-refused t b map 8 h refl;
+}
+  where
+    fits : Fitting t b map
+    fits = contradicted-fits t b map h .0
+
+    part : (p : ℕ) → p < places t → partAt (size t) p (repairBlock t b map) ≡ getD (zeroLost (size t) map (packets (size t) (places t) b)) p []
+    part p k = ap (partAt (size t) p) (block-contradicted t b map h) ∙ part-joined (size t) (places t) _ (start-length t b map fits) (start-sized t b map fits) p k
+
+-- ---- verification
+-- "verification says that the block is a codeword": if and only if the table is accepted, the block is n·s bytes, and every check sums to zero
+pub passes-codeword : (t b : List ℕ) → verification t b ≡ Codeword → (refusal t ≡ 0) × IsCodeword t b
+passes-codeword t b h =
+    let r = verification-judged t b Codeword h (λ q e. let z : _≡_ {A = ℕ} 0 1 = cc in omega arith) in
+    (r .0, record { size-fits = r .1 .0; sums = verify-sound (size t) (packets (size t) (places t) b) 0 (checks t) (none-fails _ (r .1 .1)) })
+  where
+    none-fails : (v : Option ℕ) → verdict v ≡ Codeword → v ≡ none
+    none-fails none e = refl
+    none-fails (some k) e = cc
+
+pub codeword-passes : (t b : List ℕ) → refusal t ≡ 0 → IsCodeword t b → verification t b ≡ Codeword
+codeword-passes t b ok w = verification-is t b ok (w .size-fits) ∙ ap verdict (verify-complete (size t) (packets (size t) (places t) b) 0 (w .sums))
+
+-- "or gives the lowest check that fails": that one does, and every lower one sums to zero
+pub record FailsAt (t b : List ℕ) (k : ℕ) : Type 0 where
+  pub table : refusal t ≡ 0
+  pub size-fits : length b ≡ places t * size t
+  pub inside : k < length (checks t)
+  pub fails : packetSum (size t) (packets (size t) (places t) b) (getD (checks t) k []) ≢ replicate (size t) 0
+  pub lower : SumsToZero (size t) (take k (checks t)) (packets (size t) (places t) b)
+
+pub fails-lowest : (t b : List ℕ) (k : ℕ) → verification t b ≡ Fails k → FailsAt t b k
+fails-lowest t b k h =
+    let r = verification-judged t b (Fails k) h (λ q e. let z : _≡_ {A = ℕ} 0 1 = cc in omega arith) in
+    let low = verify-lowest (size t) (packets (size t) (places t) b) 0 (checks t) k (one-fails _ (r .1 .1)) in
+    let j : low .0 ≡ k = let z = low .1 .0 in omega arith in
+    record {
+      table = r .0;
+      size-fits = r .1 .0;
+      inside = subst (λ x. x < length (checks t)) j (low .1 .1 .0);
+      fails = subst (λ x. packetSum (size t) (packets (size t) (places t) b) (getD (checks t) x []) ≢ replicate (size t) 0) j (low .1 .1 .1 .0);
+      lower = subst (λ x. SumsToZero (size t) (take x (checks t)) (packets (size t) (places t) b)) j (low .1 .1 .1 .1);
+    }
+  where
+    one-fails : (v : Option ℕ) → verdict v ≡ Fails k → v ≡ some k
+    one-fails none e = cc
+    one-fails (some j) e = cc

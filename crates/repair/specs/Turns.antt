@@ -1,0 +1,33 @@
+-- What the parts of repair are: a turn, the number of the lowest ready check, marks taken back.
+use mathlib.Core.Path.{_≡_}
+use mathlib.Core.Bool.{Bool, true, false, cond}
+use mathlib.Core.List.{List, [], _∷_, map}
+use Prim.Native.Nat.{ℕ, zero, suc, _+_, _-_}
+use lib.Dec.{eqb}
+use lib.ListN.{length, getD, set}
+use Rattle.gf2.specs.Places.{minus}
+use Rattle.table.specs.Packets.{packetSum}
+use Rattle.table.specs.Table.{places, size, number, refusal}
+use Rattle.repair.specs.Repair.{State, lostPlaces}
+
+-- an accepted table, with its number of checks, its places and its packet size
+pub record TableOf (t : List ℕ) (m n s : ℕ) : Type 0 where
+  pub accepted : refusal t ≡ 0
+  pub number-is : m ≡ number t
+  pub places-are : n ≡ places t
+  pub size-is : s ≡ size t
+
+-- check c restores its one lost place
+abbrev pub turn : ℕ → List ℕ → State → State
+turn s c m =
+    let p = getD (lostPlaces (m .lost) c) 0 0 in
+    record { block = set (m .block) p (packetSum s (m .block) (minus c (p ∷ []))); lost = set (m .lost) p 2; adds = m .adds + (length c - 1) }
+
+-- the number of the lowest check with exactly one lost place; the number of checks if there is none
+unfoldable pub readyNumber : List ℕ → List (List ℕ) → ℕ
+readyNumber lost [] = 0
+readyNumber lost (c ∷ cs) = elim (eqb (length (lostPlaces lost c)) 1) [ true ↦ 0 | false ↦ suc (readyNumber lost cs) ]
+
+-- 1 for every 2
+unfoldable pub unmarked : List ℕ → List ℕ
+unmarked l = map (λ x. cond (eqb x 2) 1 x) l
