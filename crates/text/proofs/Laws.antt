@@ -1,0 +1,77 @@
+-- Laws of a table file's words, and of a number's decimal digits.
+use mathlib.Core.Path.{_≡_, refl, sym, ap, ap₂, _∙_, subst}
+use mathlib.Core.List.{List, [], _∷_, _++_}
+use Prim.Native.Nat.{ℕ, zero, suc, _+_, _-_, _*_, _/_, _%_, _^_, _≤_, _<_}
+use native.Mathlib.Omega.{arith}
+use native.Mathlib.Nat.{pow-suc, pow-le-pow-right, mod-lt, mod-eq-of-lt}
+use lib.ListN.{length, getD, take, length-append}
+use lib.Seq.{take-at}
+use lib.Dec.{ltb}
+use borrow.Author.Tests.{lt-ltb, le-ltb, ltb-true, ltb-false}
+use mathlib.Core.Bool.{Bool, true, false}
+use Rattle.io.specs.Counts.{Counts}
+use Rattle.io.specs.Digits.{digits, Fewest, glyph}
+use Rattle.text.specs.Lines.{digitsWithin, decimal, Appended}
+use Rattle.text.specs.Files.{wordsOf}
+
+-- as many words as pairs of bytes
+pub words-length : (file : List ℕ) (n : ℕ) → length file ≡ 2 * n → length (wordsOf file) ≡ n
+words-length [] n e = omega arith
+words-length (low ∷ []) n e = absurd (omega arith)
+words-length (low ∷ (high ∷ rest)) n e = let h = words-length rest (n - 1) (omega arith) in omega arith
+
+-- the word at i
+pub words-at : (file : List ℕ) (n i : ℕ) → length file ≡ 2 * n → i < n
+    → getD (wordsOf file) i 0 ≡ getD file (2 * i) 0 + getD file (2 * i + 1) 0 * 256
+words-at [] n i e h = absurd (omega arith)
+words-at (low ∷ []) n i e h = absurd (omega arith)
+words-at (low ∷ (high ∷ rest)) n zero e h = refl
+words-at (low ∷ (high ∷ rest)) n (suc i) e h =
+    let d : 2 * suc i ≡ suc (suc (2 * i)) = omega arith in
+    let d' : 2 * suc i + 1 ≡ suc (suc (2 * i + 1)) = omega arith in
+    rw (d', d) (words-at rest (n - 1) i (omega arith) (omega arith))
+
+-- the file's words at the start of a longer list
+pub words-front : (k : ℕ) (v rest file : List ℕ) → length v ≡ k → v ≡ wordsOf file → Counts k (v ++ rest) × (take k (v ++ rest) ≡ wordsOf file)
+words-front k v rest file l e =
+    let t : take k (v ++ rest) ≡ v = take-at v rest k l in
+    ((simp length-append (omega arith), sym (ap length t ∙ l)), t ∙ e)
+
+-- a digit's byte
+digit : (x : ℕ) → glyph (x % 10) ≡ 48 + x % 10
+digit x = rw (lt-ltb (x % 10) 10 (mod-lt x (omega arith)))
+
+-- the fewest digits that hold x are its decimal digits
+pub digits-decimal : (k m x : ℕ) → Fewest 10 1 x (suc k) → suc k ≤ m → digits 10 (suc k) x ≡ digitsWithin m x
+unfolding digitsWithin
+digits-decimal k zero x f h = absurd (omega arith)
+digits-decimal zero (suc m) x f h =
+    let l : x < 10 = f .1 in
+    rw (lt-ltb x 10 l, digitsWithin) (ap (λ (d : ℕ). d ∷ []) (digit x ∙ ap (λ (d : ℕ). 48 + d) (mod-eq-of-lt l)))
+digits-decimal (suc k) (suc m) x f h =
+    let e : suc (suc k) - 1 ≡ suc k = omega arith in
+    let e' : suc k - 1 ≡ k = omega arith in
+    let top : x < 10 ^ suc k * 10 = rw pow-suc at (f .1) in
+    let low : 10 ^ k * 10 ≤ x = rw (e, pow-suc) at (f .2 (omega arith)) in
+    let one : 10 ^ 0 ≤ 10 ^ k = pow-le-pow-right (omega arith) {i = 0} {j = k} (omega arith) in
+    let next : Fewest 10 1 (x / 10) (suc k) = (omega arith, omega arith, λ _. rw e' (omega arith)) in
+    rw (le-ltb x 10 (omega arith), digitsWithin) (ap₂ (λ (a b : List ℕ). a ++ b) (digits-decimal k m (x / 10) next (omega arith)) (ap (λ (d : ℕ). d ∷ []) (digit x)))
+
+-- a number below 2 ^ 64 has at most 20 digits
+pub few-digits : (k x : ℕ) → x < 2 ^ 64 → Fewest 10 1 x k → k ≤ 20
+few-digits k x fits f = few (ltb 20 k) refl
+  where
+    few : (b : Bool) → ltb 20 k ≡ b → k ≤ 20
+    few false h = ltb-false 20 k h
+    few true h =
+        let l : 20 < k = ltb-true 20 k h in
+        let p : 10 ^ 20 ≤ 10 ^ (k - 1) = pow-le-pow-right (omega arith) {i = 20} {j = k - 1} (omega arith) in
+        let q : 10 ^ (k - 1) ≤ x = f .2 (omega arith) in
+        absurd (omega arith)
+
+-- what is appended is the number
+pub appended-number : {line line' : List ℕ} {at r : ℕ} (k x : ℕ) (d : List ℕ) → x < 2 ^ 64 → Fewest 10 1 x k → d ≡ digits 10 k x
+    → Appended line at d line' r → Appended line at (decimal x) line' r
+appended-number zero x d fits f e a = absurd (omega (arith, f .0))
+appended-number {line} {line'} {at} {r} (suc k) x d fits f e a =
+    subst (λ (w : List ℕ). Appended line at w line' r) (e ∙ digits-decimal k 20 x f (few-digits (suc k) x fits f)) a
