@@ -8,9 +8,9 @@ ghost use Rattle.gf2.specs.Span.{anyOf};
 ghost use Rattle.table.specs.Checks.{Places, Starts};
 ghost use Rattle.table.specs.Packets.{packets, joined};
 ghost use Rattle.table.specs.Table.{checks};
-ghost use Rattle.repair.specs.Repair.{lostPlaces, tally, zeroLost, consistent, restoring, repairReport, repairBlock, repairMap};
+ghost use Rattle.repair.specs.Repair.{lostPlaces, tally, zeroLost, consistent, restoring, Answers};
 ghost use Rattle.repair.specs.RepairLaws.{Fitting};
-ghost use Rattle.repair.specs.Turns.{TableOf, Holds, Restored, readyNumber, stateOf, turn, unmarked, reportOf, Answers};
+ghost use Rattle.repair.specs.Turns.{TableOf, Holds, Restored, readyNumber, stateOf, turn, unmarked};
 ghost use Rattle.repair.specs.Verify.{failing, verdict, verification};
 
 // What verification says: a refusal, a codeword, or the lowest check that fails.
@@ -265,7 +265,14 @@ fn accepted(map: &[u8], adds: usize) -> Repaired
 }
 
 // the call where none of 1 to 7 refuses
-fn mend(t: &[u16], m: usize, n: usize, s: usize, block: &mut [u8], map: &mut [u8]) -> Repaired
+fn repair_packets(
+    t: &[u16],
+    m: usize,
+    n: usize,
+    s: usize,
+    block: &mut [u8],
+    map: &mut [u8],
+) -> Repaired
     requires { ⌜ TableOf (now t) m n s × Fitting (now t) (now block) (now map) ⌝ }
     ensures { λ r. ⌜ Answers (now (t .entry)) (now (block .entry)) (now (map .entry)) r (now (block .exit)) (now (map .exit)) ⌝ }
 {
@@ -300,5 +307,5 @@ pub fn repair(t: &[u16], block: &mut [u8], map: &mut [u8]) -> Repaired
     if over_one(map) {
         return refused(7);
     }
-    mend(t, wide(t[3]), n, s, block, map)
+    repair_packets(t, wide(t[3]), n, s, block, map)
 }
