@@ -1,2 +1,4 @@
+pub mod BlockLaws
 pub mod MapLaws
 pub mod TableUse
+pub mod Turning

@@ -2,18 +2,32 @@
 use mathlib.Core.Path.{_≡_, refl, sym, ap, ap₂, _∙_, subst}
 use mathlib.Core.Bool.{Bool, true, false}
 use mathlib.Core.List.{List, [], _∷_}
+use mathlib.Core.Option.{Option, none, some}
 use Prim.Native.Nat.{ℕ, zero, suc, _+_, _-_, _*_, _<_, _≤_}
+use native.Mathlib.Nat.{mul-le-mul}
 use native.Mathlib.Numerals.{add-one}
 use native.Mathlib.Omega.{arith}
 use borrow.Author.Tests.{ne-eqb, eq-eqb}
 use lib.Dec.{eqb}
-use lib.ListN.{length, getD, take, drop, drop-of-length-le}
+use lib.ListN.{length, getD, take, drop, replicate, drop-of-length-le}
 use lib.Seq.{drop-cons}
-use Rattle.table.specs.Checks.{offset, check, Places, Checks, Starts}
+use Rattle.gf2.specs.Lists.{sameList}
+use Rattle.gf2.specs.Span.{byBool}
+use Rattle.table.specs.Checks.{offset, check, Places, Checks, CheckIn}
 use Rattle.table.specs.ChecksLaws.{limits, checks-length, checks-at, check-places, weight-small, each-check}
+use Rattle.table.specs.Packets.{packets, packetSum, lowestNonzero}
+use Rattle.table.specs.SumLaws.{places-in, sum-length, lowest-same, same-lowest}
 use Rattle.table.specs.Table.{places, size, number, checks, refusal}
-use Rattle.repair.specs.Repair.{lostPlaces}
+use Rattle.repair.specs.Repair.{State, lostPlaces, consistent}
 use Rattle.repair.specs.Turns.{TableOf, readyNumber}
+use Rattle.repair.specs.Verify.{zeroSum, failing}
+
+-- what a look at the table and its first words tell
+pub table-of : (t : List ℕ) (r m n s : ℕ) → r ≡ refusal t → r ≡ 0 → m ≡ number t → n ≡ places t → s ≡ size t → TableOf t m n s
+table-of t r m n s look ok em en es = record { accepted = sym look ∙ ok; number-is = em; places-are = en; size-is = es }
+
+pub words : (t : List ℕ) (r : ℕ) → r ≡ refusal t → r ≡ 0 → 5 ≤ length t
+words t r look ok = let h = each-check t (sym look ∙ ok) .weights in omega arith
 
 module _ (t : List ℕ) (m n s : ℕ) (k : TableOf t m n s) where
   pub few-places : n ≤ 1024
@@ -21,6 +35,10 @@ module _ (t : List ℕ) (m n s : ℕ) (k : TableOf t m n s) where
 
   pub few-bytes : s ≤ 1024
   few-bytes = rw (k .size-is) (limits t (k .accepted) .few-bytes)
+
+  -- the bytes of a block
+  pub block-small : n * s ≤ 1048576
+  block-small = mul-le-mul few-places few-bytes
 
   pub few-checks : m ≤ 512
   few-checks = rw (k .number-is) (limits t (k .accepted) .few-checks)
@@ -34,20 +52,29 @@ module _ (t : List ℕ) (m n s : ℕ) (k : TableOf t m n s) where
   pub light : (j : ℕ) → j < m → getD t (4 + j) 0 ≤ 64
   light j h = weight-small t (k .accepted) j (subst (λ x. j < x) (k .number-is) h)
 
-  module _ (starts : List ℕ) (st : Starts t m starts) (j : ℕ) (h : j < m) where
-    pub places-of : Places t (getD starts j 0) (getD t (4 + j) 0) n
-    places-of = rw (st .each j h, k .number-is, k .places-are) (check-places t (k .accepted) j (subst (λ x. j < x) (k .number-is) h))
+  -- check j stands at its start a, with weight w, over a map or a block of n places
+  module _ (j : ℕ) (h : j < m) (a w : ℕ) (at : a ≡ 5 + m + offset t j) (weight : w ≡ getD t (4 + j) 0) where
+    pub places-at : (l : ℕ) → l ≡ n → Places t a w l
+    places-at l e = rw (at, weight, e, k .number-is, k .places-are) (check-places t (k .accepted) j (subst (λ x. j < x) (k .number-is) h))
 
-    -- as the code has it
-    pub places-at : (a w l : ℕ) → a ≡ getD starts j 0 → w ≡ getD t (4 + j) 0 → l ≡ n → Places t a w l
-    places-at a w l ea ew el = rw (ea, ew, el) places-of
-
-    pub check-of : getD (checks t) j [] ≡ take (getD t (4 + j) 0) (drop (getD starts j 0) t)
+    pub check-is : take w (drop a t) ≡ getD (checks t) j []
     unfolding check
-    check-of = rw (st .each j h, k .number-is) (checks-at t (k .accepted) j (subst (λ x. j < x) (k .number-is) h))
+    check-is = rw (at, weight, k .number-is) (sym (checks-at t (k .accepted) j (subst (λ x. j < x) (k .number-is) h)))
 
-    pub check-is : (a w : ℕ) → a ≡ getD starts j 0 → w ≡ getD t (4 + j) 0 → take w (drop a t) ≡ getD (checks t) j []
-    check-is a w ea ew = rw (ea, ew) (sym check-of)
+    pub check-fits : a + w ≤ length t
+    check-fits = places-at n refl .room
+
+    pub check-in : (b : List ℕ) → length b ≡ n * s → CheckIn t a w b n s
+    check-in b e = places-in t a w b n s (places-at n refl) e
+
+-- the next start
+pub offset-none : (t : List ℕ) (m : ℕ) → 5 + m ≡ 5 + m + offset t 0
+unfolding offset
+offset-none t m = omega arith
+
+pub offset-more : (t : List ℕ) (m j a w : ℕ) → a ≡ 5 + m + offset t j → w ≡ getD t (4 + j) 0 → a + w ≡ 5 + m + offset t (j + 1)
+unfolding offset
+offset-more t m j a w e f = rw (add-one j) (omega arith)
 
 -- ---- the lowest ready check
 drop-more : (cs : List (List ℕ)) (j : ℕ) → j < length cs → drop j cs ≡ getD cs j [] ∷ drop (j + 1) cs
@@ -65,3 +92,45 @@ ready-miss lost cs j h e = rw (drop-more cs j h, ne-eqb _ _ e, readyNumber)
 pub ready-end : (lost : List ℕ) (cs : List (List ℕ)) (j : ℕ) → length cs ≤ j → readyNumber lost (drop j cs) ≡ 0
 unfolding readyNumber
 ready-end lost cs j h = rw (drop-of-length-le cs h)
+
+-- ---- the lowest check that fails
+pub fail-hit : (s : ℕ) (b cs : List (List ℕ)) (j : ℕ) → j < length cs → zeroSum s b (getD cs j []) ≡ false → failing s b j (drop j cs) ≡ some j
+fail-hit s b cs j h e = rw (drop-more cs j h, e, failing)
+
+pub fail-miss : (s : ℕ) (b cs : List (List ℕ)) (j : ℕ) → j < length cs → zeroSum s b (getD cs j []) ≡ true → failing s b j (drop j cs) ≡ failing s b (j + 1) (drop (j + 1) cs)
+fail-miss s b cs j h e = rw (drop-more cs j h, e, failing, add-one j)
+
+pub fail-end : (s : ℕ) (b cs : List (List ℕ)) (j : ℕ) → length cs ≤ j → failing s b j (drop j cs) ≡ none
+fail-end s b cs j h = rw (drop-of-length-le cs h)
+
+-- the sum as the code has it
+module _ (t b : List ℕ) (n s a w : ℕ) (c : CheckIn t a w b n s) (x : List ℕ) (is : take w (drop a t) ≡ x) (r : ℕ)
+    (sum : r ≡ lowestNonzero (packetSum s (packets s n b) (take w (drop a t)))) where
+  long : length (packetSum s (packets s n b) (take w (drop a t))) ≡ s
+  long = sum-length t a w b n s c
+
+  pub sum-zero : r ≡ s → zeroSum s (packets s n b) x ≡ true
+  sum-zero e = subst (λ y. zeroSum s (packets s n b) y ≡ true) is
+      (subst (λ k. sameList (packetSum s (packets s n b) (take w (drop a t))) (replicate k 0) ≡ true) long
+      (lowest-same (packetSum s (packets s n b) (take w (drop a t))) (sym sum ∙ e ∙ sym long)))
+
+  pub sum-nonzero : (r ≡ s → ⊥) → zeroSum s (packets s n b) x ≡ false
+  sum-nonzero e = byBool (zeroSum s (packets s n b) x)
+      (λ z. absurd (e (sum ∙ same-lowest (packetSum s (packets s n b) (take w (drop a t)))
+      (subst (λ k. sameList (packetSum s (packets s n b) (take w (drop a t))) (replicate k 0) ≡ true) (sym long)
+      (subst (λ y. zeroSum s (packets s n b) y ≡ true) (sym is) z)) ∙ long)))
+      (λ z. z)
+
+-- ---- every check without a lost place
+module _ (s : ℕ) (st : State) (cs : List (List ℕ)) (j : ℕ) (h : j < length cs) where
+  pub agree-lost : (length (lostPlaces (st .lost) (getD cs j [])) ≡ 0 → ⊥) → consistent s (drop j cs) st ≡ consistent s (drop (j + 1) cs) st
+  agree-lost e = rw (drop-more cs j h, ne-eqb _ _ e)
+
+  pub agree-zero : length (lostPlaces (st .lost) (getD cs j [])) ≡ 0 → zeroSum s (st .block) (getD cs j []) ≡ true → consistent s (drop j cs) st ≡ consistent s (drop (j + 1) cs) st
+  agree-zero e z = rw (drop-more cs j h, e, z)
+
+  pub agree-not : length (lostPlaces (st .lost) (getD cs j [])) ≡ 0 → zeroSum s (st .block) (getD cs j []) ≡ false → consistent s (drop j cs) st ≡ false
+  agree-not e z = rw (drop-more cs j h, e, z)
+
+pub agree-end : (s : ℕ) (st : State) (cs : List (List ℕ)) (j : ℕ) → length cs ≤ j → consistent s (drop j cs) st ≡ true
+agree-end s st cs j h = rw (drop-of-length-le cs h)

@@ -42,7 +42,7 @@ none-stopping lost (c ∷ cs) e = byBool (eqb (length (lostPlaces lost c)) 1)
     clash p = let z : _≡_ {A = ℕ} 0 1 = cc in omega arith
 
 -- fuel: no more places are lost than there are
-lost-most : (l : List ℕ) → lostIn l ≤ length l
+pub lost-most : (l : List ℕ) → lostIn l ≤ length l
 lost-most [] = omega arith
 lost-most (x ∷ l) = let h = lost-most l in byBool (eqb x 1) (λ e. rw (e, lostIn) (omega arith)) (λ e. rw (e, lostIn) (omega arith))
 

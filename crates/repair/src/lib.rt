@@ -6,15 +6,62 @@ ghost use lib.Dec.{ltb};
 ghost use lib.ListN.{length, getD, take, drop};
 ghost use Rattle.gf2.specs.Span.{anyOf};
 ghost use Rattle.table.specs.Checks.{Places, Starts};
+ghost use Rattle.table.specs.Packets.{packets, joined};
 ghost use Rattle.table.specs.Table.{checks};
-ghost use Rattle.repair.specs.Repair.{lostPlaces, tally};
-ghost use Rattle.repair.specs.Turns.{TableOf, readyNumber, unmarked};
+ghost use Rattle.repair.specs.Repair.{lostPlaces, tally, zeroLost, consistent, restoring, repairReport, repairBlock, repairMap};
+ghost use Rattle.repair.specs.RepairLaws.{Fitting};
+ghost use Rattle.repair.specs.Turns.{TableOf, Holds, Restored, readyNumber, stateOf, turn, unmarked, reportOf, Answers};
+ghost use Rattle.repair.specs.Verify.{failing, verdict, verification};
 
 // What verification says: a refusal, a codeword, or the lowest check that fails.
 pub enum Verified {
     Refused(u32),
     Codeword,
     Fails(usize),
+}
+
+// What repair reports: the refusal, 0 for none, and the counts.
+pub struct Repaired {
+    pub refusal: u32,
+    pub restored: u32,
+    pub lost: u32,
+    pub additions: u32,
+}
+
+// ---- verification
+
+// what the m checks say of the block
+fn look_at_checks(t: &[u16], m: usize, n: usize, s: usize, block: &[u8]) -> Verified
+    requires { ⌜ TableOf (now t) m n s × (length (now block) ≡ n * s) ⌝ }
+    ensures { λ r. ⌜ r ≡ verdict (failing s (packets s n (now (block .entry))) 0 (checks (now (t .entry)))) ⌝ }
+{
+    let mut at = 5 + m;
+    let mut j = 0;
+    while j < m {
+        let w = wide(t[4 + j]);
+        if table::sum_of_check(t, at, w, block, n, s) != s {
+            return Verified::Fails(j);
+        }
+        at += w;
+        j += 1;
+    }
+    Verified::Codeword
+}
+
+// Whether the block is a codeword, or the lowest check that fails.
+pub fn verify(t: &[u16], block: &[u8]) -> Verified
+    ensures { λ r. ⌜ r ≡ verification (now (t .entry)) (now (block .entry)) ⌝ }
+{
+    let refusal = table::look_over(t);
+    if refusal != 0 {
+        return Verified::Refused(refusal);
+    }
+    let n = wide(t[1]);
+    let s = wide(t[2]);
+    if block.len() != n * s {
+        return Verified::Refused(5);
+    }
+    look_at_checks(t, wide(t[3]), n, s, block)
 }
 
 // ---- the lost map
@@ -109,4 +156,96 @@ fn next_ready(t: &[u16], m: usize, n: usize, s: usize, starts: &[u16], map: &[u8
         j += 1;
     }
     m
+}
+
+// ---- the block
+
+// zero bytes at every lost place
+fn zero_lost(block: &mut [u8], map: &[u8], n: usize, s: usize)
+    requires { ⌜ (length (now block) ≡ n * s) × (length (now map) ≡ n) ⌝ }
+    ensures { λ _. ⌜ now (block .exit) ≡ joined (zeroLost s (now (map .entry)) (packets s n (now (block .entry)))) ⌝ }
+{
+    let mut p = 0;
+    while p < n {
+        if map[p] == 1 {
+            table::clear(block, p * s, s);
+        }
+        p += 1;
+    }
+}
+
+// every check without a lost place sums to zero
+fn agrees(t: &[u16], m: usize, n: usize, s: usize, block: &[u8], map: &[u8]) -> bool
+    requires { ⌜ TableOf (now t) m n s × (length (now block) ≡ n * s) × (length (now map) ≡ n) ⌝ }
+    ensures { λ r. ⌜ r ≡ consistent s (checks (now (t .entry))) (stateOf s n (now (block .entry)) (now (map .entry)) 0) ⌝ }
+{
+    let mut at = 5 + m;
+    let mut j = 0;
+    while j < m {
+        let w = wide(t[4 + j]);
+        if lost_in(t, at, w, map) == 0 {
+            if table::sum_of_check(t, at, w, block, n, s) != s {
+                return false;
+            }
+        }
+        at += w;
+        j += 1;
+    }
+    true
+}
+
+// ---- repair
+
+// the check at at, of which one place is lost, restores that place
+fn restore_one(
+    t: &[u16],
+    at: usize,
+    weight: usize,
+    n: usize,
+    s: usize,
+    block: &mut [u8],
+    map: &mut [u8],
+)
+    requires { ⌜ Places (now t) at weight n × (length (now block) ≡ n * s) × (length (now map) ≡ n) × (length (lostPlaces (now map) (take weight (drop at (now t)))) ≡ 1) ⌝ }
+    ensures { λ _. ⌜ Holds (turn s (take weight (drop at (now (t .entry)))) (stateOf s n (now (block .entry)) (now (map .entry)) 0)) (now (block .exit)) (now (map .exit)) ⌝ }
+{
+    let p = first_lost(t, at, weight, map);
+    table::restore(t, at, weight, block, n, s, p);
+    map[p] = 2;
+}
+
+// while some check has exactly one lost place, the lowest such check restores it; the additions
+fn restore_all(
+    t: &[u16],
+    m: usize,
+    n: usize,
+    s: usize,
+    starts: &[u16],
+    block: &mut [u8],
+    map: &mut [u8],
+) -> usize
+    requires { ⌜ TableOf (now t) m n s × Starts (now t) m (now starts) × (length (now block) ≡ n * s) × (length (now map) ≡ n) ⌝ }
+    ensures { λ r. ⌜ Restored n s (checks (now (t .entry))) (now (block .entry)) (now (map .entry)) (now (block .exit)) (now (map .exit)) r ⌝ }
+{
+    let mut adds = 0;
+    loop {
+        let j = next_ready(t, m, n, s, starts, map);
+        if j == m {
+            return adds;
+        }
+        let w = wide(t[4 + j]);
+        restore_one(t, wide(starts[j]), w, n, s, block, map);
+        adds += w - 1;
+    }
+}
+
+fn refused(refusal: u32) -> Repaired
+    ensures { λ r. ⌜ (r .refusal ≡ refusal) × (r .restored ≡ 0) × (r .lost ≡ 0) × (r .additions ≡ 0) ⌝ }
+{
+    Repaired {
+        refusal: refusal,
+        restored: 0,
+        lost: 0,
+        additions: 0,
+    }
 }

@@ -39,24 +39,25 @@ weighedOn sum ws = cond (anyOf (ltb 64) ws) 65536 (sum + total ws)
 pub weigh-start : (ws ws′ : List ℕ) → ws′ ≡ ws → weighed ws ≡ weighedOn 0 ws′
 weigh-start ws ws′ h = let e : total ws ≡ 0 + total ws = omega arith in ap (cond (anyOf (ltb 64) ws) 65536) e ∙ ap (weighedOn 0) (sym h)
 
-pub weigh-heavy : (sum w : ℕ) (l ws : List ℕ) → l ≡ w ∷ ws → 64 < w → _≡_ {A = ℕ} 65536 (weighedOn sum l)
-weigh-heavy sum w l ws h k = rw (h, lt-ltb 64 w k)
+pub weigh-heavy : (sum x w : ℕ) (l ws : List ℕ) → x ≡ w → l ≡ w ∷ ws → 64 < x → _≡_ {A = ℕ} 65536 (weighedOn sum l)
+weigh-heavy sum x w l ws e h k = rw (h, lt-ltb 64 w (rw e at k))
 
-pub weigh-light : (sum w : ℕ) (l ws : List ℕ) → l ≡ w ∷ ws → w ≤ 64 → weighedOn sum l ≡ weighedOn (sum + w) ws
-weigh-light sum w l ws h k = let e : sum + (w + total ws) ≡ sum + w + total ws = omega arith in rw (h, le-ltb 64 w k) (ap (cond (anyOf (ltb 64) ws) 65536) e)
+pub weigh-light : (sum x w : ℕ) (l ws : List ℕ) → x ≡ w → l ≡ w ∷ ws → x ≤ 64 → weighedOn sum l ≡ weighedOn (sum + x) ws
+weigh-light sum x w l ws e h k = let a : sum + (w + total ws) ≡ sum + x + total ws = omega arith in
+    rw (h, le-ltb 64 w (rw e at k)) (ap (cond (anyOf (ltb 64) ws) 65536) a)
 
 pub weigh-end : (sum : ℕ) (l : List ℕ) → l ≡ [] → sum ≡ weighedOn sum l
 weigh-end sum l h = rw h (omega arith)
 
 -- ---- one check's places
-pub rise-low : (n b p : ℕ) (l c : List ℕ) → l ≡ p ∷ c → p < b → false ≡ rising n b l
-rise-low n b p l c h k = rw (h, lt-leb b p k)
+pub rise-low : (n b x p : ℕ) (l c : List ℕ) → x ≡ p → l ≡ p ∷ c → x < b → false ≡ rising n b l
+rise-low n b x p l c e h k = rw (h, lt-leb b p (rw e at k))
 
-pub rise-high : (n b p : ℕ) (l c : List ℕ) → l ≡ p ∷ c → n ≤ p → false ≡ rising n b l
-rise-high n b p l c h k = rw h (byBool (leb b p) (λ e. rw (e, le-ltb p n k)) (λ e. rw e))
+pub rise-high : (n b x p : ℕ) (l c : List ℕ) → x ≡ p → l ≡ p ∷ c → n ≤ x → false ≡ rising n b l
+rise-high n b x p l c e h k = rw h (byBool (leb b p) (λ a. rw (a, le-ltb p n (rw e at k))) (λ a. rw a))
 
-pub rise-on : (n b p : ℕ) (l c : List ℕ) → l ≡ p ∷ c → b ≤ p → p < n → rising n b l ≡ rising n (p + 1) c
-rise-on n b p l c h i k = rw (h, le-leb b p i, lt-ltb p n k, add-one p)
+pub rise-on : (n b x p : ℕ) (l c : List ℕ) → x ≡ p → l ≡ p ∷ c → b ≤ x → x < n → rising n b l ≡ rising n (x + 1) c
+rise-on n b x p l c e h i k = rw (h, le-leb b p (rw e at i), lt-ltb p n (rw e at k), e, add-one p)
 
 -- ---- one number
 pub out-zero : (most x : ℕ) → x ≡ 0 → true ≡ outside most x

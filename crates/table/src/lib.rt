@@ -187,7 +187,8 @@ pub fn packet_refusal(n: usize, s: usize, place: usize, len: usize) -> u32
     if outside(MOST_BYTES, s) {
         return 2;
     }
-    if len != n * s {
+    let bytes = n * s;
+    if len != bytes {
         return 5;
     }
     if n <= place {

@@ -59,7 +59,8 @@ wide-requires-2 c κs = omega arith
 lost-in-requires : tie.Need-lost-in-requires Inv-loop μ-loop
 lost-in-requires c κs =
     let p = c .before .before .before .before .before .before .before .before .before .pre in
-    places-at _ _ _ _ (p .0) _ (p .1) (c .before .before .before .before .before .loop .j) (c .before .before .before .before .loop-test .taken) _ _ _ (c .before .before .wide .ensures) (c .wide2 .ensures) (p .2)
+    let h = c .before .before .before .before .loop-test .taken in
+    places-at _ _ _ _ (p .0) (c .before .before .before .before .before .loop .j) h _ _ (c .before .before .wide .ensures ∙ p .1 .each _ h) (c .wide2 .ensures) _ (p .2)
 
 -- src/lib.rt:107:13
 returns : tie.Need-returns Inv-loop μ-loop
@@ -68,7 +69,7 @@ returns c =
     let a = c .before .before .before .before .before .before .before .before .before .before .before .args in
     let s = c .before .before .before .before .before .before .before .loop in
     let more = c .before .before .before .before .before .before .loop-test .taken in
-    let z = check-is (a .t .now) _ _ _ (p .0) (a .starts .now) (p .1) (s .j) more _ _ (c .before .before .before .before .wide .ensures) (c .before .before .wide2 .ensures) in
+    let z = check-is (a .t .now) _ _ _ (p .0) (s .j) more _ _ (c .before .before .before .before .wide .ensures ∙ p .1 .each _ more) (c .before .before .wide2 .ensures) in
     let h = ready-hit (a .map .now) (checks (a .t .now)) (s .j) (rw (check-count _ _ _ _ (p .0)) more) (sym (c .before .lost-in .ensures ∙ ap (λ l. length (lostPlaces (a .map .now) l)) z) ∙ c .if1 .taken) in
     omega arith
 
@@ -87,7 +88,7 @@ loop-again c =
     let a = c .before .before .before .before .before .before .before .before .before .before .before .args in
     let s = c .before .before .before .before .before .before .before .loop in
     let more = c .before .before .before .before .before .before .loop-test .taken in
-    let z = check-is (a .t .now) _ _ _ (p .0) (a .starts .now) (p .1) (s .j) more _ _ (c .before .before .before .before .wide .ensures) (c .before .before .wide2 .ensures) in
+    let z = check-is (a .t .now) _ _ _ (p .0) (s .j) more _ _ (c .before .before .before .before .wide .ensures ∙ p .1 .each _ more) (c .before .before .wide2 .ensures) in
     let h = ready-miss (a .map .now) (checks (a .t .now)) (s .j) (rw (check-count _ _ _ _ (p .0)) more) (λ e. c .if1 .left (c .before .lost-in .ensures ∙ ap (λ l. length (lostPlaces (a .map .now) l)) z ∙ e)) in
     (omega arith, omega arith)
 

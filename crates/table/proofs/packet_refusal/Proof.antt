@@ -17,8 +17,8 @@ outside-requires-2 c κs = search needs
 returns-2 : tie.Need-returns-2
 returns-2 c = refuse-bytes (c .before .before .before .before .args .n) (c .before .before .before .before .args .s) (c .before .before .before .before .args .place) (c .before .before .before .before .args .len) _ (c .before .outside2 .ensures) (c .if2 .taken)
 
-mul-if3 : tie.Need-mul-if3
-mul-if3 c = let p = product (c .before .before .before .before .args .n) (c .before .before .before .before .args .s) _ _ (c .before .before .before .outside .ensures) (c .before .before .if1 .left) (c .before .outside2 .ensures) (c .if2 .left) in omega arith
+mul-bytes : tie.Need-mul-bytes
+mul-bytes c = let p = product (c .before .before .before .before .args .n) (c .before .before .before .before .args .s) _ _ (c .before .before .before .outside .ensures) (c .before .before .if1 .left) (c .before .outside2 .ensures) (c .if2 .left) in omega arith
 
 returns-3 : tie.Need-returns-3
 returns-3 c = refuse-length (c .before .before .before .before .before .args .n) (c .before .before .before .before .before .args .s) (c .before .before .before .before .before .args .place) (c .before .before .before .before .before .args .len) _ _ (c .before .before .before .before .outside .ensures) (c .before .before .before .if1 .left) (c .before .before .outside2 .ensures) (c .before .if2 .left) (c .if3 .taken)
@@ -37,7 +37,7 @@ packet-refusal-spec =
     returns
     outside-requires-2
     returns-2
-    mul-if3
+    mul-bytes
     returns-3
     returns-4
     returns-5)

@@ -35,7 +35,7 @@ returns c =
     let s = c .before .before .before .before .loop in
     let p = part-cons (a .t .now) (s .i) (a .at + a .weight) (s .i + 1) refl (omega arith) (omega arith) in
     let e = c .before .wide .ensures in
-    rise-low _ _ _ _ _ p (rw e at (c .if1 .taken)) ∙ sym (s .inv .2)
+    rise-low _ _ _ _ _ _ e p (c .if1 .taken) ∙ sym (s .inv .2)
 
 returns-2 : tie.Need-returns-2 Inv-loop μ-loop
 returns-2 c =
@@ -43,7 +43,7 @@ returns-2 c =
     let s = c .before .before .before .before .before .loop in
     let p = part-cons (a .t .now) (s .i) (a .at + a .weight) (s .i + 1) refl (omega arith) (omega arith) in
     let e = c .before .before .wide .ensures in
-    rise-high _ (s .low) _ _ _ p (rw e at (c .if2 .taken)) ∙ sym (s .inv .2)
+    rise-high _ (s .low) _ _ _ _ e p (c .if2 .taken) ∙ sym (s .inv .2)
 
 add-low : tie.Need-add-low Inv-loop μ-loop
 add-low c = omega arith
@@ -60,7 +60,7 @@ loop-again c =
     let s = c .before .before .before .before .before .loop in
     let p = part-cons (a .t .now) (s .i) (a .at + a .weight) (s .i + 1) refl (omega arith) (omega arith) in
     let e = c .before .before .wide .ensures in
-    (omega arith, omega arith, s .inv .2 ∙ rw e (rise-on _ _ _ _ _ p (rw e at (c .before .if1 .left)) (rw e at (c .if2 .left))))
+    (omega arith, omega arith, s .inv .2 ∙ rise-on _ _ _ _ _ _ e p (c .before .if1 .left) (c .if2 .left))
 
 returns-3 : tie.Need-returns-3 Inv-loop μ-loop
 returns-3 c =

@@ -28,7 +28,7 @@ add-result : tie.Need-add-result Inv-loop μ-loop
 add-result c = omega arith
 
 returns : tie.Need-returns Inv-loop μ-loop
-returns c = let a = c .before .before .before .before .before .before in found (packetSum (a .args .s) (packets (a .args .s) (a .args .n) (a .args .block .now)) (take (a .args .weight) (drop (a .args .at) (a .args .t .now)))) _ 64 _ (omega (arith, sum-length _ _ _ _ _ _ (a .pre))) (c .before .before .before .loop .inv .1) (c .before .lowest-in-chunk .ensures) (c .if1 .taken)
+returns c = let a = c .before .before .before .before .before .before in found (packetSum (a .args .s) (packets (a .args .s) (a .args .n) (a .args .block .now)) (take (a .args .weight) (drop (a .args .at) (a .args .t .now)))) _ 64 (c .before .lowest-in-chunk .result) (omega (arith, sum-length _ _ _ _ _ _ (a .pre))) (c .before .before .before .loop .inv .1) (c .before .lowest-in-chunk .ensures) (omega arith)
 
 add-i : tie.Need-add-i Inv-loop μ-loop
 add-i c = omega arith
@@ -37,7 +37,7 @@ loop-less : tie.Need-loop-less Inv-loop μ-loop
 loop-less c = omega arith
 
 loop-again : tie.Need-loop-again Inv-loop μ-loop
-loop-again c = let a = c .before .before .before .before .before .before in (omega arith, passed (packetSum (a .args .s) (packets (a .args .s) (a .args .n) (a .args .block .now)) (take (a .args .weight) (drop (a .args .at) (a .args .t .now)))) _ 64 _ (omega (arith, sum-length _ _ _ _ _ _ (a .pre))) (c .before .before .before .loop .inv .1) (c .before .lowest-in-chunk .ensures) (c .if1 .left))
+loop-again c = let a = c .before .before .before .before .before .before in (omega arith, passed (packetSum (a .args .s) (packets (a .args .s) (a .args .n) (a .args .block .now)) (take (a .args .weight) (drop (a .args .at) (a .args .t .now)))) _ 64 (c .before .lowest-in-chunk .result) (omega (arith, sum-length _ _ _ _ _ _ (a .pre))) (c .before .before .before .loop .inv .1) (c .before .lowest-in-chunk .ensures) (omega arith))
 
 lowest-in-rest-requires : tie.Need-lowest-in-rest-requires Inv-loop μ-loop
 lowest-in-rest-requires c κs = (c .before .before .before .before .pre, (omega arith, omega arith))

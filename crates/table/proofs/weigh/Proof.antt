@@ -36,7 +36,7 @@ returns c =
     let l = c .before .before .before .loop-test .taken in
     let p = part-cons (a .t .now) (4 + s .j) (4 + a .m) (4 + (s .j + 1)) (omega arith) (omega arith) (omega arith) in
     let e = c .before .wide .ensures in
-    weigh-heavy (s .sum) _ _ _ p (rw e at (c .if1 .taken)) ∙ sym (s .inv .2)
+    weigh-heavy (s .sum) _ _ _ _ e p (c .if1 .taken) ∙ sym (s .inv .2)
 
 add-sum : tie.Need-add-sum Inv-loop μ-loop
 add-sum c = omega arith
@@ -54,7 +54,7 @@ loop-again c =
     let l = c .before .before .before .loop-test .taken in
     let p = part-cons (a .t .now) (4 + s .j) (4 + a .m) (4 + (s .j + 1)) (omega arith) (omega arith) (omega arith) in
     let e = c .before .wide .ensures in
-    (omega arith, omega arith, s .inv .2 ∙ rw e (weigh-light (s .sum) _ _ _ p (rw e at (c .if1 .left))))
+    (omega arith, omega arith, s .inv .2 ∙ weigh-light (s .sum) _ _ _ _ e p (c .if1 .left))
 
 returns-2 : tie.Need-returns-2 Inv-loop μ-loop
 returns-2 c =

@@ -1,0 +1,144 @@
+use Rattle.table.specs.Checks.{offset}
+use Rattle.table.specs.Packets.{packets}
+use Rattle.table.specs.Table.{checks}
+use Rattle.repair.specs.Repair.{lostPlaces, consistent}
+use Rattle.repair.specs.Turns.{stateOf}
+use Rattle.repair.proofs.TableUse.{has-weights, check-count, places-at, check-is, check-fits, check-in, offset-none, offset-more, agree-lost, agree-zero, agree-not, agree-end, sum-zero, sum-nonzero}
+use Prim.Native.Nat.{ℕ, zero, suc, _+_, _-_, _*_, _/_, _%_, _^_, _≤_, _<_}
+use mathlib.Core.Path.{_≡_, refl, sym, ap, ap₂, _∙_, subst}
+use mathlib.Core.Bool.{Bool, true, false}
+use mathlib.Core.List.{List, [], _∷_, _++_}
+use mathlib.Core.Logic.{⊎-elim}
+use native.Mathlib.Omega.{arith}
+use lib.ListN.{length, getD, set, take, drop, length-set}
+use borrow.Author.Needs.{needs}
+use Rattle.repair.proofs.agrees.Statement.{statement}
+use Rattle.repair.proofs.agrees.Tie as tie
+use Rattle.repair.proofs.agrees.Reads as reads
+use Rattle.repair.proofs.agrees.Lts as lts
+use Rattle.repair.proofs.lost_in.Reads as lost-in-reads
+use Rattle.table.proofs.sum_of_check.Reads as sum-of-check-reads
+use Rattle.table.proofs.wide.Reads as wide-reads
+
+abbrev Inv-loop : tie.InvT-loop
+Inv-loop t m n s block map at₀ j₀ at j = (j ≤ m) × (at ≡ 5 + m + offset t j) × (consistent s (checks t) (stateOf s n block map 0) ≡ consistent s (drop j (checks t)) (stateOf s n block map 0))
+
+abbrev μ-loop : tie.MeasureT-loop
+μ-loop t m n s block map at₀ j₀ at j = m - j
+
+-- src/lib.rt:173:18
+add-at : tie.Need-add-at Inv-loop μ-loop
+add-at c = omega (arith, has-weights _ _ _ _ (c .before .before .before .pre .0))
+
+-- src/lib.rt:175:5
+loop-holds : tie.Need-loop-holds Inv-loop μ-loop
+loop-holds c = (omega arith, offset-none _ _, refl)
+
+-- src/lib.rt:176:24
+add-wide : tie.Need-add-wide Inv-loop μ-loop
+add-wide c = omega (arith, has-weights _ _ _ _ (c .before .before .before .before .before .pre .0))
+
+-- src/lib.rt:176:22
+mul-wide : tie.Need-mul-wide Inv-loop μ-loop
+mul-wide c = omega (arith, has-weights _ _ _ _ (c .before .before .before .before .before .pre .0))
+
+-- src/lib.rt:176:22
+shared-slice-read-wide : tie.Need-shared-slice-read-wide Inv-loop μ-loop
+shared-slice-read-wide c = omega (arith, has-weights _ _ _ _ (c .before .before .before .before .before .before .pre .0))
+
+-- src/lib.rt:176:13
+wide-requires : tie.Need-wide-requires Inv-loop μ-loop
+wide-requires c κs = omega arith
+
+-- src/lib.rt:177:12
+lost-in-requires : tie.Need-lost-in-requires Inv-loop μ-loop
+lost-in-requires c κs =
+    let p = c .before .before .before .before .before .before .before .pre in
+    let s = c .before .before .before .loop in
+    places-at _ _ _ _ (p .0) (s .j) (c .before .before .loop-test .taken) _ _ (s .inv .1) (c .wide .ensures) _ (p .2)
+
+-- src/lib.rt:178:16
+sum-of-check-requires : tie.Need-sum-of-check-requires Inv-loop μ-loop
+sum-of-check-requires c κs =
+    let p = c .before .before .before .before .before .before .before .before .before .pre in
+    let s = c .before .before .before .before .before .loop in
+    check-in _ _ _ _ (p .0) (s .j) (c .before .before .before .before .loop-test .taken) _ _ (s .inv .1) (c .before .before .wide .ensures) _ (p .1)
+
+-- src/lib.rt:179:17
+returns : tie.Need-returns Inv-loop μ-loop
+returns c =
+    let p = c .before .before .before .before .before .before .before .before .before .before .before .pre in
+    let a = c .before .before .before .before .before .before .before .before .before .before .before .args in
+    let s = c .before .before .before .before .before .before .before .loop in
+    let more = c .before .before .before .before .before .before .loop-test .taken in
+    let is = check-is (a .t .now) _ _ _ (p .0) (s .j) more _ _ (s .inv .1) (c .before .before .before .before .wide .ensures) in
+    let inside = check-in (a .t .now) _ _ _ (p .0) (s .j) more _ _ (s .inv .1) (c .before .before .before .before .wide .ensures) (a .block .now) (p .1) in
+    let z = sum-nonzero (a .t .now) (a .block .now) (a .n) (a .s) _ _ inside _ is _ (c .before .sum-of-check .ensures) (c .if2 .taken) in
+    let l = sym (c .before .before .before .lost-in .ensures ∙ ap (λ l. length (lostPlaces (a .map .now) l)) is) ∙ c .before .before .if1 .taken in
+    sym (s .inv .2 ∙ agree-not (a .s) (stateOf (a .s) (a .n) (a .block .now) (a .map .now) 0) (checks (a .t .now)) (s .j) (rw (check-count _ _ _ _ (p .0)) more) l z)
+
+-- src/lib.rt:182:9
+add-at-2 : tie.Need-add-at-2 Inv-loop μ-loop
+add-at-2 c =
+    let p = c .before .before .before .before .before .before .before .before .before .pre in
+    let s = c .before .before .before .before .before .loop in
+    let f = check-fits (c .before .before .before .before .before .before .before .before .before .args .t .now) _ _ _ (p .0) (s .j) (c .before .before .before .before .loop-test .taken) _ _ (s .inv .1) (c .before .before .wide .ensures) in
+    omega (arith, f, c .before .before .before .before .before .before .before .before .before .good)
+
+-- src/lib.rt:183:9
+add-j : tie.Need-add-j Inv-loop μ-loop
+add-j c = omega arith
+
+-- src/lib.rt:175:5
+loop-less : tie.Need-loop-less Inv-loop μ-loop
+loop-less c = omega arith
+
+-- src/lib.rt:175:5
+loop-again : tie.Need-loop-again Inv-loop μ-loop
+loop-again c =
+    let p = c .before .before .before .before .before .before .before .before .before .pre in
+    let a = c .before .before .before .before .before .before .before .before .before .args in
+    let s = c .before .before .before .before .before .loop in
+    let more = c .before .before .before .before .loop-test .taken in
+    let is = check-is (a .t .now) _ _ _ (p .0) (s .j) more _ _ (s .inv .1) (c .before .before .wide .ensures) in
+    let inside = check-in (a .t .now) _ _ _ (p .0) (s .j) more _ _ (s .inv .1) (c .before .before .wide .ensures) (a .block .now) (p .1) in
+    let l = c .before .lost-in .ensures ∙ ap (λ l. length (lostPlaces (a .map .now) l)) is in
+    let in-list : s .j < length (checks (a .t .now)) = rw (check-count (a .t .now) _ _ _ (p .0)) more in
+    let st = stateOf (a .s) (a .n) (a .block .now) (a .map .now) 0 in (
+      omega arith,
+      offset-more _ _ _ _ _ (s .inv .1) (c .before .before .wide .ensures),
+      s .inv .2 ∙ ⊎-elim
+          (λ u. agree-zero (a .s) st (checks (a .t .now)) (s .j) in-list (sym l ∙ u .0 .taken)
+          (sum-zero (a .t .now) (a .block .now) (a .n) (a .s) _ _ inside _ is _ (u .1 .ensures) (u .2 .left)))
+          (λ u. agree-lost (a .s) st (checks (a .t .now)) (s .j) in-list (λ e. u .left (l ∙ e)))
+          (c .if1 .came),
+    )
+
+-- src/lib.rt:169:1
+returns-2 : tie.Need-returns-2 Inv-loop μ-loop
+returns-2 c =
+    let p = c .before .before .before .before .before .pre in
+    let a = c .before .before .before .before .before .args in
+    let s = c .before .loop in
+    sym (s .inv .2 ∙ agree-end (a .s) (stateOf (a .s) (a .n) (a .block .now) (a .map .now) 0) (checks (a .t .now)) (s .j) (rw (check-count _ _ _ _ (p .0)) (c .loop-test .left)))
+
+pub agrees-spec : {M : Type 1} → statement M
+agrees-spec =
+    tie.close
+    (tie.spec
+    Inv-loop
+    μ-loop
+    add-at
+    loop-holds
+    add-wide
+    mul-wide
+    shared-slice-read-wide
+    wide-requires
+    lost-in-requires
+    sum-of-check-requires
+    returns
+    add-at-2
+    add-j
+    loop-less
+    loop-again
+    returns-2)
