@@ -1,3 +1,4 @@
+pub mod Answering
 pub mod BlockLaws
 pub mod MapLaws
 pub mod TableUse

@@ -78,6 +78,31 @@ fitting-refusal t b map f =
     let e4 = f .map-bytes in
     by-causes t b map ∙ rw (e1, e2, e3, e4) (byBool (consistent (size t) (checks t) (outcome t b map)) (λ e. rw e) (λ e. rw e))
 
+-- ---- the refusals before
+ne-test : (a b : ℕ) → a ≢ b → eqb a b ≡ false
+ne-test a b ne = byBool (eqb a b) (λ e. absurd (ne (eqb-true a b e))) (λ e. e)
+
+pub table-refused : (t b map : List ℕ) → refusal t ≢ 0 → repairRefusal t b map ≡ refusal t
+table-refused t b map ne = by-causes t b map ∙ rw (ne-test (refusal t) 0 ne)
+
+pub block-short : (t b map : List ℕ) → refusal t ≡ 0 → length b ≢ places t * size t → repairRefusal t b map ≡ 5
+block-short t b map ok ne =
+    let e1 : eqb (refusal t) 0 ≡ true = ap (λ x. eqb x 0) ok in
+    by-causes t b map ∙ rw (e1, ne-test (length b) (places t * size t) ne)
+
+pub map-short : (t b map : List ℕ) → refusal t ≡ 0 → length b ≡ places t * size t → length map ≢ places t → repairRefusal t b map ≡ 5
+map-short t b map ok lb ne =
+    let e1 : eqb (refusal t) 0 ≡ true = ap (λ x. eqb x 0) ok in
+    let e2 : eqb (length b) (places t * size t) ≡ true = ap (λ x. eqb x (places t * size t)) lb ∙ eqb-self (places t * size t) in
+    by-causes t b map ∙ rw (e1, e2, ne-test (length map) (places t) ne)
+
+pub byte-over : (t b map : List ℕ) → refusal t ≡ 0 → length b ≡ places t * size t → length map ≡ places t → anyOf (ltb 1) map ≡ true → repairRefusal t b map ≡ 7
+byte-over t b map ok lb lm over =
+    let e1 : eqb (refusal t) 0 ≡ true = ap (λ x. eqb x 0) ok in
+    let e2 : eqb (length b) (places t * size t) ≡ true = ap (λ x. eqb x (places t * size t)) lb ∙ eqb-self (places t * size t) in
+    let e3 : eqb (length map) (places t) ≡ true = ap (λ x. eqb x (places t)) lm ∙ eqb-self (places t) in
+    by-causes t b map ∙ rw (e1, e2, e3, over)
+
 -- an accepted call, and what was tested
 pub accepted-fits : (t b map : List ℕ) → repairRefusal t b map ≡ 0 → Fitting t b map × (consistent (size t) (checks t) (outcome t b map) ≡ true)
 accepted-fits t b map h =

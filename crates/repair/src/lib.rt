@@ -239,6 +239,7 @@ fn restore_all(
     }
 }
 
+// a refusal, counts 0
 fn refused(refusal: u32) -> Repaired
     ensures { λ r. ⌜ (r .refusal ≡ refusal) × (r .restored ≡ 0) × (r .lost ≡ 0) × (r .additions ≡ 0) ⌝ }
 {
@@ -248,4 +249,56 @@ fn refused(refusal: u32) -> Repaired
         lost: 0,
         additions: 0,
     }
+}
+
+// no refusal: the counts of the map, and the additions
+fn accepted(map: &[u8], adds: usize) -> Repaired
+    requires { ⌜ (length (now map) ≤ 1024) × (adds ≤ 64512) ⌝ }
+    ensures { λ r. ⌜ (r .refusal ≡ 0) × (r .restored ≡ tally 2 (now (map .entry))) × (r .lost ≡ tally 1 (now (map .entry))) × (r .additions ≡ adds) ⌝ }
+{
+    Repaired {
+        refusal: 0,
+        restored: tally_of(map, 2),
+        lost: tally_of(map, 1),
+        additions: adds as u32,
+    }
+}
+
+// the call where none of 1 to 7 refuses
+fn mend(t: &[u16], m: usize, n: usize, s: usize, block: &mut [u8], map: &mut [u8]) -> Repaired
+    requires { ⌜ TableOf (now t) m n s × Fitting (now t) (now block) (now map) ⌝ }
+    ensures { λ r. ⌜ Answers (now (t .entry)) (now (block .entry)) (now (map .entry)) r (now (block .exit)) (now (map .exit)) ⌝ }
+{
+    let mut starts = [0u16; 512];
+    table::fill_starts(t, m, &mut starts);
+    zero_lost(block, map, n, s);
+    let adds = restore_all(t, m, n, s, &starts, block, map);
+    if agrees(t, m, n, s, block, map) {
+        return accepted(map, adds);
+    }
+    unmark(map);
+    zero_lost(block, map, n, s);
+    refused(8)
+}
+
+// Restores what the checks can restore of the lost places.
+pub fn repair(t: &[u16], block: &mut [u8], map: &mut [u8]) -> Repaired
+    ensures { λ r. ⌜ Answers (now (t .entry)) (now (block .entry)) (now (map .entry)) r (now (block .exit)) (now (map .exit)) ⌝ }
+{
+    let refusal = table::look_over(t);
+    if refusal != 0 {
+        return refused(refusal);
+    }
+    let n = wide(t[1]);
+    let s = wide(t[2]);
+    if block.len() != n * s {
+        return refused(5);
+    }
+    if map.len() != n {
+        return refused(5);
+    }
+    if over_one(map) {
+        return refused(7);
+    }
+    mend(t, wide(t[3]), n, s, block, map)
 }
