@@ -1,1 +1,4 @@
+pub mod Answers
 pub mod Encoding
+pub mod EncodingLaws
+pub mod Slots

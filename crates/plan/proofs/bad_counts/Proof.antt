@@ -1,3 +1,4 @@
+-- `plan::bad_counts` meets its contract: the tests in order.
 use Rattle.plan.proofs.Counts.{counts-short, counts-first, counts-last}
 use mathlib.Core.Path.{_∙_}
 use native.Mathlib.Omega.{arith}

@@ -1,3 +1,4 @@
+-- `plan::bad_lengths` meets its contract: the tests in order.
 use mathlib.Core.Bool.{not}
 use lib.Dec.{eqb}
 use Prim.Native.Nat.{ℕ, _+_}

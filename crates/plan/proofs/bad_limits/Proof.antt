@@ -1,3 +1,4 @@
+-- `plan::bad_limits` meets its contract: the tests in order.
 use borrow.Author.Tests.{ltb-true, ltb-false}
 use Rattle.plan.proofs.Counts.{limits-places, limits-size, limits-gap, limits-aside, limits-kept, limits-checks, limits-last}
 use Rattle.plan.specs.Layout.{planPlaces, planSize}

@@ -1,3 +1,4 @@
+-- `plan::beyond` meets its contract: 0, or above the limit.
 use mathlib.Core.Path.{_∙_}
 use borrow.Author.Tests.{eq-eqb}
 use Rattle.plan.proofs.Counts.{outside-zero, outside-most}

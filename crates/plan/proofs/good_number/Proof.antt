@@ -1,3 +1,4 @@
+-- `plan::good_number` meets its contract: by what the number is decoded to.
 use Rattle.plan.proofs.Passing.{good-decoded, good-invalid}
 use Rattle.plan.specs.Step.{unpack}
 use Rattle.plan.specs.LookOver.{isMarked}

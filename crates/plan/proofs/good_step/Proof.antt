@@ -1,3 +1,4 @@
+-- `plan::good_step` meets its contract: by the kind of the step.
 use Rattle.plan.proofs.Passing.{add-outside, add-itself, add-good}
 use Rattle.plan.specs.LookOver.{isMarked}
 use mathlib.Core.Path.{_∙_}

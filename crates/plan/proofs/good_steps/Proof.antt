@@ -1,3 +1,4 @@
+-- `plan::good_steps` meets its contract: what is left of the numbers decides.
 use borrow.Author.Tests.{not-true, not-false}
 use Rattle.plan.proofs.Passing.{pass-stops, pass-on}
 use Rattle.plan.specs.Step.{unpack}

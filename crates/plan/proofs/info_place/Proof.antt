@@ -1,3 +1,4 @@
+-- `plan::info_place` meets its contract: a number of the second section.
 use Rattle.plan.specs.Layout.{infoCount}
 use lib.Seq.{getD-take, getD-drop}
 use mathlib.Core.Path.{sym, _∙_}

@@ -1,3 +1,4 @@
+-- `plan::look_over` meets its contract: the counts, the information places, the steps.
 use Rattle.plan.proofs.Passing.{refuse-counts, refuse-places, refuse-steps, refuse-none, same-steps}
 use Rattle.plan.proofs.Marking.{marks-none}
 use Rattle.plan.specs.LayoutLaws.{counted}

@@ -1,3 +1,4 @@
+-- `plan::mark_places` meets its contract: what is left of the places decides, and those passed are marked.
 use Rattle.plan.proofs.Marking.{place-below, place-above, place-on, mark-more}
 use Rattle.plan.specs.LookOver.{Marks}
 use Rattle.plan.specs.LayoutLaws.{info-long}

@@ -1,3 +1,4 @@
+-- `plan::may_write` meets its contract: a slot outside, or its mark.
 use Rattle.plan.proofs.Passing.{writable-outside, writable-inside}
 use Rattle.plan.specs.LookOver.{isMarked}
 use borrow.Author.Needs.{needs}

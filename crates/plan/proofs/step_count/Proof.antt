@@ -1,3 +1,4 @@
+-- `plan::step_count` meets its contract: the number behind the information places.
 use Prim.Native.Nat.{ℕ, _+_}
 use mathlib.Core.Path.{ap, _∙_}
 use lib.ListN.{getD}

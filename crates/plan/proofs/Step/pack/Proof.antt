@@ -1,3 +1,4 @@
+-- `plan::Step::pack` meets its contract: by the kind of the step.
 use native.Mathlib.Omega.{arith}
 use borrow.Author.Needs.{needs}
 use Rattle.plan.proofs.Step.pack.Statement.{statement}

@@ -1,3 +1,4 @@
+-- `plan::Step::unpack` meets its contract: by the kind.
 use mathlib.Core.Logic.{⊎-elim}
 use Rattle.plan.proofs.Decoding.{decoded-add, decoded-clear, decoded-none}
 use borrow.Author.Tests.{eqb-true, eqb-false}

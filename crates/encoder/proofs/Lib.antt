@@ -1,0 +1,4 @@
+pub mod CallLaws
+pub mod RunLaws
+pub mod SlotLaws
+pub mod StartLaws
