@@ -6,8 +6,8 @@ use lib.ListN.{take}
 use Rattle.io.specs.Counts.{Counts}
 use Rattle.text.specs.declared.Input.{Input}
 use Rattle.text.specs.declared.Input.the-variants.{Failed, Overlong, Bytes}
-use Rattle.text.specs.declared.Words.{Words}
-use Rattle.text.specs.declared.Words.the-variants.{Failed as NoWords, Refused, Count}
+use Rattle.text.specs.declared.Read.{Read}
+use Rattle.text.specs.declared.Read.the-variants.{Nothing, Count}
 
 -- 16-bit words, "low byte first"
 abbrev pub wordsOf : List ℕ → List ℕ
@@ -15,20 +15,17 @@ wordsOf [] = []
 wordsOf (low ∷ []) = []
 wordsOf (low ∷ (high ∷ rest)) = (low + high * 256) ∷ wordsOf rest
 
--- the bytes said to be read lie within the buffer
+-- the bytes or words said to be read stand at the start of the buffer
 abbrev pub Held : Input → List ℕ → Type 0
 Held Failed buf = Unit {0}
 Held Overlong buf = Unit {0}
 Held (Bytes n) buf = Counts n buf
 
--- likewise the words
-abbrev pub HeldWords : Words → List ℕ → Type 0
-HeldWords NoWords words = Unit {0}
-HeldWords Refused words = Unit {0}
-HeldWords (Count n) words = Counts n words
+abbrev pub ReadInto : Read → List ℕ → Type 0
+ReadInto Nothing buf = Unit {0}
+ReadInto (Count n) buf = Counts n buf
 
 -- they are the file's words
-abbrev pub TakenFrom : List ℕ → Words → List ℕ → Type 0
-TakenFrom file NoWords words = Unit {0}
-TakenFrom file Refused words = Unit {0}
+abbrev pub TakenFrom : List ℕ → Read → List ℕ → Type 0
+TakenFrom file Nothing words = Unit {0}
 TakenFrom file (Count n) words = take n words ≡ wordsOf file

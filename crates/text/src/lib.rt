@@ -3,24 +3,24 @@ ghost use mathlib.Core.Path.{_≡_};
 ghost use Prim.Native.Nat.{_+_, _*_, _≤_};
 ghost use lib.ListN.{length, getD};
 ghost use Rattle.text.specs.Lines.{Appended, decimal};
-ghost use Rattle.text.specs.Files.{Held, HeldWords, TakenFrom, wordsOf};
+ghost use Rattle.text.specs.Files.{Held, ReadInto, TakenFrom, wordsOf};
 
-// the most bytes of a table's file
-pub const MOST_BYTES: usize = 13322;
+// the most bytes and words of a table's file
+const MOST_BYTES: usize = 13322;
 
-// what a file holds: nothing, since it can't be read, which has been said; more than was asked for;
-// so many bytes
-pub enum Input {
+pub const MOST_WORDS: usize = 6661;
+
+// what a descriptor's file holds: it can't be read, which has been said; more bytes than there is
+// room for; so many bytes
+enum Input {
     Failed,
     Overlong,
     Bytes(usize),
 }
 
-// what a table's file holds: nothing, which has been said; no whole words, or too many; so many
-// words
-pub enum Words {
-    Failed,
-    Refused,
+// so many bytes or words were read, or none, and what was wrong has been said
+pub enum Read {
+    Nothing,
     Count(usize),
 }
 
@@ -58,11 +58,22 @@ pub fn print_refusal(number: u32) {
     io::write_all(libc::STDOUT_FILENO, &line[..at]);
 }
 
+// Says on standard error that an argument's file has too many bytes.
+fn say_overlong(number: usize, most: usize) {
+    let mut line = [0u8; 128];
+    let at = put(&mut line, 0, b"argument ");
+    let at = put_number(&mut line, at, number as u64);
+    let at = put(&mut line, at, b": the file has more than ");
+    let at = put_number(&mut line, at, most as u64);
+    let at = put(&mut line, at, b" bytes\n");
+    io::write_all(libc::STDERR_FILENO, &line[..at]);
+}
+
 // ---- files
 
-// Reads a descriptor's file whole into buf and closes it. A descriptor below 0 is one that was not
-// opened, which has been said.
-pub fn read_bytes(fd: i32, buf: &mut [u8]) -> Input
+// Reads a descriptor's file whole and closes it. A descriptor below 0 was not opened, which has
+// been said.
+fn read_whole(fd: i32, buf: &mut [u8]) -> Input
     ensures { λ r. ⌜ Held r (now (buf .exit)) ⌝ }
 {
     if fd < 0 {
@@ -84,6 +95,21 @@ pub fn read_bytes(fd: i32, buf: &mut [u8]) -> Input
     Input::Bytes(n)
 }
 
+// Reads the file that an argument names.
+pub fn read_argument(number: usize, buf: &mut [u8]) -> Read
+    ensures { λ r. ⌜ ReadInto r (now (buf .exit)) ⌝ }
+{
+    let input = read_whole(open_argument(number), buf);
+    match input {
+        Input::Failed => Read::Nothing,
+        Input::Overlong => {
+            say_overlong(number, buf.len());
+            Read::Nothing
+        }
+        Input::Bytes(n) => Read::Count(n),
+    }
+}
+
 // a word of a table's file
 fn word(low: u8, high: u8) -> u16
     ensures { λ r. ⌜ r ≡ low + high * 256 ⌝ }
@@ -103,30 +129,38 @@ fn fill_words(file: &[u8], words: &mut [u16])
     }
 }
 
-// The words of a table's file: an odd number of bytes, or more than there is room for, is refused.
-fn words_in(file: &[u8], words: &mut [u16]) -> Words
-    ensures { λ r. ⌜ HeldWords r (now (words .exit)) × TakenFrom (now (file .entry)) r (now (words .exit)) ⌝ }
+// A table's file of an odd number of bytes, or of too many, is refused with 3.
+fn refuse_file() -> Read
+    ensures { λ r. ⌜ r ≡ Read.Nothing ⌝ }
+{
+    print_refusal(3);
+    Read::Nothing
+}
+
+// The words of a table's file.
+fn words_in(file: &[u8], words: &mut [u16]) -> Read
+    ensures { λ r. ⌜ ReadInto r (now (words .exit)) × TakenFrom (now (file .entry)) r (now (words .exit)) ⌝ }
 {
     let count = file.len() / 2;
     if file.len() % 2 != 0 {
-        return Words::Refused;
+        return refuse_file();
     }
     if count > words.len() {
-        return Words::Refused;
+        return refuse_file();
     }
     fill_words(file, &mut words[..count]);
-    Words::Count(count)
+    Read::Count(count)
 }
 
-// Reads a table's file into words and closes it, as read_bytes does.
-pub fn read_table(fd: i32, words: &mut [u16]) -> Words
-    ensures { λ r. ⌜ HeldWords r (now (words .exit)) ⌝ }
+// Reads a table's file from a descriptor and closes it.
+pub fn read_table(fd: i32, words: &mut [u16]) -> Read
+    ensures { λ r. ⌜ ReadInto r (now (words .exit)) ⌝ }
 {
     let mut file = [0u8; MOST_BYTES];
-    let input = read_bytes(fd, &mut file);
+    let input = read_whole(fd, &mut file);
     match input {
-        Input::Failed => Words::Failed,
-        Input::Overlong => Words::Refused,
+        Input::Failed => Read::Nothing,
+        Input::Overlong => refuse_file(),
         Input::Bytes(n) => words_in(&file[..n], words),
     }
 }

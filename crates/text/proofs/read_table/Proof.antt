@@ -1,14 +1,15 @@
 -- `text::read_table` meets its contract: what was read lies within the buffer.
+use mathlib.Core.List.{[]}
 use borrow.Author.Needs.{needs}
-use Rattle.text.specs.Laws.{held-bytes}
+use Rattle.text.specs.Laws.{held-bytes, read-nothing}
 use Rattle.text.proofs.read_table.Statement.{statement}
 use Rattle.text.proofs.read_table.Tie as tie
 
-slice-aggregate-read-bytes : tie.Need-slice-aggregate-read-bytes
-slice-aggregate-read-bytes c = search needs
+slice-aggregate-read-whole : tie.Need-slice-aggregate-read-whole
+slice-aggregate-read-whole c = search needs
 
-read-bytes-requires : tie.Need-read-bytes-requires
-read-bytes-requires c κs = search needs
+read-whole-requires : tie.Need-read-whole-requires
+read-whole-requires c κs = search needs
 
 enum-told : tie.Need-enum-told
 enum-told c = search needs
@@ -16,14 +17,17 @@ enum-told c = search needs
 enum-told-2 : tie.Need-enum-told-2
 enum-told-2 c = search needs
 
+refuse-file-requires : tie.Need-refuse-file-requires
+refuse-file-requires c κs = search needs
+
 enum-known-input : tie.Need-enum-known-input
 enum-known-input c = search needs
 
 array-share-prefix-file : tie.Need-array-share-prefix-file
-array-share-prefix-file c = held-bytes _ (c .before .before .before .before .read-bytes .ensures) (c .before .input .given .1) .0
+array-share-prefix-file c = held-bytes _ (c .before .before .before .before .read-whole .ensures) (c .before .input .given .1) .0
 
 slice-aggregate-words-in : tie.Need-slice-aggregate-words-in
-slice-aggregate-words-in c = held-bytes _ (c .before .before .before .before .before .read-bytes .ensures) (c .before .before .input .given .1) .1
+slice-aggregate-words-in c = held-bytes _ (c .before .before .before .before .before .read-whole .ensures) (c .before .before .input .given .1) .1
 
 words-in-requires : tie.Need-words-in-requires
 words-in-requires c κs = search needs
@@ -32,7 +36,7 @@ returns : tie.Need-returns
 returns c = search needs
 
 returns-2 : tie.Need-returns-2
-returns-2 c = search needs
+returns-2 c = read-nothing [] _ (c .refuse-file .ensures) .0
 
 same-length : tie.Need-same-length
 same-length c = search needs
@@ -44,10 +48,11 @@ pub read-table-spec : {M : Type 1} → statement M
 read-table-spec =
     tie.close
     (tie.spec
-    slice-aggregate-read-bytes
-    read-bytes-requires
+    slice-aggregate-read-whole
+    read-whole-requires
     enum-told
     enum-told-2
+    refuse-file-requires
     enum-known-input
     array-share-prefix-file
     slice-aggregate-words-in

@@ -5,15 +5,22 @@ use mathlib.Core.Path.{_≡_, sym, ap, _∙_}
 use native.Mathlib.Omega.{arith}
 use lib.ListN.{length, take}
 use borrow.Author.Needs.{needs}
+use Rattle.text.specs.Laws.{read-nothing}
 use Rattle.text.proofs.Laws.{words-length, words-front}
 use Rattle.text.proofs.words_in.Statement.{statement}
 use Rattle.text.proofs.words_in.Tie as tie
 
+refuse-file-requires : tie.Need-refuse-file-requires
+refuse-file-requires c κs = search needs
+
 returns : tie.Need-returns
-returns c = search needs
+returns c = read-nothing _ _ (c .refuse-file .ensures)
+
+refuse-file-requires-2 : tie.Need-refuse-file-requires-2
+refuse-file-requires-2 c κs = search needs
 
 returns-2 : tie.Need-returns-2
-returns-2 c = search needs
+returns-2 c = read-nothing _ _ (c .refuse-file2 .ensures)
 
 slice-relend-prefix-fill-words : tie.Need-slice-relend-prefix-fill-words
 slice-relend-prefix-fill-words c = search needs
@@ -42,7 +49,9 @@ pub words-in-spec : {M : Type 1} → statement M
 words-in-spec =
     tie.close
     (tie.spec
+    refuse-file-requires
     returns
+    refuse-file-requires-2
     returns-2
     slice-relend-prefix-fill-words
     slice-aggregate-fill-words

@@ -1,0 +1,44 @@
+// verify_file TABLE BLOCK: says whether the block is a codeword of the table.
+use repair::Verified;
+use text::Read;
+
+// the most bytes of a block
+const MOST_BLOCK: usize = 32768;
+
+fn print_fails(check: usize) {
+    let mut line = [0u8; 64];
+    let at = text::put(&mut line, 0, b"check ");
+    let at = text::put_number(&mut line, at, check as u64);
+    let at = text::put(&mut line, at, b" fails\n");
+    io::write_all(libc::STDOUT_FILENO, &line[..at]);
+}
+
+fn print_verdict(verdict: Verified) {
+    match verdict {
+        Verified::Refused(number) => text::print_refusal(number),
+        Verified::Codeword => {
+            io::write_all(libc::STDOUT_FILENO, b"codeword\n");
+        }
+        Verified::Fails(check) => print_fails(check),
+    }
+}
+
+fn verify(table: &[u16]) {
+    let mut block = [0u8; MOST_BLOCK];
+    let Read::Count(n) = text::read_argument(2, &mut block) else {
+        return;
+    };
+    print_verdict(repair::verify(table, &block[..n]));
+}
+
+fn main() {
+    if os::arg_count() != 3 {
+        io::write_all(libc::STDERR_FILENO, b"usage: verify_file TABLE BLOCK\n");
+        return;
+    }
+    let mut words = [0u16; text::MOST_WORDS];
+    let Read::Count(n) = text::read_table(text::open_argument(1), &mut words) else {
+        return;
+    };
+    verify(&words[..n]);
+}
