@@ -3,7 +3,8 @@ ghost use mathlib.Core.Path.{_≡_};
 ghost use lib.ListN.{length};
 ghost use Rattle.table.specs.PacketCall.{packetRefusal, partStart, partLength};
 ghost use Rattle.repair.specs.Verify.{verification, valuesOf};
-ghost use Rattle.receiver.specs.Answers.{verified};
+ghost use Rattle.repair.specs.Repair.{repairReport, repairBlock, repairMap};
+ghost use Rattle.receiver.specs.Answers.{verified, repaired};
 use repair::Verified;
 
 // Where in the block a packet lies: 0 and 0 on refusal.
@@ -64,5 +65,29 @@ pub extern "C" fn bs_verify(table: &[u16], block: &[u8]) -> Verification
             codeword: 0,
             check: check as u32,
         },
+    }
+}
+
+// What repair reports: the refusal, 0 for none, and the counts.
+#[repr(C)]
+pub struct Repair {
+    pub refusal: u32,
+    pub restored: u32,
+    pub lost: u32,
+    pub additions: u32,
+}
+
+#[no_mangle]
+pub extern "C" fn bs_repair(table: &[u16], block: &mut [u8], map: &mut [u8]) -> Repair
+    ensures report { λ r. ⌜ repaired r ≡ repairReport (now (table .entry)) (now (block .entry)) (now (map .entry)) ⌝ }
+    ensures block { λ _. ⌜ now (block .exit) ≡ repairBlock (now (table .entry)) (now (block .entry)) (now (map .entry)) ⌝ }
+    ensures map { λ _. ⌜ now (map .exit) ≡ repairMap (now (table .entry)) (now (block .entry)) (now (map .entry)) ⌝ }
+{
+    let r = repair::repair(table, block, map);
+    Repair {
+        refusal: r.refusal,
+        restored: r.restored,
+        lost: r.lost,
+        additions: r.additions,
     }
 }
