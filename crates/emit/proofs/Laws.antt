@@ -1,30 +1,23 @@
--- Writing on.
+-- Writing on, and what is left to write.
 use mathlib.Core.Path.{_≡_, refl, sym, ap, ap₂, _∙_, subst}
-use mathlib.Core.Bool.{Bool, true, false, cond, not, _||_}
-use mathlib.Core.List.{List, [], _∷_, _++_, map, append-assoc}
+use mathlib.Core.List.{List, [], _∷_, _++_, append-assoc}
 use Prim.Native.Nat.{ℕ, zero, suc, _+_, _-_, _*_, _<_, _≤_}
-use native.Mathlib.Numerals.{add-one}
 use native.Mathlib.Omega.{arith}
 use lib.ListN.{length, getD, set, take, drop, length-set, length-drop, length-take, length-append, take-append-drop}
-use lib.Seq.{take-suc, drop-cons, set-at, getD-drop, take-at, drop-at, drop-drop}
-use lib.Dec.{eqb}
-use borrow.Author.Tests.{eq-eqb, ne-eqb}
-use Rattle.rule.specs.Rule.{clearAndAdd}
-use Rattle.gf2.specs.Places.{filter}
-use Rattle.gf2.specs.Span.{byBool}
-use Rattle.plan.specs.declared.Step.{Step}
-use Rattle.plan.specs.declared.Step.the-variants.{Clear, Add}
-use Rattle.emit.specs.Emit.{word, written, Wrote, kept, line}
+use native.Mathlib.Numerals.{add-one}
+use lib.Seq.{drop-cons, set-at, take-at, drop-at, drop-drop, take-suc, length-take-le}
+use Rattle.emit.specs.Emit.{written, Wrote}
 
-pub written-none : (l : List ℕ) (at : ℕ) → l ≡ written l at []
+-- ---- a list written from a place on
+written-none : (l : List ℕ) (at : ℕ) → l ≡ written l at []
 unfolding written
 written-none l at = let e : at + 0 ≡ at = omega arith in rw e (sym (take-append-drop at l))
 
-pub written-length : (l : List ℕ) (at : ℕ) (ws : List ℕ) → at + length ws ≤ length l → length (written l at ws) ≡ length l
+written-length : (l : List ℕ) (at : ℕ) (ws : List ℕ) → at + length ws ≤ length l → length (written l at ws) ≡ length l
 unfolding written
 written-length l at ws h = simp (length-append, length-take, length-drop) (omega arith)
 
-pub written-more : (l : List ℕ) (at : ℕ) (ws : List ℕ) (v : ℕ) → at + length ws < length l → set (written l at ws) (at + length ws) v ≡ written l at (ws ++ (v ∷ []))
+written-more : (l : List ℕ) (at : ℕ) (ws : List ℕ) (v : ℕ) → at + length ws < length l → set (written l at ws) (at + length ws) v ≡ written l at (ws ++ (v ∷ []))
 unfolding written
 written-more l at ws v h =
     let rest = drop (suc (at + length ws)) l in
@@ -39,10 +32,15 @@ written-more l at ws v h =
 pub wrote-none : (l : List ℕ) (at : ℕ) → Wrote l at [] l at
 wrote-none l at = record { list = written-none l at; next = omega arith }
 
+-- one more
 pub wrote-more : {l : List ℕ} {at : ℕ} {ws e : List ℕ} {k : ℕ} (v : ℕ) → k < length l → Wrote l at ws e k → Wrote l at (ws ++ (v ∷ [])) (set e k v) (k + 1)
 wrote-more {l} {at} {ws} {e} {k} v h w =
     let n = w .next in
     record { list = ap₂ (λ (m : List ℕ) (j : ℕ). set m j v) (w .list) n ∙ written-more l at ws v (omega arith); next = simp length-append (omega arith) }
+
+-- one alone
+pub wrote-one : (l : List ℕ) (at v : ℕ) → at < length l → Wrote l at (v ∷ []) (set l at v) (at + 1)
+wrote-one l at v h = wrote-more v h (wrote-none l at)
 
 pub wrote-is : {l : List ℕ} {at : ℕ} {ws vs e : List ℕ} {k : ℕ} → Wrote l at ws e k → ws ≡ vs → Wrote l at vs e k
 wrote-is {l} {at} {e = e} {k = k} w q = subst (λ (x : List ℕ). Wrote l at x e k) q w
@@ -50,37 +48,7 @@ wrote-is {l} {at} {e = e} {k = k} w q = subst (λ (x : List ℕ). Wrote l at x e
 pub wrote-length : {l : List ℕ} {at : ℕ} {ws e : List ℕ} {k : ℕ} → Wrote l at ws e k → k ≤ length l → length e ≡ length l
 wrote-length {l} {at} {ws} w h = let n = w .next in ap length (w .list) ∙ written-length l at ws (omega arith)
 
--- ---- a filter, one more
-filter-append : (f : ℕ → Bool) (l m : List ℕ) → filter f (l ++ m) ≡ filter f l ++ filter f m
-filter-append f [] m = refl
-filter-append f (x ∷ l) m = byBool (f x) (λ e. rw (e, filter) (ap (λ r. x ∷ r) (filter-append f l m))) (λ e. rw (e, filter) (filter-append f l m))
-
-append-nil : (l : List ℕ) → l ++ [] ≡ l
-append-nil [] = refl
-append-nil (x ∷ l) = ap (λ r. x ∷ r) (append-nil l)
-
-map-append : (f : ℕ → Step) (l m : List ℕ) → map word (map f (l ++ m)) ≡ map word (map f l) ++ map word (map f m)
-map-append f [] m = refl
-map-append f (x ∷ l) m = ap (λ r. word (f x) ∷ r) (map-append f l m)
-
-abbrev pub words : ℕ → List ℕ → List ℕ → List ℕ
-words own skip c = map word (map (Add own) (filter (kept own skip) c))
-
-take-more : (c : List ℕ) (i : ℕ) → i < length c → take (i + 1) c ≡ take i c ++ (getD c i 0 ∷ [])
-take-more c i h = ap (λ (k : ℕ). take k c) (add-one i) ∙ take-suc c i 0 h
-
-module _ (own : ℕ) (skip c : List ℕ) (i p : ℕ) (h : i < length c) (q : p ≡ getD c i 0) where
-  split : words own skip (take (i + 1) c) ≡ words own skip (take i c) ++ words own skip (p ∷ [])
-  split = ap (words own skip) (take-more c i h ∙ ap (λ (x : ℕ). take i c ++ (x ∷ [])) (sym q))
-      ∙ ap (λ (l : List ℕ). map word (map (Add own) l)) (filter-append (kept own skip) (take i c) (p ∷ []))
-      ∙ map-append (Add own) (filter (kept own skip) (take i c)) (filter (kept own skip) (p ∷ []))
-
-  pub words-hit : kept own skip p ≡ true → words own skip (take i c) ++ (word (Add own p) ∷ []) ≡ words own skip (take (i + 1) c)
-  words-hit k = sym (split ∙ rw k)
-
-  pub words-miss : kept own skip p ≡ false → words own skip (take i c) ≡ words own skip (take (i + 1) c)
-  words-miss k = sym (split ∙ rw k (append-nil (words own skip (take i c))))
-
+-- then another list
 pub wrote-append : {l : List ℕ} {at : ℕ} {ws vs e f : List ℕ} {k r : ℕ} → k ≤ length l → Wrote l at ws e k → Wrote e k vs f r → Wrote l at (ws ++ vs) f r
 unfolding written
 wrote-append {l} {at} {ws} {vs} {e} {f} {k} {r} h a b =
@@ -101,11 +69,57 @@ wrote-append {l} {at} {ws} {vs} {e} {f} {k} {r} h a b =
       next = simp length-append (omega arith);
     }
 
-pub kept-own : (own : ℕ) (skip : List ℕ) (p : ℕ) → p ≡ own → kept own skip p ≡ false
-kept-own own skip p e = rw (eq-eqb p own e)
+-- ---- what is left: of ws, to be written into l from at on, e has all but rest, and rest goes to k
+pub record Left (l : List ℕ) (at : ℕ) (ws rest e : List ℕ) (k : ℕ) : Type 0 where
+  pub part : List ℕ
+  pub whole : part ++ rest ≡ ws
+  pub wrote : Wrote l at part e k
 
-pub kept-skip : (own : ℕ) (skip : List ℕ) (p : ℕ) → (p ≡ own → ⊥) → getD skip p 0 ≡ 1 → kept own skip p ≡ false
-kept-skip own skip p n e = rw (ne-eqb p own n, eq-eqb (getD skip p 0) 1 e)
+pub left-all : (l : List ℕ) (at : ℕ) (ws : List ℕ) → Left l at ws ws l at
+left-all l at ws = record { part = []; whole = refl; wrote = wrote-none l at }
 
-pub kept-on : (own : ℕ) (skip : List ℕ) (p : ℕ) → (p ≡ own → ⊥) → (getD skip p 0 ≡ 1 → ⊥) → kept own skip p ≡ true
-kept-on own skip p n e = rw (ne-eqb p own n, ne-eqb (getD skip p 0) 1 e)
+pub left-is : {l : List ℕ} {at : ℕ} {ws rest e : List ℕ} {k : ℕ} (vs : List ℕ) → Left l at ws rest e k → rest ≡ vs → Left l at ws vs e k
+left-is {l} {at} {ws} {e = e} {k = k} vs w q = subst (λ (x : List ℕ). Left l at ws x e k) q w
+
+append-nil : (l : List ℕ) → l ++ [] ≡ l
+append-nil [] = refl
+append-nil (x ∷ l) = ap (λ r. x ∷ r) (append-nil l)
+
+pub left-done : {l : List ℕ} {at : ℕ} {ws e : List ℕ} {k : ℕ} → Left l at ws [] e k → Wrote l at ws e k
+left-done w = wrote-is (w .wrote) (sym (append-nil (w .part)) ∙ w .whole)
+
+module _ {l : List ℕ} {at : ℕ} {ws : List ℕ} (room : at + length ws ≤ length l) where
+  -- the rest has room
+  pub left-room : {rest e : List ℕ} {k : ℕ} → Left l at ws rest e k → k + length rest ≤ length l
+  left-room {rest} w = let n = w .wrote .next in omega (arith, simp length-append at (ap length (w .whole)))
+
+  pub left-length : {rest e : List ℕ} {k : ℕ} → Left l at ws rest e k → length e ≡ length l
+  left-length w = let h = left-room w in wrote-length (w .wrote) (omega arith)
+
+  -- some of the rest is written
+  pub left-more : {e f : List ℕ} {k r : ℕ} (vs rest : List ℕ) → Left l at ws (vs ++ rest) e k → Wrote e k vs f r → Left l at ws rest f r
+  left-more vs rest w v = let h = left-room w in record {
+    part = w .part ++ vs;
+    whole = append-assoc (w .part) vs rest ∙ w .whole;
+    wrote = wrote-append (omega arith) (w .wrote) v;
+  }
+
+  -- one number of it
+  pub left-one : {rest e : List ℕ} {k v : ℕ} → Left l at ws (v ∷ rest) e k → Left l at ws rest (set e k v) (k + 1)
+  left-one {rest} {e} {k} {v} w = let h = left-room w in let n = left-length w in left-more (v ∷ []) rest w (wrote-one e k v (omega arith))
+
+-- a list written behind the place for its length, and then the length
+pub wrote-count : {l : List ℕ} {at : ℕ} {ws e : List ℕ} {r : ℕ} → at + 1 + length ws ≤ length l → Wrote l (at + 1) ws e r → Wrote l at (length ws ∷ ws) (set e at (r - at - 1)) r
+unfolding written
+wrote-count {l} {at} {ws} {e} {r} h w =
+    let n = w .next in
+    let v : r - at - 1 ≡ length ws = omega arith in
+    let R = ws ++ drop (at + 1 + length ws) l in
+    let t : take (at + 1) l ≡ take at l ++ (getD l at 0 ∷ []) = ap (λ k. take k l) (add-one at) ∙ take-suc l at 0 (omega arith) in
+    let is : e ≡ take at l ++ (getD l at 0 ∷ R) = w .list ∙ ap (λ x. x ++ R) t ∙ append-assoc (take at l) (getD l at 0 ∷ []) R in
+    let s : at + 1 + length ws ≡ at + length (length ws ∷ ws) = omega arith in
+    record {
+      list = ap₂ (λ x y. set x at y) is v ∙ set-at (take at l) (getD l at 0) R (length ws) at (length-take-le at l (omega arith))
+          ∙ ap (λ k. take at l ++ (length ws ∷ (ws ++ drop k l))) s;
+      next = omega arith;
+    }

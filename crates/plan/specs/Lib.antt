@@ -1,3 +1,4 @@
 pub mod Layout
 pub mod Step
+pub mod StepLaws
 pub mod Steps

@@ -2,7 +2,9 @@
 -- kind 1 is add".
 use mathlib.Core.List.{List, [], _∷_}
 use mathlib.Core.Option.{Option, none, some}
-use Prim.Native.Nat.{ℕ, zero, suc, _+_, _*_, _/_, _%_}
+use Prim.Native.Nat.{ℕ, zero, suc, _+_, _*_, _/_, _%_, _<_}
+use Rattle.plan.specs.declared.Decoded.{Decoded}
+use Rattle.plan.specs.declared.Decoded.the-variants.{Valid, Invalid}
 use Rattle.plan.specs.declared.Step.{Step}
 use Rattle.plan.specs.declared.Step.the-variants.{Clear, Add}
 
@@ -31,3 +33,13 @@ abbrev pub addSteps : List Step → ℕ
 addSteps [] = 0
 addSteps (Clear to ∷ xs) = addSteps xs
 addSteps (Add to from ∷ xs) = suc (addSteps xs)
+
+-- a step as code has it, or none
+abbrev pub decodedOf : Option Step → Decoded
+decodedOf none = Invalid
+decodedOf (some x) = Valid x
+
+-- the slots of a step are below k; below 4,096 they can be packed
+abbrev pub SlotsBelow : ℕ → Step → Type 0
+SlotsBelow k (Clear to) = to < k
+SlotsBelow k (Add to from) = (to < k) × (from < k)

@@ -1,0 +1,150 @@
+use Rattle.gf2.specs.Places.{minus}
+use Rattle.table.specs.Checks.{check}
+use Rattle.table.specs.Table.{number}
+use Rattle.rule.specs.Rule.{clearAndAdd}
+use lib.ListN.{length-append}
+use Rattle.emit.proofs.Laws.{Left, left-all, left-is, left-more, left-room, left-length, left-done, wrote-is, wrote-length}
+use Rattle.emit.proofs.Passes.{scratches, one, scratches-all, scratches-none, scratches-next, packed-length, left-steps}
+use Rattle.rule.specs.Rule.{scratchSteps}
+use Rattle.table.specs.Table.{places}
+use Rattle.emit.specs.Emit.{marked, asideIn}
+use Prim.Native.Nat.{ℕ, zero, suc, _+_, _-_, _*_, _/_, _%_, _^_, _≤_, _<_}
+use mathlib.Core.Path.{_≡_, refl, sym, ap, ap₂, _∙_, subst}
+use mathlib.Core.Bool.{Bool, true, false}
+use mathlib.Core.List.{List, [], _∷_, _++_}
+use mathlib.Core.Logic.{⊎-elim}
+use native.Mathlib.Omega.{arith}
+use lib.ListN.{length, getD, set, take, drop, length-set}
+use borrow.Author.Needs.{needs}
+use Rattle.emit.proofs.set_aside.Statement.{statement}
+use Rattle.emit.proofs.set_aside.Tie as tie
+use Rattle.emit.proofs.set_aside.Reads as reads
+use Rattle.emit.proofs.set_aside.Lts as lts
+use Rattle.emit.proofs.check_into.Reads as check-into-reads
+use Rattle.table.proofs.wide.Reads as wide-reads
+
+abbrev Inv-loop : tie.InvT-loop
+Inv-loop plan₀ at t starts aside g skip n k₀ i₀ plan k i = (i ≤ g) × Left plan₀ at (scratches skip t aside g 0) (scratches skip t aside g i) plan k
+
+abbrev μ-loop : tie.MeasureT-loop
+μ-loop plan₀ at t starts aside g skip n k₀ i₀ plan k i = g - i
+
+-- src/lib.rt:116:18
+shared-slice-read-wide : tie.Need-shared-slice-read-wide Inv-loop μ-loop
+shared-slice-read-wide c = let r = c .before .before .before .before .before .before .pre .1 .each .weights in omega arith
+
+-- src/lib.rt:116:9
+wide-requires : tie.Need-wide-requires Inv-loop μ-loop
+wide-requires c κs = omega arith
+
+-- src/lib.rt:119:5
+loop-holds : tie.Need-loop-holds Inv-loop μ-loop
+loop-holds c = (omega arith, left-all _ _ _)
+
+-- src/lib.rt:120:49
+mul-wide : tie.Need-mul-wide Inv-loop μ-loop
+mul-wide c = let r = c .before .before .before .before .before .before .before .before .before .before .pre .2 .room in omega arith
+
+-- src/lib.rt:120:49
+shared-slice-read-wide-2 : tie.Need-shared-slice-read-wide-2 Inv-loop μ-loop
+shared-slice-read-wide-2 c = let r = c .before .before .before .before .before .before .before .before .before .before .before .pre .2 .room in omega arith
+
+-- src/lib.rt:120:44
+wide-requires-2 : tie.Need-wide-requires-2 Inv-loop μ-loop
+wide-requires-2 c κs = omega arith
+
+-- src/lib.rt:120:60
+add-check-into : tie.Need-add-check-into Inv-loop μ-loop
+add-check-into c = let n = c .before .before .before .before .before .before .before .before .before .before .before .before .pre .1 .each .narrow in let e = c .before .before .before .before .before .wide .ensures in omega arith
+
+-- src/lib.rt:120:9
+check-into-requires : tie.Need-check-into-requires Inv-loop μ-loop
+check-into-requires c κs =
+    let a = c .before .before .before .before .before .before .before .before .before .before .before .before .args in
+    let s = c .before .before .before .before .loop in
+    let sk = a .skip .now in
+    let t = a .t .now in
+    let ids = a .aside .now in
+    let all = ap length (scratches-all sk t ids (a .g)) in
+    let room : a .at + length (scratches sk t ids (a .g) 0) ≤ length (a .plan .now) = omega (arith, packed-length (scratchSteps (places t) (marked sk) (asideIn t ids (a .g))), c .before .before .before .before .before .before .before .before .before .before .before .before .pre .0) in
+    let rest = scratches sk t ids (a .g) (s .i + 1) in
+    let j = c .wide2 .result in
+    let to = c .before .before .before .before .before .wide .result + s .i in
+    let next = scratches-next sk t ids (a .g) (s .i) (c .before .before .before .before .before .before .before .before .before .before .before .before .pre .1 .each) (c .before .before .before .before .before .before .before .before .before .before .before .before .pre .2 .room) (c .before .before .before .loop-test .taken) (c .before .before .before .before .before .before .before .before .before .before .before .before .pre .2 .each (s .i) (c .before .before .before .loop-test .taken)) ∙ ap₂ (λ x y. one sk t x (y + s .i) ++ rest) (sym (c .wide2 .ensures)) (sym (c .before .before .before .before .before .wide .ensures)) in
+    let w = left-is (one sk t j to ++ rest) (s .inv .1) next in
+    let b = c .before .before .before .before .before .before .before .before .before .before .before .before .pre .2 .each (s .i) (omega arith) in
+    let n = c .before .before .before .before .before .before .before .before .before .before .before .before .pre .1 .each .narrow in
+    let e = c .before .before .before .before .before .wide .ensures in
+    let f = c .wide2 .ensures in
+    (left-steps room (clearAndAdd to (minus (check t (number t) j) (to ∷ marked sk))) rest w, c .before .before .before .before .before .before .before .before .before .before .before .before .pre .1, omega arith, omega arith)
+
+-- src/lib.rt:121:9
+add-i : tie.Need-add-i Inv-loop μ-loop
+add-i c = omega arith
+
+-- src/lib.rt:119:5
+loop-less : tie.Need-loop-less Inv-loop μ-loop
+loop-less c = omega arith
+
+-- src/lib.rt:119:5
+loop-again : tie.Need-loop-again Inv-loop μ-loop
+loop-again c =
+    let a = c .before .before .before .before .before .before .before .before .before .before .before .before .before .before .before .args in
+    let s = c .before .before .before .before .before .before .before .loop in
+    let sk = a .skip .now in
+    let t = a .t .now in
+    let ids = a .aside .now in
+    let all = ap length (scratches-all sk t ids (a .g)) in
+    let room : a .at + length (scratches sk t ids (a .g) 0) ≤ length (a .plan .now) = omega (arith, packed-length (scratchSteps (places t) (marked sk) (asideIn t ids (a .g))), c .before .before .before .before .before .before .before .before .before .before .before .before .before .before .before .pre .0) in
+    let rest = scratches sk t ids (a .g) (s .i + 1) in
+    let j = c .before .before .before .wide2 .result in
+    let to = c .before .before .before .before .before .before .before .before .wide .result + s .i in
+    let next = scratches-next sk t ids (a .g) (s .i) (c .before .before .before .before .before .before .before .before .before .before .before .before .before .before .before .pre .1 .each) (c .before .before .before .before .before .before .before .before .before .before .before .before .before .before .before .pre .2 .room) (c .before .before .before .before .before .before .loop-test .taken) (c .before .before .before .before .before .before .before .before .before .before .before .before .before .before .before .pre .2 .each (s .i) (c .before .before .before .before .before .before .loop-test .taken)) ∙ ap₂ (λ x y. one sk t x (y + s .i) ++ rest) (sym (c .before .before .before .wide2 .ensures)) (sym (c .before .before .before .before .before .before .before .before .wide .ensures)) in
+    let w = left-is (one sk t j to ++ rest) (s .inv .1) next in
+    (omega arith, left-more room (one sk t j to) rest w (c .before .before .check-into .ensures))
+
+-- src/lib.rt:104:1
+same-length : tie.Need-same-length Inv-loop μ-loop
+same-length c =
+    let a = c .before .before .before .before .before .before .before .before .before .args in
+    let s = c .before .loop in
+    let sk = a .skip .now in
+    let t = a .t .now in
+    let ids = a .aside .now in
+    let all = ap length (scratches-all sk t ids (a .g)) in
+    let room : a .at + length (scratches sk t ids (a .g) 0) ≤ length (a .plan .now) = omega (arith, packed-length (scratchSteps (places t) (marked sk) (asideIn t ids (a .g))), c .before .before .before .before .before .before .before .before .before .pre .0) in
+    left-length room (s .inv .1)
+
+-- src/lib.rt:104:1
+returns : tie.Need-returns Inv-loop μ-loop
+returns c =
+    let a = c .before .before .before .before .before .before .before .before .before .args in
+    let s = c .before .loop in
+    let sk = a .skip .now in
+    let t = a .t .now in
+    let ids = a .aside .now in
+    let all = ap length (scratches-all sk t ids (a .g)) in
+    let room : a .at + length (scratches sk t ids (a .g) 0) ≤ length (a .plan .now) = omega (arith, packed-length (scratchSteps (places t) (marked sk) (asideIn t ids (a .g))), c .before .before .before .before .before .before .before .before .before .pre .0) in
+    let e : s .i ≡ a .g = omega arith in
+    let w = left-done (left-is [] (s .inv .1) (ap (scratches sk t ids (a .g)) e ∙ scratches-none sk t ids (a .g) (c .before .before .before .before .before .before .before .before .before .pre .2 .room))) in
+    wrote-is w (sym (scratches-all sk t ids (a .g)))
+
+pub set-aside-spec : {M : Type 1} → statement M
+set-aside-spec =
+    tie.close
+    (tie.spec
+    Inv-loop
+    μ-loop
+    shared-slice-read-wide
+    wide-requires
+    loop-holds
+    mul-wide
+    shared-slice-read-wide-2
+    wide-requires-2
+    add-check-into
+    check-into-requires
+    add-i
+    loop-less
+    loop-again
+    same-length
+    returns)
