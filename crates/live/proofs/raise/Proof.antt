@@ -75,13 +75,15 @@ loop-again c =
     let s = c .before .before .before .before .before .loop in
     let w = c .before .before .wide .ensures in
     let l = s .inv .1 .most in
-    let b = c .before .before .before .before .before .before .before .before .pre .0 .below (s .i) (omega arith) in
-    (omega arith, ⊎-elim
-    (λ u. let e = u .2 in raised-turn _ _ (s .inv .1) w (omega arith) (omega arith) (λ o. omega arith))
-    (⊎-elim
-    (λ u. let e = u .2 in raised-turn _ _ (s .inv .1) w (omega arith) (omega arith) (λ o. omega arith))
-    (λ u. let e = u .1 in raised-turn _ _ (s .inv .1) w (omega arith) (omega arith) (λ o. absurd (u .0 .left o))))
-    (c .if1 .came))
+    let b = c .before .before .before .before .before .before .before .before .pre .0 .below (s .i) (omega arith) in (
+      omega arith,
+      ⊎-elim
+          (λ u. let e = u .2 in raised-turn _ _ (s .inv .1) w (omega arith) (omega arith) (λ o. omega arith))
+          (⊎-elim
+          (λ u. let e = u .2 in raised-turn _ _ (s .inv .1) w (omega arith) (omega arith) (λ o. omega arith))
+          (λ u. let e = u .1 in raised-turn _ _ (s .inv .1) w (omega arith) (omega arith) (λ o. absurd (u .0 .left o))))
+          (c .if1 .came),
+    )
 
 -- src/lib.rt:67:1
 returns : tie.Need-returns Inv-loop μ-loop
