@@ -39,7 +39,8 @@ fn look_at_checks(t: &[u16], m: usize, n: usize, s: usize, block: &[u8]) -> Veri
     let mut j = 0;
     while j < m {
         let w = wide(t[4 + j]);
-        if table::sum_of_check(t, at, w, block, n, s) != s {
+        let low = table::sum_of_check(t, at, w, block, n, s);
+        if low != s {
             return Verified::Fails(j);
         }
         at += w;
@@ -148,12 +149,12 @@ fn next_ready(t: &[u16], m: usize, n: usize, s: usize, starts: &[u16], map: &[u8
     requires { ⌜ TableOf (now t) m n s × Starts (now t) m (now starts) × (length (now map) ≡ n) ⌝ }
     ensures { λ r. ⌜ r ≡ readyNumber (now (map .entry)) (checks (now (t .entry))) ⌝ }
 {
-    let mut j = 0;
-    while j < m {
-        if lost_in(t, wide(starts[j]), wide(t[4 + j]), map) == 1 {
-            return j;
+    let mut lowest = 0;
+    while lowest < m {
+        if lost_in(t, wide(starts[lowest]), wide(t[4 + lowest]), map) == 1 {
+            return lowest;
         }
-        j += 1;
+        lowest += 1;
     }
     m
 }
