@@ -1,20 +1,20 @@
 -- Each part of the plan has one clear step for each solved check, scratch slot or fitted place.
-use mathlib.Core.Path.{_≡_, refl, sym, ap, ap₂, _∙_, subst}
-use mathlib.Core.Bool.{Bool, true, false}
-use mathlib.Core.List.{List, [], _∷_, _++_, map}
-use Prim.Native.Nat.{ℕ, zero, suc, _+_, _-_, _*_, _<_, _≤_}
+use mathlib.Core.Path.{_≡_, refl}
+use mathlib.Core.Bool.{Bool}
+use mathlib.Core.List.{List, [], _∷_, _++_}
+use Prim.Native.Nat.{ℕ, zero, suc, _+_, _-_, _*_}
 use native.Mathlib.Omega.{arith}
 use lib.ListN.{length, length-map, length-append}
 use Rattle.gf2.specs.Lists.{rev}
 use Rattle.gf2.specs.Places.{minus}
 use Rattle.plan.specs.declared.Step.{Step}
-use Rattle.plan.specs.declared.Step.the-variants.{Clear, Add}
+use Rattle.plan.specs.declared.Step.the-variants.{Add}
 use Rattle.plan.specs.Step.{addSteps}
 use Rattle.rule.specs.Bound.{count-steps}
 use Rattle.rule.specs.Count.{count-append, count-fill}
 use Rattle.rule.specs.Main.{length-rev}
-use Rattle.rule.specs.Rule.{Solved, clearAndAdd, solvingSteps, scratchSteps, slotsNamed, fittingSteps, stepsWithGap, planSteps, fittedPlaces, inverse, reduced}
-use Rattle.emit.specs.Emit.{clearCount, gapSteps}
+use Rattle.rule.specs.Rule.{Solved, clearAndAdd, solvingSteps, scratchSteps, slotsNamed, fittingSteps, planSteps, fittedPlaces, inverse, reduced}
+use Rattle.emit.specs.Emit.{clearCount}
 
 -- a slot that is filled
 filled : (to : ℕ) (c : List ℕ) (xs : List Step) (k : ℕ) → length xs ≡ addSteps xs + k → length (clearAndAdd to c ++ xs) ≡ addSteps (clearAndAdd to c ++ xs) + suc k

@@ -1,10 +1,9 @@
 -- What an accepted table and its phases give for the whole plan.
-use mathlib.Core.Path.{_≡_, refl, sym, ap, ap₂, _∙_, subst}
-use mathlib.Core.Bool.{Bool, true, false}
-use mathlib.Core.List.{List, [], _∷_, _++_, map}
-use Prim.Native.Nat.{ℕ, zero, suc, _+_, _-_, _*_, _<_, _≤_}
+use mathlib.Core.Path.{_≡_, refl, sym, ap, ap₂, _∙_}
+use mathlib.Core.List.{List, [], _∷_, _++_}
+use Prim.Native.Nat.{ℕ, zero, suc, _+_, _-_, _≤_}
 use native.Mathlib.Omega.{arith}
-use lib.ListN.{length, getD, take, drop, length-append, length-map}
+use lib.ListN.{length, getD, take, drop, length-append}
 use lib.Seq.{take-suc, length-take-le}
 use Rattle.gf2.specs.Fit.{below}
 use Rattle.gf2.specs.Lists.{rev}
@@ -12,15 +11,15 @@ use Rattle.gf2.specs.Places.{minus}
 use Rattle.table.specs.Checks.{check}
 use Rattle.table.specs.ChecksLaws.{each-check}
 use Rattle.table.specs.Table.{places, size, number, checks}
-use Rattle.table.specs.TableLaws.{Good, accepted}
+use Rattle.table.specs.TableLaws.{accepted}
 use Rattle.plan.specs.declared.Step.{Step}
 use Rattle.plan.specs.Layout.{planNumbers}
-use Rattle.plan.specs.Step.{pack, addSteps}
+use Rattle.plan.specs.Step.{addSteps}
 use Rattle.rule.specs.Accepted.{steps-limit, words-limit}
 use Rattle.rule.specs.Info.{kept-few}
-use Rattle.rule.specs.Rule.{Solved, owns, planSteps, fittedPlaces, solvedOf, setAsideOf, plan, Plan}
-use Rattle.rule.specs.Buffers.{solved, peeling, Chosen, Fitted}
-use Rattle.emit.specs.Emit.{Wrote, written, solvedIn, asideIn, clearCount, planOf, planWords, Below, Numbers, Phases, Planned}
+use Rattle.rule.specs.Rule.{Solved, owns, planSteps, fittedPlaces, solvedOf, setAsideOf, plan}
+use Rattle.rule.specs.Buffers.{solved, peeling}
+use Rattle.emit.specs.Emit.{Wrote, written, solvedIn, asideIn, clearCount, planOf, planWords, Phases, Planned}
 use Rattle.emit.proofs.Counts.{clears-are}
 use Rattle.emit.proofs.Whole.{aside-length}
 

@@ -1,9 +1,9 @@
 -- Writing on, and what is left to write.
 use mathlib.Core.Path.{_≡_, refl, sym, ap, ap₂, _∙_, subst}
 use mathlib.Core.List.{List, [], _∷_, _++_, append-assoc}
-use Prim.Native.Nat.{ℕ, zero, suc, _+_, _-_, _*_, _<_, _≤_}
+use Prim.Native.Nat.{ℕ, suc, _+_, _-_, _<_, _≤_}
 use native.Mathlib.Omega.{arith}
-use lib.ListN.{length, getD, set, take, drop, length-set, length-drop, length-take, length-append, take-append-drop}
+use lib.ListN.{length, getD, set, take, drop, length-drop, length-take, length-append, take-append-drop}
 use native.Mathlib.Numerals.{add-one}
 use lib.Seq.{drop-cons, set-at, take-at, drop-at, drop-drop, take-suc, length-take-le}
 use Rattle.emit.specs.Emit.{written, Wrote}

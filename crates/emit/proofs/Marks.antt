@@ -1,17 +1,16 @@
 -- Marked places, and the places that a list leaves.
-use mathlib.Core.Path.{_≡_, refl, sym, ap, ap₂, _∙_, subst}
-use mathlib.Core.Bool.{Bool, true, false, cond, not, _||_}
-use mathlib.Core.List.{List, [], _∷_, _++_, map}
+use mathlib.Core.Path.{_≡_, sym, ap, ap₂, _∙_}
+use mathlib.Core.Bool.{true, false}
+use mathlib.Core.List.{List, _∷_}
 use Prim.Native.Nat.{ℕ, zero, suc, _+_, _-_, _<_, _≤_}
 use native.Mathlib.Omega.{arith}
 use lib.Dec.{eqb, ltb}
 use native.Mathlib.Numerals.{add-one}
 use lib.ListN.{length, getD, set, drop, List·getD-eq-default, drop-of-length-le}
 use lib.Seq.{drop-cons}
-use borrow.Author.Tests.{eq-eqb, ne-eqb, ltb-true, ltb-false}
-use Rattle.gf2.specs.Bit.{eqb-true, eqb-false, eqb-self}
-use Rattle.gf2.specs.Lists.{eqb-lt}
-use Rattle.gf2.specs.Places.{has, filter, minus, has-filter}
+use borrow.Author.Tests.{ltb-true, ltb-false}
+use Rattle.gf2.specs.Bit.{eqb-true, eqb-false}
+use Rattle.gf2.specs.Places.{has, minus, has-filter}
 use Rattle.gf2.specs.Span.{byBool}
 use Rattle.table.specs.Checks.{from}
 use Rattle.rule.specs.Info.{has-kept}

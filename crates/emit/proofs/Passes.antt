@@ -1,20 +1,17 @@
 -- The steps of one check, one set-aside check and one fitted place after the other.
-use mathlib.Core.Path.{_≡_, refl, sym, ap, ap₂, _∙_, subst}
-use mathlib.Core.Bool.{Bool, true, false, not, _||_}
+use mathlib.Core.Path.{_≡_, refl, sym, ap, ap₂, _∙_}
 use mathlib.Core.List.{List, [], _∷_, _++_, map}
 use Prim.Native.Nat.{ℕ, zero, suc, _+_, _-_, _<_, _≤_}
 use native.Mathlib.Numerals.{add-one}
 use native.Mathlib.Omega.{arith}
-use lib.Dec.{eqb}
 use lib.ListN.{length, getD, take, drop, length-map, length-append, drop-of-length-le}
 use lib.Seq.{drop-cons, getD-take, length-take-le}
 use Rattle.gf2.specs.Lists.{rev, eqb-lt}
 use Rattle.gf2.specs.Places.{has, minus}
 use Rattle.gf2.specs.Span.{byBool}
-use Rattle.table.specs.Checks.{check, offset, Places, Checks, Starts}
+use Rattle.table.specs.Checks.{check, offset, Places, Checks}
 use Rattle.table.specs.Table.{places, number}
 use Rattle.plan.specs.declared.Step.{Step}
-use Rattle.plan.specs.declared.Step.the-variants.{Clear, Add}
 use Rattle.plan.specs.Step.{pack}
 use Rattle.rule.specs.Rule.{Solved, clearAndAdd, solvingSteps, scratchSteps, slotsNamed}
 use Rattle.rule.specs.Buffers.{solved, maskBits}

@@ -1,32 +1,27 @@
 -- Steps by marks are steps by the list of places, and the steps by rows are those of the inverse.
-use mathlib.Core.Path.{_≡_, refl, sym, ap, ap₂, _∙_, subst}
-use mathlib.Core.Bool.{Bool, true, false, not, _||_}
-use mathlib.Core.List.{List, [], _∷_, _++_, map}
+use mathlib.Core.Path.{_≡_, refl, sym, ap, ap₂, _∙_}
+use mathlib.Core.Bool.{Bool, true, false, _||_}
+use mathlib.Core.List.{List, [], _∷_, _++_}
 use Prim.Native.Nat.{ℕ, zero, suc, _+_, _-_, _<_, _≤_}
 use native.Mathlib.Omega.{arith}
-use lib.Dec.{eqb, ltb}
-use lib.ListN.{length, getD, set, take, drop, replicate, length-set, length-take}
+use lib.Dec.{eqb}
+use lib.ListN.{length, getD, set, take, drop, replicate, length-set}
 use lib.Seq.{getD-set-same, getD-set-other, getD-take, drop-cons, length-take-le}
 use borrow.Author.Tests.{eq-eqb, ne-eqb}
 use Rattle.gf2.specs.Bit.{eqb-true, eqb-false}
-use Rattle.gf2.specs.Fit.{isZero, column, below}
-use Rattle.gf2.specs.Group.{XorGroup}
-use Rattle.gf2.specs.Lists.{rev, getD-zeros, below-of, all-filter}
-use Rattle.gf2.specs.Places.{has, filter, minus}
+use Rattle.gf2.specs.Fit.{column}
+use Rattle.gf2.specs.Lists.{getD-zeros, below-of, all-filter}
+use Rattle.gf2.specs.Places.{has, minus}
 use Rattle.gf2.specs.Span.{byBool}
 use Rattle.gf2.specs.Width.{All, All.nil, All.cons}
-use Rattle.plan.specs.declared.Step.{Step}
 use Rattle.rule.specs.Codeword.{all-rev}
 use Rattle.rule.specs.Main.{all-choose}
-use Rattle.rule.specs.Rule.{Solved, owns, clearAndAdd, solvingSteps, scratchSteps, slotsNamed, fittingSteps, fittedPlaces, unowned, inverse, reduced, planSteps}
-use Rattle.rule.specs.Buffers.{solved, maskBits, Fitted}
-use Rattle.emit.specs.Emit.{marked, marking, fittingRows, gapSteps, Below}
+use Rattle.rule.specs.Rule.{Solved, clearAndAdd, solvingSteps, scratchSteps, slotsNamed, fittingSteps, fittedPlaces, inverse, reduced}
+use Rattle.rule.specs.Buffers.{maskBits, Fitted}
+use Rattle.emit.specs.Emit.{marked, marking, fittingRows, Below}
 use Rattle.emit.proofs.Marks.{has-marked}
 
 -- ---- only membership counts
-Same : List ℕ → List ℕ → Type 0
-Same X Y = (p : ℕ) → has p X ≡ has p Y
-
 pub minus-same : (c X Y : List ℕ) → ((p : ℕ) → has p X ≡ has p Y) → minus c X ≡ minus c Y
 minus-same [] X Y h = refl
 minus-same (q ∷ c) X Y h = let ih = minus-same c X Y h in byBool (has q X)
@@ -111,8 +106,3 @@ fitting-is n g fitted rows inv j zero r h = refl
 fitting-is n g fitted rows inv j (suc c) r h =
     let f = getD fitted j 0 in
     rw (drop-cons fitted j 0 (omega arith)) (ap₂ (λ m s. clearAndAdd f (slotsNamed n m) ++ s) (h j (omega arith)) (fitting-is n g fitted rows inv (suc j) c (omega arith) (λ i l. h i (omega arith))))
-
--- ---- the own places
-snoc-map : (l : List Solved) (x : Solved) → owns (l ++ (x ∷ [])) ≡ owns l ++ (x .own ∷ [])
-snoc-map [] x = refl
-snoc-map (y ∷ l) x = ap (λ r. y .own ∷ r) (snoc-map l x)

@@ -1,10 +1,10 @@
 -- The sections of the plan from the buffers.
-use mathlib.Core.Path.{_≡_, refl, sym, ap, ap₂, _∙_, subst}
-use mathlib.Core.Bool.{Bool, true, false, not, _||_}
+use mathlib.Core.Path.{_≡_, refl, sym, ap, ap₂, _∙_}
+use mathlib.Core.Bool.{Bool, not}
 use mathlib.Core.List.{List, [], _∷_, _++_, map}
-use Prim.Native.Nat.{ℕ, zero, suc, _+_, _-_, _*_, _<_, _≤_}
+use Prim.Native.Nat.{ℕ, _+_, _-_, _<_, _≤_}
 use native.Mathlib.Omega.{arith}
-use lib.ListN.{length, getD, take, drop, replicate, length-replicate, length-map, length-append}
+use lib.ListN.{length, take, replicate, length-replicate, length-map}
 use lib.Seq.{length-take-le}
 use Rattle.gf2.specs.Fit.{below, length-below}
 use Rattle.gf2.specs.Lists.{rev}
@@ -12,12 +12,10 @@ use Rattle.gf2.specs.Places.{has, filter, minus}
 use Rattle.gf2.specs.Span.{byBool}
 use Rattle.table.specs.Checks.{check}
 use Rattle.table.specs.Table.{places, number}
-use Rattle.plan.specs.declared.Step.{Step}
-use Rattle.plan.specs.Step.{pack, addSteps}
+use Rattle.plan.specs.Step.{pack}
 use Rattle.rule.specs.Main.{length-rev, append-nil}
-use Rattle.rule.specs.Rule.{Solved, owns, clearAndAdd, solvingSteps, scratchSteps, fittingSteps, stepsWithGap, planSteps, fittedPlaces, inverse, reduced}
-use Rattle.rule.specs.Buffers.{solved, Fitted}
-use Rattle.emit.specs.Emit.{marked, marking, solvedIn, asideIn, fittingRows, gapSteps, Below, Numbers, Readable, Phases}
+use Rattle.rule.specs.Rule.{Solved, solvingSteps, scratchSteps, fittingSteps, planSteps, fittedPlaces, inverse, reduced}
+use Rattle.emit.specs.Emit.{marked, marking, solvedIn, asideIn, fittingRows, gapSteps, Below, Readable, Phases}
 use Rattle.emit.proofs.Passes.{packed-append}
 use Rattle.emit.proofs.Same.{minus-same, solving-same, scratch-same, none-marked, marked-more, marking-length, fitting-is, fitted-low}
 
@@ -74,7 +72,7 @@ module _ (t starts order us : List ℕ) (taken : ℕ) (aside : List ℕ) (g : �
 
     -- the four parts
     pub gap-is : map pack (gapSteps n T Z) ≡ map pack (solvingSteps (marked skip) (rev T)) ++ (map pack (scratchSteps n (marked skip) Z)
-        ++ (map pack (fittingRows n g fs rows 0 g) ++ map pack (solvingSteps (marked (replicate 1024 0)) (rev T))))
+        ++ (map pack (fittingRows n g fs rows 0 g) ++ map pack (solvingSteps [] (rev T))))
     gap-is =
         let F = fittedPlaces n T Z in
         let inv = inverse (reduced T Z) F in
@@ -82,18 +80,17 @@ module _ (t starts order us : List ℕ) (taken : ℕ) (aside : List ℕ) (g : �
         let b : scratchSteps n F Z ≡ scratchSteps n (marked skip) Z = scratch-same n F (marked skip) Z (λ p. sym (skip-is p)) in
         let c : fittingSteps n inv F ≡ fittingRows n g fs rows 0 g =
         ap (fittingSteps n inv) (sym (ph .fits .places)) ∙ sym (fitting-is n g fs rows inv 0 g (let r = ph .fits .room .0 in omega arith) (λ i l. ph .fits .row-of i (omega arith))) in
-        let d : solvingSteps [] (rev T) ≡ solvingSteps (marked (replicate 1024 0)) (rev T) = solving-same [] (marked (replicate 1024 0)) (rev T) (λ p. sym (none-marked 1024 p)) in
         packed-append (solvingSteps F (rev T)) _
         ∙ ap₂ (λ x y. map pack x ++ y) a (packed-append (scratchSteps n F Z) _
         ∙ ap₂ (λ x y. map pack x ++ y) b (packed-append (fittingSteps n inv F) _
-        ∙ ap₂ (λ x y. map pack x ++ map pack y) c d))
+        ∙ ap (λ x. map pack x ++ map pack (solvingSteps [] (rev T))) c))
 
   pub readable : (marks : List ℕ) → length marks ≡ 1024 → Readable t starts marks
   readable marks h = record { each = ph .each; first = ph .first; all = omega arith }
 
   -- nothing set aside, or something
-  pub steps-none : g ≡ 0 → planSteps n T Z ≡ solvingSteps (marked (replicate 1024 0)) (rev T)
-  steps-none e = rw e (solving-same [] (marked (replicate 1024 0)) (rev T) (λ p. sym (none-marked 1024 p)))
+  pub steps-none : g ≡ 0 → planSteps n T Z ≡ solvingSteps [] (rev T)
+  steps-none e = rw e
 
   steps-cons : (z : List (List ℕ)) → 0 < length z → planSteps n T z ≡ gapSteps n T z
   steps-cons [] h = absurd (omega arith)
@@ -104,3 +101,7 @@ module _ (t starts order us : List ℕ) (taken : ℕ) (aside : List ℕ) (g : �
 
   pub steps-some : (g ≡ 0 → ⊥) → planSteps n T Z ≡ gapSteps n T Z
   steps-some h = let l = aside-length in steps-cons Z (omega arith)
+
+-- nothing is marked
+pub whole-is : (us : List Solved) → solvingSteps (marked (replicate 1024 0)) us ≡ solvingSteps [] us
+whole-is us = solving-same (marked (replicate 1024 0)) [] us (none-marked 1024)

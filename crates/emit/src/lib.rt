@@ -3,12 +3,12 @@ use plan::Step;
 use table::wide;
 ghost use mathlib.Core.Path.{_≡_};
 ghost use mathlib.Core.List.{[], _∷_, _++_, map};
-ghost use Prim.Native.Nat.{ℕ, _+_, _*_, _≤_, _<_};
-ghost use lib.ListN.{length, getD, take, drop};
+ghost use Prim.Native.Nat.{_+_, _≤_, _<_};
+ghost use lib.ListN.{length, take, drop};
 ghost use Rattle.gf2.specs.Fit.{below};
 ghost use Rattle.gf2.specs.Lists.{rev};
 ghost use Rattle.gf2.specs.Places.{minus};
-ghost use Rattle.table.specs.Checks.{check, Places};
+ghost use Rattle.table.specs.Checks.{check, Places, Checks, Starts};
 ghost use Rattle.table.specs.Table.{number, places, size};
 ghost use Rattle.plan.specs.Step.{pack};
 ghost use Rattle.rule.specs.Rule.{clearAndAdd, solvingSteps, scratchSteps, slotsNamed, planSteps};
@@ -100,6 +100,23 @@ fn solve_all(
     k
 }
 
+// the solved checks with all their places
+fn solve_whole(
+    plan: &mut [u32],
+    at: usize,
+    t: &[u16],
+    starts: &[u16],
+    order: &[u16],
+    owns: &[u16],
+    taken: usize,
+) -> usize
+    requires { ⌜ (at + length (solvingSteps [] (rev (solvedIn (now t) (now order) (now owns) taken))) ≤ length (now plan)) × Checks (now t) (number (now t)) (places (now t)) × Starts (now t) (number (now t)) (now starts) × Numbers (now t) (now order) taken × Below (places (now t)) (now owns) taken ⌝ }
+    ensures { λ r. ⌜ Wrote (now (plan .entry)) at (map pack (solvingSteps [] (rev (solvedIn (now (t .entry)) (now (order .entry)) (now (owns .entry)) taken)))) (now (plan .exit)) r ⌝ }
+{
+    let none = [0u8; 1024];
+    solve_all(plan, at, t, starts, order, owns, taken, &none)
+}
+
 // the checks set aside, into the scratch slots, without the marked places
 fn set_aside(
     plan: &mut [u32],
@@ -172,13 +189,12 @@ fn gap_steps(
     requires { ⌜ (at + length (gapSteps (places (now t)) (solvedIn (now t) (now order) (now owns) taken) (asideIn (now t) (now aside) g)) ≤ length (now plan)) × Phases (now t) (now starts) (now order) (now owns) taken (now aside) g (now fitted) (now rows) ⌝ }
     ensures { λ r. ⌜ Wrote (now (plan .entry)) at (map pack (gapSteps (places (now (t .entry))) (solvedIn (now (t .entry)) (now (order .entry)) (now (owns .entry)) taken) (asideIn (now (t .entry)) (now (aside .entry)) g))) (now (plan .exit)) r ⌝ }
 {
-    let none = [0u8; 1024];
     let mut skip = [0u8; 1024];
     mark(&mut skip, fitted, g);
     let a = solve_all(plan, at, t, starts, order, owns, taken, &skip);
     let b = set_aside(plan, a, t, starts, aside, g, &skip);
     let e = fit_all(plan, b, wide(t[1]), g, fitted, rows);
-    solve_all(plan, e, t, starts, order, owns, taken, &none)
+    solve_whole(plan, e, t, starts, order, owns, taken)
 }
 
 // all steps
@@ -199,8 +215,7 @@ fn write_steps(
     ensures { λ r. ⌜ Wrote (now (plan .entry)) at (map pack (planSteps (places (now (t .entry))) (solvedIn (now (t .entry)) (now (order .entry)) (now (owns .entry)) taken) (asideIn (now (t .entry)) (now (aside .entry)) g))) (now (plan .exit)) r ⌝ }
 {
     if g == 0 {
-        let none = [0u8; 1024];
-        return solve_all(plan, at, t, starts, order, owns, taken, &none);
+        return solve_whole(plan, at, t, starts, order, owns, taken);
     }
     gap_steps(
         plan,

@@ -1,65 +1,47 @@
 use Rattle.gf2.specs.Places.{minus}
 use Rattle.plan.specs.Step.{pack}
-use mathlib.Core.List.{map}
+use mathlib.Core.List.{map, _∷_}
 use Rattle.rule.specs.Rule.{clearAndAdd}
 use Rattle.emit.specs.Emit.{marked}
-use Rattle.emit.proofs.Laws.{Left, left-all, left-is, left-more, left-room, left-length, left-done, wrote-is, wrote-length}
+use Rattle.emit.proofs.Laws.{wrote-is}
 use Rattle.emit.proofs.Passes.{check-read}
-use Prim.Native.Nat.{ℕ, zero, suc, _+_, _-_, _*_, _/_, _%_, _^_, _≤_, _<_}
-use mathlib.Core.Path.{_≡_, refl, sym, ap, ap₂, _∙_, subst}
-use mathlib.Core.Bool.{Bool, true, false}
-use mathlib.Core.List.{List, [], _∷_, _++_}
-use mathlib.Core.Logic.{⊎-elim}
+use Prim.Native.Nat.{_-_}
+use mathlib.Core.Path.{ap}
 use native.Mathlib.Omega.{arith}
-use lib.ListN.{length, getD, set, take, drop, length-set}
 use borrow.Author.Needs.{needs}
 use Rattle.emit.proofs.check_into.Statement.{statement}
 use Rattle.emit.proofs.check_into.Tie as tie
-use Rattle.emit.proofs.check_into.Reads as reads
-use Rattle.emit.proofs.check_into.Lts as lts
-use Rattle.emit.proofs.sum_check.Reads as sum-check-reads
-use Rattle.table.proofs.wide.Reads as wide-reads
 
--- src/lib.rt:77:33
 mul-wide : tie.Need-mul-wide
 mul-wide c = let r = c .before .before .before .before .before .pre .1 .first .room in let j = c .before .before .before .before .before .pre .2 in omega arith
 
--- src/lib.rt:77:33
 shared-slice-read-wide : tie.Need-shared-slice-read-wide
 shared-slice-read-wide c = let r = c .before .before .before .before .before .before .pre .1 .first .room in let j = c .before .before .before .before .before .before .pre .2 in omega arith
 
--- src/lib.rt:77:28
 wide-requires : tie.Need-wide-requires
 wide-requires c κs = search needs
 
--- src/lib.rt:77:52
 add-wide : tie.Need-add-wide
 add-wide c = let r = c .before .before .before .before .before .before .before .pre .1 .each .weights in let j = c .before .before .before .before .before .before .before .pre .2 in omega arith
 
--- src/lib.rt:77:50
 mul-wide-2 : tie.Need-mul-wide-2
 mul-wide-2 c = let r = c .before .before .before .before .before .before .before .pre .1 .each .weights in let j = c .before .before .before .before .before .before .before .pre .2 in omega arith
 
--- src/lib.rt:77:50
 shared-slice-read-wide-2 : tie.Need-shared-slice-read-wide-2
 shared-slice-read-wide-2 c = let r = c .before .before .before .before .before .before .before .before .pre .1 .each .weights in let j = c .before .before .before .before .before .before .before .before .pre .2 in omega arith
 
--- src/lib.rt:77:45
 wide-requires-2 : tie.Need-wide-requires-2
 wide-requires-2 c κs = search needs
 
--- src/lib.rt:77:5
 sum-check-requires : tie.Need-sum-check-requires
 sum-check-requires c κs =
     let a = c .before .before .before .before .before .before .before .before .before .args in
     let r = check-read (c .before .before .wide .result) (c .wide2 .result) (a .j) (c .before .before .before .before .before .before .before .before .before .pre .1) (c .before .before .before .before .before .before .before .before .before .pre .2) (c .before .before .wide .ensures) (c .wide2 .ensures) in
     (rw (r .0) (c .before .before .before .before .before .before .before .before .before .pre .0), r .1, c .before .before .before .before .before .before .before .before .before .pre .1 .all, c .before .before .before .before .before .before .before .before .before .pre .3)
 
--- src/lib.rt:65:1
 same-length : tie.Need-same-length
 same-length c = c .before .plan .given
 
--- src/lib.rt:65:1
 returns : tie.Need-returns
 returns c =
     let a = c .before .before .before .before .before .before .before .before .before .before .before .before .args in

@@ -1,25 +1,16 @@
-use mathlib.Core.List.{map}
+use mathlib.Core.List.{map, [], _++_}
 use Rattle.plan.specs.Step.{pack}
 use Rattle.rule.specs.Rule.{clearAndAdd, slotsNamed}
 use Rattle.rule.specs.Buffers.{maskBits}
-use lib.ListN.{length-append}
-use Rattle.emit.proofs.Laws.{Left, left-all, left-is, left-more, left-room, left-length, left-done, wrote-is, wrote-length}
+use Rattle.emit.proofs.Laws.{Left, left-all, left-is, left-more, left-length, left-done, wrote-is}
 use Rattle.emit.proofs.Passes.{fits, fits-all, fits-none, fits-next, packed-length, left-steps}
 use Rattle.emit.specs.Emit.{fittingRows}
-use Prim.Native.Nat.{ℕ, zero, suc, _+_, _-_, _*_, _/_, _%_, _^_, _≤_, _<_}
-use mathlib.Core.Path.{_≡_, refl, sym, ap, ap₂, _∙_, subst}
-use mathlib.Core.Bool.{Bool, true, false}
-use mathlib.Core.List.{List, [], _∷_, _++_}
-use mathlib.Core.Logic.{⊎-elim}
+use Prim.Native.Nat.{_+_, _-_, _≤_}
+use mathlib.Core.Path.{_≡_, sym, ap, _∙_}
 use native.Mathlib.Omega.{arith}
-use lib.ListN.{length, getD, set, take, drop, length-set}
-use borrow.Author.Needs.{needs}
+use lib.ListN.{length, getD}
 use Rattle.emit.proofs.fit_all.Statement.{statement}
 use Rattle.emit.proofs.fit_all.Tie as tie
-use Rattle.emit.proofs.fit_all.Reads as reads
-use Rattle.emit.proofs.fit_all.Lts as lts
-use Rattle.emit.proofs.fit_place.Reads as fit-place-reads
-use Rattle.table.proofs.wide.Reads as wide-reads
 
 abbrev Inv-loop : tie.InvT-loop
 Inv-loop plan₀ at n g fitted rows k₀ j₀ plan k j = (j ≤ g) × Left plan₀ at (fits n g fitted rows 0) (fits n g fitted rows j) plan k
@@ -27,31 +18,24 @@ Inv-loop plan₀ at n g fitted rows k₀ j₀ plan k j = (j ≤ g) × Left plan�
 abbrev μ-loop : tie.MeasureT-loop
 μ-loop plan₀ at n g fitted rows k₀ j₀ plan k j = g - j
 
--- src/lib.rt:158:5
 loop-holds : tie.Need-loop-holds Inv-loop μ-loop
 loop-holds c = (omega arith, left-all _ _ _)
 
--- src/lib.rt:159:43
 mul-wide : tie.Need-mul-wide Inv-loop μ-loop
 mul-wide c = let r = c .before .before .before .before .before .before .pre .3 .room in omega arith
 
--- src/lib.rt:159:43
 shared-slice-read-wide : tie.Need-shared-slice-read-wide Inv-loop μ-loop
 shared-slice-read-wide c = let r = c .before .before .before .before .before .before .before .pre .3 .room in omega arith
 
--- src/lib.rt:159:38
 wide-requires : tie.Need-wide-requires Inv-loop μ-loop
 wide-requires c κs = omega arith
 
--- src/lib.rt:159:55
 mul-fit-place : tie.Need-mul-fit-place Inv-loop μ-loop
 mul-fit-place c = omega arith
 
--- src/lib.rt:159:55
 shared-slice-read-fit-place : tie.Need-shared-slice-read-fit-place Inv-loop μ-loop
 shared-slice-read-fit-place c = omega arith
 
--- src/lib.rt:159:9
 fit-place-requires : tie.Need-fit-place-requires Inv-loop μ-loop
 fit-place-requires c κs =
     let a = c .before .before .before .before .before .before .before .before .before .args in
@@ -68,15 +52,12 @@ fit-place-requires c κs =
     let e = c .before .wide .ensures in
     (left-steps room steps rest w, omega arith, omega arith, omega arith)
 
--- src/lib.rt:160:9
 add-j : tie.Need-add-j Inv-loop μ-loop
 add-j c = omega arith
 
--- src/lib.rt:158:5
 loop-less : tie.Need-loop-less Inv-loop μ-loop
 loop-less c = omega arith
 
--- src/lib.rt:158:5
 loop-again : tie.Need-loop-again Inv-loop μ-loop
 loop-again c =
     let a = c .before .before .before .before .before .before .before .before .before .before .before .before .args in
@@ -91,7 +72,6 @@ loop-again c =
     let w = left-is (map pack steps ++ rest) (s .inv .1) next in
     (omega arith, left-more room (map pack steps) rest w (c .before .before .fit-place .ensures))
 
--- src/lib.rt:145:1
 same-length : tie.Need-same-length Inv-loop μ-loop
 same-length c =
     let a = c .before .before .before .before .before .args in
@@ -102,7 +82,6 @@ same-length c =
     let room : a .at + length (fits (a .n) (a .g) fs rs 0) ≤ length (a .plan .now) = omega (arith, packed-length (fittingRows (a .n) (a .g) fs rs 0 (a .g)), c .before .before .before .before .before .pre .0) in
     left-length room (s .inv .1)
 
--- src/lib.rt:145:1
 returns : tie.Need-returns Inv-loop μ-loop
 returns c =
     let a = c .before .before .before .before .before .args in

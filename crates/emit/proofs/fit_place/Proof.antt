@@ -1,24 +1,17 @@
-use mathlib.Core.List.{map}
-use lib.ListN.{length-map}
+use mathlib.Core.List.{map, [], _∷_}
+use lib.ListN.{length-map, length, set, length-set}
 use Rattle.plan.specs.declared.Step.the-variants.{Clear, Add}
 use Rattle.plan.specs.Step.{pack}
 use Rattle.rule.specs.Rule.{slotsNamed}
 use Rattle.rule.specs.Buffers.{maskBits}
 use Rattle.emit.proofs.Laws.{Left, left-all, left-is, left-one, left-room, left-length, left-done, wrote-one, wrote-append, wrote-is}
 use Rattle.emit.proofs.Slots.{named, named-all, named-none, named-in, named-out}
-use Prim.Native.Nat.{ℕ, zero, suc, _+_, _-_, _*_, _/_, _%_, _^_, _≤_, _<_}
-use mathlib.Core.Path.{_≡_, refl, sym, ap, ap₂, _∙_, subst}
-use mathlib.Core.Bool.{Bool, true, false}
-use mathlib.Core.List.{List, [], _∷_, _++_}
+use Prim.Native.Nat.{_+_, _-_, _≤_, _<_}
+use mathlib.Core.Path.{_≡_, sym, ap, _∙_}
 use mathlib.Core.Logic.{⊎-elim}
 use native.Mathlib.Omega.{arith}
-use lib.ListN.{length, getD, set, take, drop, length-set}
-use borrow.Author.Needs.{needs}
 use Rattle.emit.proofs.fit_place.Statement.{statement}
 use Rattle.emit.proofs.fit_place.Tie as tie
-use Rattle.emit.proofs.fit_place.Reads as reads
-use Rattle.emit.proofs.fit_place.Lts as lts
-use Rattle.plan.proofs.Step.pack.Reads as pack-reads
 
 abbrev Inv-loop : tie.InvT-loop
 Inv-loop plan₀ at n g to row k₀ i₀ plan k i = (i ≤ g) × Left plan₀ (at + 1) (named to n g row 0) (named to n g row i) plan k
@@ -26,43 +19,33 @@ Inv-loop plan₀ at n g to row k₀ i₀ plan k i = (i ≤ g) × Left plan₀ (a
 abbrev μ-loop : tie.MeasureT-loop
 μ-loop plan₀ at n g to row k₀ i₀ plan k i = g - i
 
--- src/lib.rt:117:16
 pack-requires : tie.Need-pack-requires Inv-loop μ-loop
 pack-requires c κs = omega arith
 
--- src/lib.rt:117:5
 mul-plan : tie.Need-mul-plan Inv-loop μ-loop
 mul-plan c = omega arith
 
--- src/lib.rt:117:5
 slice-write-plan : tie.Need-slice-write-plan Inv-loop μ-loop
 slice-write-plan c = omega arith
 
--- src/lib.rt:118:17
 add-k : tie.Need-add-k Inv-loop μ-loop
 add-k c = omega arith
 
--- src/lib.rt:120:5
 loop-holds : tie.Need-loop-holds Inv-loop μ-loop
 loop-holds c = (omega arith, left-all _ _ _)
 
--- src/lib.rt:121:20
 cast-if1 : tie.Need-cast-if1 Inv-loop μ-loop
 cast-if1 c = omega arith
 
--- src/lib.rt:121:13
 shr-if1 : tie.Need-shr-if1 Inv-loop μ-loop
 shr-if1 c = omega arith
 
--- src/lib.rt:122:37
 add-t18 : tie.Need-add-t18 Inv-loop μ-loop
 add-t18 c = omega arith
 
--- src/lib.rt:122:23
 pack-requires-2 : tie.Need-pack-requires-2 Inv-loop μ-loop
 pack-requires-2 c κs = omega arith
 
--- src/lib.rt:122:13
 slice-write-plan-2 : tie.Need-slice-write-plan-2 Inv-loop μ-loop
 slice-write-plan-2 c =
     let a = c .before .before .before .before .before .before .args in
@@ -74,7 +57,6 @@ slice-write-plan-2 c =
     let l = left-length room (s .inv .1) in
     omega arith
 
--- src/lib.rt:122:13
 mul-plan-2 : tie.Need-mul-plan-2 Inv-loop μ-loop
 mul-plan-2 c =
     let a = c .before .before .before .before .before .before .args in
@@ -86,7 +68,6 @@ mul-plan-2 c =
     let l : length (s .plan) ≡ length (a .plan .now) = left-length room (s .inv .1) ∙ simp length-set in
     omega arith
 
--- src/lib.rt:123:13
 add-k-2 : tie.Need-add-k-2 Inv-loop μ-loop
 add-k-2 c =
     let a = c .before .before .before .before .before .before .args in
@@ -98,15 +79,12 @@ add-k-2 c =
     let l : length (s .plan) ≡ length (a .plan .now) = left-length room (s .inv .1) ∙ simp length-set in
     omega arith
 
--- src/lib.rt:125:9
 add-i : tie.Need-add-i Inv-loop μ-loop
 add-i c = omega arith
 
--- src/lib.rt:120:5
 loop-less : tie.Need-loop-less Inv-loop μ-loop
 loop-less c = omega arith
 
--- src/lib.rt:120:5
 loop-again : tie.Need-loop-again Inv-loop μ-loop
 loop-again c =
     let a = c .before .before .before .before .before .args in
@@ -123,7 +101,6 @@ loop-again c =
           (c .if1 .came),
     )
 
--- src/lib.rt:113:1
 same-length : tie.Need-same-length Inv-loop μ-loop
 same-length c =
     let a = c .before .before .before .before .args in
@@ -133,7 +110,6 @@ same-length c =
     let room : a .at + 1 + length (named (a .to) (a .n) (a .g) (a .row) 0) ≤ length (set (a .plan .now) (a .at) (c .before .before .pack .result)) = simp length-set (omega arith) in
     left-length room (s .inv .1) ∙ simp length-set
 
--- src/lib.rt:113:1
 returns : tie.Need-returns Inv-loop μ-loop
 returns c =
     let a = c .before .before .before .before .args in

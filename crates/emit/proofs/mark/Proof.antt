@@ -1,19 +1,12 @@
 use lib.Seq.{getD-take, length-take-le}
 use Rattle.emit.specs.Emit.{marking}
 use Rattle.emit.proofs.Marks.{marking-next, marking-done}
-use Prim.Native.Nat.{ℕ, zero, suc, _+_, _-_, _*_, _/_, _%_, _^_, _≤_, _<_}
-use mathlib.Core.Path.{_≡_, refl, sym, ap, ap₂, _∙_, subst}
-use mathlib.Core.Bool.{Bool, true, false}
-use mathlib.Core.List.{List, [], _∷_, _++_}
-use mathlib.Core.Logic.{⊎-elim}
+use Prim.Native.Nat.{_-_, _≤_}
+use mathlib.Core.Path.{_≡_, refl, sym, _∙_}
 use native.Mathlib.Omega.{arith}
-use lib.ListN.{length, getD, set, take, drop, length-set}
-use borrow.Author.Needs.{needs}
+use lib.ListN.{length, getD, take, drop, length-set}
 use Rattle.emit.proofs.mark.Statement.{statement}
 use Rattle.emit.proofs.mark.Tie as tie
-use Rattle.emit.proofs.mark.Reads as reads
-use Rattle.emit.proofs.mark.Lts as lts
-use Rattle.table.proofs.wide.Reads as wide-reads
 
 abbrev Inv-loop : tie.InvT-loop
 Inv-loop marks₀ places count i₀ marks i = (i ≤ count) × (length marks ≡ length marks₀) × (marking marks₀ (take count places) ≡ marking marks (drop i (take count places)))
@@ -21,35 +14,27 @@ Inv-loop marks₀ places count i₀ marks i = (i ≤ count) × (length marks ≡
 abbrev μ-loop : tie.MeasureT-loop
 μ-loop marks₀ places count i₀ marks i = count - i
 
--- src/lib.rt:26:5
 loop-holds : tie.Need-loop-holds Inv-loop μ-loop
 loop-holds c = (omega arith, refl, refl)
 
--- src/lib.rt:27:22
 mul-wide : tie.Need-mul-wide Inv-loop μ-loop
 mul-wide c = let r = c .before .before .before .before .pre .room in omega arith
 
--- src/lib.rt:27:22
 shared-slice-read-wide : tie.Need-shared-slice-read-wide Inv-loop μ-loop
 shared-slice-read-wide c = let r = c .before .before .before .before .before .pre .room in omega arith
 
--- src/lib.rt:27:13
 wide-requires : tie.Need-wide-requires Inv-loop μ-loop
 wide-requires c κs = omega arith
 
--- src/lib.rt:28:9
 slice-write-marks : tie.Need-slice-write-marks Inv-loop μ-loop
 slice-write-marks c = let b = c .before .before .before .before .before .before .pre .each (c .before .before .before .loop .i) (omega arith) in let e = c .wide .ensures in omega arith
 
--- src/lib.rt:29:9
 add-i : tie.Need-add-i Inv-loop μ-loop
 add-i c = omega arith
 
--- src/lib.rt:26:5
 loop-less : tie.Need-loop-less Inv-loop μ-loop
 loop-less c = omega arith
 
--- src/lib.rt:26:5
 loop-again : tie.Need-loop-again Inv-loop μ-loop
 loop-again c =
     let a = c .before .before .before .before .before .before .args in
@@ -59,11 +44,9 @@ loop-again c =
     let q : c .wide .result ≡ getD P (s .i) 0 = c .wide .ensures ∙ sym (getD-take (a .count) (a .places .now) (s .i) 0 (omega arith)) in
     (omega arith, simp length-set (omega arith), s .inv .2 ∙ marking-next (s .marks) P (s .i) (c .wide .result) (omega arith) q)
 
--- src/lib.rt:21:1
 same-length : tie.Need-same-length Inv-loop μ-loop
 same-length c = c .before .loop .inv .1
 
--- src/lib.rt:21:1
 returns : tie.Need-returns Inv-loop μ-loop
 returns c =
     let a = c .before .before .before .before .args in

@@ -1,27 +1,17 @@
 use Rattle.gf2.specs.Places.{minus}
 use Rattle.table.specs.Checks.{check}
-use Rattle.table.specs.Table.{number}
-use Rattle.rule.specs.Rule.{clearAndAdd}
-use lib.ListN.{length-append}
-use Rattle.emit.proofs.Laws.{Left, left-all, left-is, left-more, left-room, left-length, left-done, wrote-is, wrote-length}
+use Rattle.table.specs.Table.{number, places}
+use Rattle.rule.specs.Rule.{clearAndAdd, scratchSteps}
+use Rattle.emit.proofs.Laws.{Left, left-all, left-is, left-more, left-length, left-done, wrote-is}
 use Rattle.emit.proofs.Passes.{scratches, one, scratches-all, scratches-none, scratches-next, packed-length, left-steps}
-use Rattle.rule.specs.Rule.{scratchSteps}
-use Rattle.table.specs.Table.{places}
 use Rattle.emit.specs.Emit.{marked, asideIn}
-use Prim.Native.Nat.{ℕ, zero, suc, _+_, _-_, _*_, _/_, _%_, _^_, _≤_, _<_}
-use mathlib.Core.Path.{_≡_, refl, sym, ap, ap₂, _∙_, subst}
-use mathlib.Core.Bool.{Bool, true, false}
-use mathlib.Core.List.{List, [], _∷_, _++_}
-use mathlib.Core.Logic.{⊎-elim}
+use Prim.Native.Nat.{_+_, _-_, _≤_}
+use mathlib.Core.Path.{_≡_, sym, ap, ap₂, _∙_}
+use mathlib.Core.List.{[], _∷_, _++_}
 use native.Mathlib.Omega.{arith}
-use lib.ListN.{length, getD, set, take, drop, length-set}
-use borrow.Author.Needs.{needs}
+use lib.ListN.{length}
 use Rattle.emit.proofs.set_aside.Statement.{statement}
 use Rattle.emit.proofs.set_aside.Tie as tie
-use Rattle.emit.proofs.set_aside.Reads as reads
-use Rattle.emit.proofs.set_aside.Lts as lts
-use Rattle.emit.proofs.check_into.Reads as check-into-reads
-use Rattle.table.proofs.wide.Reads as wide-reads
 
 abbrev Inv-loop : tie.InvT-loop
 Inv-loop plan₀ at t starts aside g skip n k₀ i₀ plan k i = (i ≤ g) × Left plan₀ at (scratches skip t aside g 0) (scratches skip t aside g i) plan k
@@ -29,35 +19,27 @@ Inv-loop plan₀ at t starts aside g skip n k₀ i₀ plan k i = (i ≤ g) × Le
 abbrev μ-loop : tie.MeasureT-loop
 μ-loop plan₀ at t starts aside g skip n k₀ i₀ plan k i = g - i
 
--- src/lib.rt:116:18
 shared-slice-read-wide : tie.Need-shared-slice-read-wide Inv-loop μ-loop
 shared-slice-read-wide c = let r = c .before .before .before .before .before .before .pre .1 .each .weights in omega arith
 
--- src/lib.rt:116:9
 wide-requires : tie.Need-wide-requires Inv-loop μ-loop
 wide-requires c κs = omega arith
 
--- src/lib.rt:119:5
 loop-holds : tie.Need-loop-holds Inv-loop μ-loop
 loop-holds c = (omega arith, left-all _ _ _)
 
--- src/lib.rt:120:49
 mul-wide : tie.Need-mul-wide Inv-loop μ-loop
 mul-wide c = let r = c .before .before .before .before .before .before .before .before .before .before .pre .2 .room in omega arith
 
--- src/lib.rt:120:49
 shared-slice-read-wide-2 : tie.Need-shared-slice-read-wide-2 Inv-loop μ-loop
 shared-slice-read-wide-2 c = let r = c .before .before .before .before .before .before .before .before .before .before .before .pre .2 .room in omega arith
 
--- src/lib.rt:120:44
 wide-requires-2 : tie.Need-wide-requires-2 Inv-loop μ-loop
 wide-requires-2 c κs = omega arith
 
--- src/lib.rt:120:60
 add-check-into : tie.Need-add-check-into Inv-loop μ-loop
 add-check-into c = let n = c .before .before .before .before .before .before .before .before .before .before .before .before .pre .1 .each .narrow in let e = c .before .before .before .before .before .wide .ensures in omega arith
 
--- src/lib.rt:120:9
 check-into-requires : tie.Need-check-into-requires Inv-loop μ-loop
 check-into-requires c κs =
     let a = c .before .before .before .before .before .before .before .before .before .before .before .before .args in
@@ -78,15 +60,12 @@ check-into-requires c κs =
     let f = c .wide2 .ensures in
     (left-steps room (clearAndAdd to (minus (check t (number t) j) (to ∷ marked sk))) rest w, c .before .before .before .before .before .before .before .before .before .before .before .before .pre .1, omega arith, omega arith)
 
--- src/lib.rt:121:9
 add-i : tie.Need-add-i Inv-loop μ-loop
 add-i c = omega arith
 
--- src/lib.rt:119:5
 loop-less : tie.Need-loop-less Inv-loop μ-loop
 loop-less c = omega arith
 
--- src/lib.rt:119:5
 loop-again : tie.Need-loop-again Inv-loop μ-loop
 loop-again c =
     let a = c .before .before .before .before .before .before .before .before .before .before .before .before .before .before .before .args in
@@ -103,7 +82,6 @@ loop-again c =
     let w = left-is (one sk t j to ++ rest) (s .inv .1) next in
     (omega arith, left-more room (one sk t j to) rest w (c .before .before .check-into .ensures))
 
--- src/lib.rt:104:1
 same-length : tie.Need-same-length Inv-loop μ-loop
 same-length c =
     let a = c .before .before .before .before .before .before .before .before .before .args in
@@ -115,7 +93,6 @@ same-length c =
     let room : a .at + length (scratches sk t ids (a .g) 0) ≤ length (a .plan .now) = omega (arith, packed-length (scratchSteps (places t) (marked sk) (asideIn t ids (a .g))), c .before .before .before .before .before .before .before .before .before .pre .0) in
     left-length room (s .inv .1)
 
--- src/lib.rt:104:1
 returns : tie.Need-returns Inv-loop μ-loop
 returns c =
     let a = c .before .before .before .before .before .before .before .before .before .args in

@@ -1,27 +1,18 @@
 use Rattle.gf2.specs.Places.{minus}
 use Rattle.table.specs.Checks.{check}
 use Rattle.table.specs.Table.{number}
-use Rattle.rule.specs.Rule.{clearAndAdd}
+use Rattle.rule.specs.Rule.{clearAndAdd, solvingSteps}
 use Rattle.gf2.specs.Lists.{rev}
-use Rattle.rule.specs.Rule.{solvingSteps}
 use Rattle.emit.specs.Emit.{marked, solvedIn}
-use lib.ListN.{length-append}
-use Rattle.emit.proofs.Laws.{Left, left-all, left-is, left-more, left-room, left-length, left-done, wrote-is, wrote-length}
+use Rattle.emit.proofs.Laws.{Left, left-all, left-is, left-more, left-length, left-done}
 use Rattle.emit.proofs.Passes.{solves, one, solves-none, solves-next, packed-length, left-steps}
-use Prim.Native.Nat.{ℕ, zero, suc, _+_, _-_, _*_, _/_, _%_, _^_, _≤_, _<_}
-use mathlib.Core.Path.{_≡_, refl, sym, ap, ap₂, _∙_, subst}
-use mathlib.Core.Bool.{Bool, true, false}
-use mathlib.Core.List.{List, [], _∷_, _++_}
-use mathlib.Core.Logic.{⊎-elim}
+use Prim.Native.Nat.{_+_, _-_, _≤_}
+use mathlib.Core.Path.{_≡_, sym, ap, ap₂, _∙_}
+use mathlib.Core.List.{[], _∷_, _++_}
 use native.Mathlib.Omega.{arith}
-use lib.ListN.{length, getD, set, take, drop, length-set}
-use borrow.Author.Needs.{needs}
+use lib.ListN.{length}
 use Rattle.emit.proofs.solve_all.Statement.{statement}
 use Rattle.emit.proofs.solve_all.Tie as tie
-use Rattle.emit.proofs.solve_all.Reads as reads
-use Rattle.emit.proofs.solve_all.Lts as lts
-use Rattle.emit.proofs.check_into.Reads as check-into-reads
-use Rattle.table.proofs.wide.Reads as wide-reads
 
 abbrev Inv-loop : tie.InvT-loop
 Inv-loop plan₀ at t starts order owns taken skip k₀ i₀ plan k i = (i ≤ taken) × Left plan₀ at (solves skip t order owns taken) (solves skip t order owns i) plan k
@@ -29,39 +20,30 @@ Inv-loop plan₀ at t starts order owns taken skip k₀ i₀ plan k i = (i ≤ t
 abbrev μ-loop : tie.MeasureT-loop
 μ-loop plan₀ at t starts order owns taken skip k₀ i₀ plan k i = i
 
--- src/lib.rt:96:5
 loop-holds : tie.Need-loop-holds Inv-loop μ-loop
 loop-holds c = (omega arith, left-all _ _ _)
 
--- src/lib.rt:97:9
 sub-i : tie.Need-sub-i Inv-loop μ-loop
 sub-i c = omega arith
 
--- src/lib.rt:98:49
 mul-wide : tie.Need-mul-wide Inv-loop μ-loop
 mul-wide c = let r = c .before .before .before .before .before .before .before .before .before .pre .2 .room in omega arith
 
--- src/lib.rt:98:49
 shared-slice-read-wide : tie.Need-shared-slice-read-wide Inv-loop μ-loop
 shared-slice-read-wide c = let r = c .before .before .before .before .before .before .before .before .before .before .pre .2 .room in omega arith
 
--- src/lib.rt:98:44
 wide-requires : tie.Need-wide-requires Inv-loop μ-loop
 wide-requires c κs = omega arith
 
--- src/lib.rt:98:65
 mul-wide-2 : tie.Need-mul-wide-2 Inv-loop μ-loop
 mul-wide-2 c = let r = c .before .before .before .before .before .before .before .before .before .before .before .pre .3 .room in omega arith
 
--- src/lib.rt:98:65
 shared-slice-read-wide-2 : tie.Need-shared-slice-read-wide-2 Inv-loop μ-loop
 shared-slice-read-wide-2 c = let r = c .before .before .before .before .before .before .before .before .before .before .before .before .pre .3 .room in omega arith
 
--- src/lib.rt:98:60
 wide-requires-2 : tie.Need-wide-requires-2 Inv-loop μ-loop
 wide-requires-2 c κs = omega arith
 
--- src/lib.rt:98:9
 check-into-requires : tie.Need-check-into-requires Inv-loop μ-loop
 check-into-requires c κs =
     let a = c .before .before .before .before .before .before .before .before .before .before .before .before .before .args in
@@ -81,11 +63,9 @@ check-into-requires c κs =
     let f = c .wide2 .ensures in
     (left-steps room (clearAndAdd to (minus (check t (number t) j) (to ∷ marked sk))) rest w, c .before .before .before .before .before .before .before .before .before .before .before .before .before .pre .1, omega arith, omega arith)
 
--- src/lib.rt:96:5
 loop-less : tie.Need-loop-less Inv-loop μ-loop
 loop-less c = omega arith
 
--- src/lib.rt:96:5
 loop-again : tie.Need-loop-again Inv-loop μ-loop
 loop-again c =
     let a = c .before .before .before .before .before .before .before .before .before .before .before .before .before .before .before .before .args in
@@ -100,7 +80,6 @@ loop-again c =
     let w = left-is (one sk t j to ++ rest) (s .inv .1) next in
     (omega arith, left-more room (one sk t j to) rest w (c .before .before .check-into .ensures))
 
--- src/lib.rt:81:1
 same-length : tie.Need-same-length Inv-loop μ-loop
 same-length c =
     let a = c .before .before .before .before .before .before .before .before .args in
@@ -110,7 +89,6 @@ same-length c =
     let room : a .at + length (solves sk t (a .order .now) (a .owns .now) (a .taken)) ≤ length (a .plan .now) = omega (arith, packed-length (solvingSteps (marked sk) (rev (solvedIn t (a .order .now) (a .owns .now) (a .taken)))), c .before .before .before .before .before .before .before .before .pre .0) in
     left-length room (s .inv .1)
 
--- src/lib.rt:81:1
 returns : tie.Need-returns Inv-loop μ-loop
 returns c =
     let a = c .before .before .before .before .before .before .before .before .args in

@@ -1,22 +1,15 @@
 use lib.Seq.{drop-length}
-use Rattle.plan.specs.declared.Step.the-variants.{Clear, Add}
 use Rattle.plan.specs.Step.{pack}
 use Rattle.emit.proofs.Laws.{Left, left-all, left-is, left-one, left-room, left-length, left-done, wrote-one, wrote-append}
 use Rattle.emit.proofs.Sums.{adds, adds-length, adds-own, adds-marked, adds-next, part-length, part-at}
-use Prim.Native.Nat.{ℕ, zero, suc, _+_, _-_, _*_, _/_, _%_, _^_, _≤_, _<_}
-use mathlib.Core.Path.{_≡_, refl, sym, ap, ap₂, _∙_, subst}
-use mathlib.Core.Bool.{Bool, true, false}
-use mathlib.Core.List.{List, [], _∷_, _++_}
+use Prim.Native.Nat.{_+_, _-_, _≤_, _<_}
+use mathlib.Core.Path.{_≡_, sym, ap, _∙_}
+use mathlib.Core.List.{[]}
 use mathlib.Core.Logic.{⊎-elim}
 use native.Mathlib.Omega.{arith}
 use lib.ListN.{length, getD, set, take, drop, length-set}
-use borrow.Author.Needs.{needs}
 use Rattle.emit.proofs.sum_check.Statement.{statement}
 use Rattle.emit.proofs.sum_check.Tie as tie
-use Rattle.emit.proofs.sum_check.Reads as reads
-use Rattle.emit.proofs.sum_check.Lts as lts
-use Rattle.plan.proofs.Step.pack.Reads as pack-reads
-use Rattle.table.proofs.wide.Reads as wide-reads
 
 abbrev Inv-loop : tie.InvT-loop
 Inv-loop plan₀ at t start weight to skip k₀ i₀ plan k i = (i ≤ weight) × Left plan₀ (at + 1) (adds to skip (take weight (drop start t))) (adds to skip (drop i (take weight (drop start t)))) plan k
@@ -24,57 +17,45 @@ Inv-loop plan₀ at t start weight to skip k₀ i₀ plan k i = (i ≤ weight) �
 abbrev μ-loop : tie.MeasureT-loop
 μ-loop plan₀ at t start weight to skip k₀ i₀ plan k i = weight - i
 
--- src/lib.rt:48:16
 pack-requires : tie.Need-pack-requires Inv-loop μ-loop
 pack-requires c κs = omega arith
 
--- src/lib.rt:48:5
 mul-plan : tie.Need-mul-plan Inv-loop μ-loop
 mul-plan c = omega arith
 
--- src/lib.rt:48:5
 slice-write-plan : tie.Need-slice-write-plan Inv-loop μ-loop
 slice-write-plan c = omega arith
 
--- src/lib.rt:49:17
 add-k : tie.Need-add-k Inv-loop μ-loop
 add-k c = omega arith
 
--- src/lib.rt:51:5
 loop-holds : tie.Need-loop-holds Inv-loop μ-loop
 loop-holds c = (omega arith, left-all _ _ _)
 
--- src/lib.rt:52:24
 add-wide : tie.Need-add-wide Inv-loop μ-loop
 add-wide c = let p = c .before .before .before .before .before .before .pre .1 .room in omega arith
 
--- src/lib.rt:52:22
 mul-wide : tie.Need-mul-wide Inv-loop μ-loop
 mul-wide c = omega arith
 
--- src/lib.rt:52:22
 shared-slice-read-wide : tie.Need-shared-slice-read-wide Inv-loop μ-loop
 shared-slice-read-wide c = let p = c .before .before .before .before .before .before .before .pre .1 .room in omega arith
 
--- src/lib.rt:52:13
 wide-requires : tie.Need-wide-requires Inv-loop μ-loop
 wide-requires c κs = omega arith
 
--- src/lib.rt:54:16
 shared-slice-read-if2 : tie.Need-shared-slice-read-if2 Inv-loop μ-loop
 shared-slice-read-if2 c =
     let b = c .before .before .before .before .before .before .before .before .before .before .pre .1 .below (c .before .before .before .before .before .loop .i) (omega arith) in
     let e = c .before .before .wide .ensures in
     omega arith
 
--- src/lib.rt:55:27
 pack-requires-2 : tie.Need-pack-requires-2 Inv-loop μ-loop
 pack-requires-2 c κs =
     let b = c .before .before .before .before .before .before .before .before .before .before .before .pre .1 .below (c .before .before .before .before .before .before .loop .i) (omega arith) in
     let e = c .before .before .before .wide .ensures in
     omega arith
 
--- src/lib.rt:55:17
 slice-write-plan-2 : tie.Need-slice-write-plan-2 Inv-loop μ-loop
 slice-write-plan-2 c =
     let a = c .before .before .before .before .before .before .before .before .before .before .before .before .args in
@@ -88,7 +69,6 @@ slice-write-plan-2 c =
     let l = left-length room (s .inv .1) in
     omega arith
 
--- src/lib.rt:55:17
 mul-plan-2 : tie.Need-mul-plan-2 Inv-loop μ-loop
 mul-plan-2 c =
     let a = c .before .before .before .before .before .before .before .before .before .before .before .before .args in
@@ -99,7 +79,6 @@ mul-plan-2 c =
     let l : length (s .plan) ≡ length (a .plan .now) = left-length room (s .inv .1) ∙ simp length-set in
     omega arith
 
--- src/lib.rt:56:17
 add-k-2 : tie.Need-add-k-2 Inv-loop μ-loop
 add-k-2 c =
     let a = c .before .before .before .before .before .before .before .before .before .before .before .before .args in
@@ -110,15 +89,12 @@ add-k-2 c =
     let l : length (s .plan) ≡ length (a .plan .now) = left-length room (s .inv .1) ∙ simp length-set in
     omega arith
 
--- src/lib.rt:59:9
 add-i : tie.Need-add-i Inv-loop μ-loop
 add-i c = omega arith
 
--- src/lib.rt:51:5
 loop-less : tie.Need-loop-less Inv-loop μ-loop
 loop-less c = omega arith
 
--- src/lib.rt:51:5
 loop-again : tie.Need-loop-again Inv-loop μ-loop
 loop-again c =
     let a = c .before .before .before .before .before .before .before .before .before .args in
@@ -141,7 +117,6 @@ loop-again c =
           (c .if1 .came),
     )
 
--- src/lib.rt:36:1
 same-length : tie.Need-same-length Inv-loop μ-loop
 same-length c =
     let a = c .before .before .before .before .before .before .args in
@@ -150,7 +125,6 @@ same-length c =
     let room : a .at + 1 + length (adds (a .to) (a .skip .now) C) ≤ length (set (a .plan .now) (a .at) (c .before .before .pack .result)) = simp length-set (omega (arith, adds-length (a .to) (a .skip .now) C)) in
     left-length room (s .inv .1) ∙ simp length-set
 
--- src/lib.rt:36:1
 returns : tie.Need-returns Inv-loop μ-loop
 returns c =
     let a = c .before .before .before .before .before .before .args in

@@ -2,20 +2,16 @@ use Rattle.gf2.specs.Fit.{below}
 use Rattle.gf2.specs.Lists.{rev}
 use Rattle.gf2.specs.Places.{minus}
 use Rattle.emit.specs.Emit.{marked}
-use Rattle.emit.proofs.Laws.{Left, left-all, left-is, left-one, left-room, left-length, left-done, wrote-one, wrote-append}
+use Rattle.emit.proofs.Laws.{Left, left-all, left-is, left-one, left-room, left-length, left-done}
 use Rattle.emit.proofs.Frees.{frees, frees-all, frees-none, frees-marked, frees-next}
-use Prim.Native.Nat.{ℕ, zero, suc, _+_, _-_, _*_, _/_, _%_, _^_, _≤_, _<_}
-use mathlib.Core.Path.{_≡_, refl, sym, ap, ap₂, _∙_, subst}
-use mathlib.Core.Bool.{Bool, true, false}
-use mathlib.Core.List.{List, [], _∷_, _++_}
+use Prim.Native.Nat.{_+_, _-_, _≤_, _<_}
+use mathlib.Core.Path.{_≡_, ap, _∙_}
+use mathlib.Core.List.{[]}
 use mathlib.Core.Logic.{⊎-elim}
 use native.Mathlib.Omega.{arith}
-use lib.ListN.{length, getD, set, take, drop, length-set}
-use borrow.Author.Needs.{needs}
+use lib.ListN.{length}
 use Rattle.emit.proofs.unmarked.Statement.{statement}
 use Rattle.emit.proofs.unmarked.Tie as tie
-use Rattle.emit.proofs.unmarked.Reads as reads
-use Rattle.emit.proofs.unmarked.Lts as lts
 
 abbrev Inv-loop : tie.InvT-loop
 Inv-loop plan₀ at n used k₀ p₀ plan k p = (p ≤ n) × Left plan₀ at (minus (rev (below n)) (marked used)) (frees n used p) plan k
@@ -23,19 +19,15 @@ Inv-loop plan₀ at n used k₀ p₀ plan k p = (p ≤ n) × Left plan₀ at (mi
 abbrev μ-loop : tie.MeasureT-loop
 μ-loop plan₀ at n used k₀ p₀ plan k p = n - p
 
--- src/lib.rt:160:5
 loop-holds : tie.Need-loop-holds Inv-loop μ-loop
 loop-holds c = (omega arith, left-is _ (left-all _ _ _) (frees-all _ _))
 
--- src/lib.rt:161:12
 shared-slice-read-if1 : tie.Need-shared-slice-read-if1 Inv-loop μ-loop
 shared-slice-read-if1 c = omega arith
 
--- src/lib.rt:162:23
 cast-plan : tie.Need-cast-plan Inv-loop μ-loop
 cast-plan c = omega arith
 
--- src/lib.rt:162:13
 slice-write-plan : tie.Need-slice-write-plan Inv-loop μ-loop
 slice-write-plan c =
     let a = c .before .before .before .before .args in
@@ -45,7 +37,6 @@ slice-write-plan c =
     let l = left-length room (s .inv .1) in
     omega arith
 
--- src/lib.rt:162:13
 mul-plan : tie.Need-mul-plan Inv-loop μ-loop
 mul-plan c =
     let a = c .before .before .before .before .args in
@@ -55,7 +46,6 @@ mul-plan c =
     let l = left-length room (s .inv .1) in
     omega arith
 
--- src/lib.rt:163:13
 add-k : tie.Need-add-k Inv-loop μ-loop
 add-k c =
     let a = c .before .before .before .before .args in
@@ -65,15 +55,12 @@ add-k c =
     let l = left-length room (s .inv .1) in
     omega arith
 
--- src/lib.rt:165:9
 add-p : tie.Need-add-p Inv-loop μ-loop
 add-p c = omega arith
 
--- src/lib.rt:160:5
 loop-less : tie.Need-loop-less Inv-loop μ-loop
 loop-less c = omega arith
 
--- src/lib.rt:160:5
 loop-again : tie.Need-loop-again Inv-loop μ-loop
 loop-again c =
     let a = c .before .before .before .before .args in
@@ -88,7 +75,6 @@ loop-again c =
           (c .if1 .came),
     )
 
--- src/lib.rt:154:1
 same-length : tie.Need-same-length Inv-loop μ-loop
 same-length c =
     let a = c .before .before .args in
@@ -96,7 +82,6 @@ same-length c =
     let room : a .at + length (minus (rev (below (a .n))) (marked (a .used .now))) ≤ length (a .plan .now) = c .before .before .pre .0 in
     left-length room (s .inv .1)
 
--- src/lib.rt:154:1
 returns : tie.Need-returns Inv-loop μ-loop
 returns c =
     let a = c .before .before .args in

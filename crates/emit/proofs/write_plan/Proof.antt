@@ -1,34 +1,21 @@
-use lib.ListN.{length-append}
-use mathlib.Core.List.{map}
 use Rattle.gf2.specs.Fit.{below}
 use Rattle.gf2.specs.Lists.{rev}
 use Rattle.gf2.specs.Places.{minus}
-use Rattle.plan.specs.Step.{pack}
-use Rattle.table.specs.Table.{places, size}
+use Rattle.table.specs.Table.{places}
 use Rattle.emit.specs.Emit.{Wrote}
 use Rattle.emit.proofs.Laws.{wrote-append, wrote-is, wrote-length}
 use Rattle.emit.proofs.Passes.{packed-length}
 use Rattle.emit.proofs.Whole.{fitted-below}
 use Rattle.emit.proofs.Final.{wrote-whole, phases, steps, info, words-are, steps-few, words-few, kept-low, clears-count, taken-few}
-use Prim.Native.Nat.{ℕ, zero, suc, _+_, _-_, _*_, _/_, _%_, _^_, _≤_, _<_}
-use mathlib.Core.Path.{_≡_, refl, sym, ap, ap₂, _∙_, subst}
-use mathlib.Core.Bool.{Bool, true, false}
-use mathlib.Core.List.{List, [], _∷_, _++_}
-use mathlib.Core.Logic.{⊎-elim}
+use Prim.Native.Nat.{_+_, _-_, _≤_}
+use mathlib.Core.Path.{_≡_, ap, _∙_}
+use mathlib.Core.List.{_∷_, _++_}
 use native.Mathlib.Omega.{arith}
-use lib.ListN.{length, getD, set, take, drop, length-set}
+use lib.ListN.{length, take}
 use borrow.Author.Needs.{needs}
 use Rattle.emit.proofs.write_plan.Statement.{statement}
 use Rattle.emit.proofs.write_plan.Tie as tie
-use Rattle.emit.proofs.write_plan.Reads as reads
-use Rattle.emit.proofs.write_plan.Lts as lts
-use Rattle.emit.proofs.clears.Reads as clears-reads
-use Rattle.emit.proofs.header.Reads as header-reads
-use Rattle.emit.proofs.info_section.Reads as info-section-reads
-use Rattle.emit.proofs.step_section.Reads as step-section-reads
-use Rattle.table.proofs.wide.Reads as wide-reads
 
--- src/lib.rt:329:5
 header-requires : tie.Need-header-requires
 header-requires c κs =
     let a = c .before .before .before .before .before .before .before .before .before .args in
@@ -37,7 +24,6 @@ header-requires c κs =
     let w = ph .each .weights in
     (omega (arith, c .before .before .before .before .before .before .before .before .before .pre .1), omega arith, q .few, kept-low (a .t .now) (a .starts .now) (a .order .now) (a .owns .now) (a .taken) (a .aside .now) (a .g) (a .fitted .now) (a .rows .now) (a .kept) q)
 
--- src/lib.rt:330:40
 shared-slice-read-wide : tie.Need-shared-slice-read-wide
 shared-slice-read-wide c =
     let a = c .before .before .before .before .before .before .before .before .before .before .before .before .before .before .args in
@@ -46,11 +32,9 @@ shared-slice-read-wide c =
     let w = ph .each .weights in
     omega arith
 
--- src/lib.rt:330:35
 wide-requires : tie.Need-wide-requires
 wide-requires c κs = search needs
 
--- src/lib.rt:330:9
 info-section-requires : tie.Need-info-section-requires
 info-section-requires c κs =
     let a = c .before .before .before .before .before .before .before .before .before .before .before .before .before .before .before .args in
@@ -66,7 +50,6 @@ info-section-requires c κs =
     let r : 6 + length I ≤ length (c .before .before .before .before .before .header .last .0) = omega arith in
     (rw e0 r, rw e0 (ph .own-places), rw e0 (fitted-below (a .t .now) (a .starts .now) (a .order .now) (a .owns .now) (a .taken) (a .aside .now) (a .g) (a .fitted .now) (a .rows .now) ph), rw e0 (ph .each .narrow))
 
--- src/lib.rt:331:9
 step-section-requires : tie.Need-step-section-requires
 step-section-requires c κs =
     let a = c .before .before .before .before .before .before .before .before .before .before .before .before .before .before .before .before .before .before .before .args in
@@ -87,15 +70,12 @@ step-section-requires c κs =
     let r : c .before .before .before .info-section .result + 1 + length S ≤ length (c .before .before .before .info-section .last .0) = omega arith in
     (r, ph, steps-few (a .t .now) (a .starts .now) (a .order .now) (a .owns .now) (a .taken) (a .aside .now) (a .g) (a .fitted .now) (a .rows .now) (a .kept) q)
 
--- src/lib.rt:334:20
 sub-t19 : tie.Need-sub-t19
 sub-t19 c = search needs
 
--- src/lib.rt:334:20
 sub-t24 : tie.Need-sub-t24
 sub-t24 c = search needs
 
--- src/lib.rt:334:32
 clears-requires : tie.Need-clears-requires
 clears-requires c κs =
     let a = c .before .before .before .before .before .before .before .before .before .before .before .before .before .before .before .before .before .before .before .before .before .before .args in
@@ -103,7 +83,6 @@ clears-requires c κs =
     let ph = phases (a .t .now) (a .starts .now) (a .order .now) (a .owns .now) (a .taken) (a .aside .now) (a .g) (a .fitted .now) (a .rows .now) (a .kept) q in
     (taken-few (a .t .now) (a .starts .now) (a .order .now) (a .owns .now) (a .taken) (a .aside .now) (a .g) (a .fitted .now) (a .rows .now) (a .kept) q, q .few)
 
--- src/lib.rt:334:20
 sub-t26 : tie.Need-sub-t26
 sub-t26 c =
     let a = c .before .before .before .before .before .before .before .before .before .before .before .before .before .before .before .before .before .before .before .before .before .before .before .args in
@@ -119,11 +98,9 @@ sub-t26 c =
     let cl = c .clears .ensures in
     omega arith
 
--- src/lib.rt:313:1
 same-length : tie.Need-same-length
 same-length c = search needs
 
--- src/lib.rt:313:1
 returns : tie.Need-returns
 returns c =
     let a = c .before .before .before .before .before .before .before .before .before .before .before .before .before .before .before .before .before .before .before .before .before .before .before .args in

@@ -1,0 +1,35 @@
+use mathlib.Core.List.{map}
+use lib.ListN.{length-replicate}
+use Rattle.gf2.specs.Lists.{rev}
+use Rattle.plan.specs.Step.{pack}
+use Rattle.emit.specs.Emit.{solvedIn}
+use Rattle.emit.proofs.Laws.{wrote-is}
+use Rattle.emit.proofs.Whole.{whole-is}
+use Prim.Native.Nat.{ℕ, _-_}
+use mathlib.Core.Path.{ap}
+use native.Mathlib.Omega.{arith}
+use borrow.Author.Needs.{needs}
+use Rattle.emit.proofs.solve_whole.Statement.{statement}
+use Rattle.emit.proofs.solve_whole.Tie as tie
+
+slice-aggregate-solve-all : tie.Need-slice-aggregate-solve-all
+slice-aggregate-solve-all c = search needs
+
+solve-all-requires : tie.Need-solve-all-requires
+solve-all-requires c κs =
+    let a = c .before .before .before .before .before .before .before .args in
+    let w = whole-is (rev (solvedIn (a .t .now) (a .order .now) (a .owns .now) (a .taken))) in
+    (rw w (c .before .before .before .before .before .before .before .pre .0), record { each = c .before .before .before .before .before .before .before .pre .1; first = c .before .before .before .before .before .before .before .pre .2; all = omega (arith, length-replicate {A = ℕ} 1024 0) }, c .before .before .before .before .before .before .before .pre .3, c .before .before .before .before .before .before .before .pre .4)
+
+same-length : tie.Need-same-length
+same-length c = search needs
+
+returns : tie.Need-returns
+returns c =
+    let a = c .before .before .before .before .before .before .before .before .before .before .args in
+    let w = whole-is (rev (solvedIn (a .t .now) (a .order .now) (a .owns .now) (a .taken))) in
+    wrote-is (c .before .before .solve-all .ensures) (ap (map pack) w)
+
+pub solve-whole-spec : {M : Type 1} → statement M
+solve-whole-spec =
+    tie.close (tie.spec slice-aggregate-solve-all solve-all-requires same-length returns)
