@@ -11,4 +11,3 @@ pub mod Span
 pub mod Unique
 pub mod Vectors
 pub mod Width
-pub mod Words

@@ -9,7 +9,6 @@ use lib.Dec.{eqb}
 use lib.ListN.{length, getD, take, drop, length-append, length-map}
 use lib.Seq.{take-at, drop-at, getD-at}
 use Rattle.plan.specs.Layout.{infoIn, stepsIn}
-use Rattle.rule.specs.Pick.{append-assoc-one}
 use Rattle.rule.specs.Rule.{Plan}
 use Rattle.gf2.specs.Span.{byBool}
 use Rattle.plan.specs.declared.Step.{Step}
@@ -17,6 +16,11 @@ use Rattle.plan.specs.declared.Step.the-variants.{Clear, Add}
 use Rattle.plan.specs.Step.{pack, stepOf, unpack}
 use Rattle.rule.specs.WellFormed.{Sound, Sound.clears, Sound.addss}
 use Rattle.gf2.specs.Width.{All, All.nil, All.cons, all-map}
+
+-- one in the middle
+append-assoc-one : (l : List ℕ) (x : ℕ) (R : List ℕ) → (l ++ (x ∷ [])) ++ R ≡ l ++ (x ∷ R)
+append-assoc-one [] x R = refl
+append-assoc-one (y ∷ l) x R = ap (λ r. y ∷ r) (append-assoc-one l x R)
 
 -- slots below 4,096 come back
 pub unpack-pack : (k : ℕ) (I : List ℕ) (x : Step) → k ≤ 4096 → Sound k I x → unpack (pack x) ≡ some x

@@ -19,7 +19,8 @@ use Rattle.plan.specs.declared.Step.{Step}
 use Rattle.plan.specs.declared.Step.the-variants.{Clear, Add}
 use Rattle.table.specs.Table.{ones}
 
--- ---- 1. "Go through the checks in number order. Keep one unless it is the sum of some already kept"
+-- ---- 1. "Go through the checks in number order. Keep one unless it is the sum of some already kept; an empty check is never kept."
+-- (the empty sum is a sum, so that an empty check is one; gf2 Masks: the test isSum tries every subset)
 abbrev pub kept : List (List ℕ) → List (List ℕ)
 kept cs = choose XorGroup isZero rowOf [] cs
 
@@ -42,7 +43,7 @@ without f (x ∷ l) = elim (f x) [ true ↦ l | false ↦ x ∷ without f l ]
 abbrev pub inOneOnly : List (List ℕ) → ℕ → Bool
 inOneOnly live p = eqb (count (has p) live) 1
 
--- "the live check of greatest weight": the one place to change for another choice
+-- "the live check of greatest weight": these two are what to change for another choice
 abbrev pub greatest : List (List ℕ) → ℕ
 greatest [] = 0
 greatest (c ∷ cs) = max (length c) (greatest cs)
@@ -149,11 +150,14 @@ fittingSteps n inv (f ∷ fs) = clearAndAdd f (slotsNamed n (inv f)) ++ fittingS
 abbrev pub stepsWithGap : ℕ → List Solved → List (List ℕ) → List ℕ → (ℕ → List Bool) → List Step
 stepsWithGap n ts az F inv = solvingSteps F (rev ts) ++ (scratchSteps n F az ++ (fittingSteps n inv F ++ solvingSteps [] (rev ts)))
 
+-- "With g = 0: for each solved check, clear its own place, add its other places ascending"
 abbrev pub planSteps : ℕ → List Solved → List (List ℕ) → List Step
 planSteps n ts [] = solvingSteps [] (rev ts)
 planSteps n ts (c ∷ cs) = let az = c ∷ cs in let F = fittedPlaces n ts az in stepsWithGap n ts az F (inverse (reduced ts az) F)
 
 -- ---- the whole rule
+-- 4: "Checks with an own place are solved in the reverse of the order in which they were taken", hence rev ts.
+-- 6: "The remaining n − M places, ascending, are the information places."
 -- M checks kept with W ones, g set aside; own places in the order of solving, fitted places and information places ascending
 pub record Plan : Type 0 where
   pub M : ℕ

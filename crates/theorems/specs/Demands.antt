@@ -1,14 +1,14 @@
 -- The demands on planning and then encoding, over the definitions of the calls, for every table that the planner accepts:
--- the encoder gets the plan as the planner wrote it (numbersOf t).
+-- "the encoder gets the plan as the planner wrote it, nobody having changed it since".
 use mathlib.Core.Path.{_≡_, refl, sym, ap, ap₂, _∙_, subst}
 use mathlib.Core.Bool.{Bool, true, false}
 use mathlib.Core.List.{List, [], _∷_}
 use Prim.Native.Nat.{ℕ, zero, suc, _+_, _-_, _*_, _<_, _≤_}
 use native.Mathlib.Omega.{arith}
-use borrow.Author.Tests.{eq-eqb}
-use lib.Dec.{eqb}
+use borrow.Author.Tests.{eq-eqb, eqb-true, eqb-false, ltb-false}
+use lib.Dec.{eqb, ltb, leb}
 use lib.ListN.{length, getD, take, drop, length-replicate}
-use lib.Seq.{take-all}
+use lib.Seq.{take-all, take-at}
 use Rattle.gf2.specs.Lists.{Distinct, all-in}
 use Rattle.gf2.specs.Places.{has}
 use Rattle.gf2.specs.Width.{All}
@@ -21,14 +21,15 @@ use Rattle.plan.specs.declared.Step.{Step}
 use Rattle.plan.specs.declared.Step.the-variants.{Clear, Add}
 use Rattle.plan.specs.Step.{addSteps}
 use Rattle.plan.specs.Steps.{carryOutAll, atStart}
-use Rattle.plan.specs.Layout.{mostAside, planRefusal, infoCount, stepCount}
+use Rattle.plan.specs.Layout.{stepsOf, mostAside, planRefusal, infoCount, stepCount}
 use Rattle.rule.specs.Rule.{plan, Plan}
 use Rattle.rule.specs.Encoded.{encode}
 use Rattle.rule.specs.OneBlock.{Encodes, block, block-encodes, one-block}
 use Rattle.rule.specs.Info.{info-number, kept-few, getD-has}
 use Rattle.rule.specs.Bound.{adds-most, kept-ones, adds-bound, fitted-number}
 use Rattle.rule.specs.WellFormed.{info-low}
-use Rattle.planner.specs.Planning.{planOf, numbersOf}
+use Rattle.gf2.specs.Span.{byBool}
+use Rattle.planner.specs.Planning.{planOf, numbersOf, plans, planningRefusal, leastPlan, workWords, planAnswer, planAfter, answerAt as planAnswerAt}
 use Rattle.encoder.specs.Encoding.{stepsWithin, slotsAfter, encodeRefusal, encodes, encodeAnswer, answerAt, blockAfter, scratchAfter}
 use Rattle.theorems.specs.OwnPlan.{own-info, own-steps, own-places, own-accepted, own-count}
 
@@ -46,20 +47,20 @@ pub record Lent (t information blockBuffer scratchBuffer : List ℕ) (limit : �
   pub scratch-long : length scratchBuffer ≡ planOf t .g * size t
   pub all-steps : length (planOf t .list) ≤ limit
 
--- the encoding is accepted, its block is as it must be, and no other block is
-pub record TheOneBlock (t information blockBuffer scratchBuffer : List ℕ) (limit : ℕ) : Type 0 where
-  pub not-refused : encodes (numbersOf t) information blockBuffer scratchBuffer limit ≡ 0
-  pub carries : Carries t information (blockAfter (numbersOf t) information blockBuffer scratchBuffer limit)
-  pub only : (b : List ℕ) → Carries t information b → b ≡ blockAfter (numbersOf t) information blockBuffer scratchBuffer limit
+-- the encoding by the plan p is accepted, its block is as it must be, and no other block is
+pub record TheOneBlock (t p information blockBuffer scratchBuffer : List ℕ) (limit : ℕ) : Type 0 where
+  pub not-refused : encodes p information blockBuffer scratchBuffer limit ≡ 0
+  pub carries : Carries t information (blockAfter p information blockBuffer scratchBuffer limit)
+  pub only : (b : List ℕ) → Carries t information b → b ≡ blockAfter p information blockBuffer scratchBuffer limit
 
 -- ---- demand 3
 -- W ones in the M kept checks, g set aside: the additions of planning and then encoding, whatever the buffers and the limit
-pub record AdditionBound (t : List ℕ) : Type 0 where
+pub record AdditionBound (t p : List ℕ) : Type 0 where
   pub at-least-one : planOf t .M ≤ planOf t .W
   pub always : (information blockBuffer scratchBuffer : List ℕ) (limit : ℕ)
-      → encodeAnswer (numbersOf t) information blockBuffer scratchBuffer limit .additions ≤ 2 * (planOf t .W - planOf t .M) + planOf t .g * (planOf t .g + 1)
+      → encodeAnswer p information blockBuffer scratchBuffer limit .additions ≤ 2 * (planOf t .W - planOf t .M) + planOf t .g * (planOf t .g + 1)
   pub four : planOf t .g * (planOf t .g + 1) ≤ 2 * (planOf t .W - planOf t .M) → (information blockBuffer scratchBuffer : List ℕ) (limit : ℕ)
-      → encodeAnswer (numbersOf t) information blockBuffer scratchBuffer limit .additions ≤ 4 * (planOf t .W - planOf t .M)
+      → encodeAnswer p information blockBuffer scratchBuffer limit .additions ≤ 4 * (planOf t .W - planOf t .M)
 
 -- the numbers of the rule
 pub record RuleNumbers (t : List ℕ) : Type 0 where
@@ -104,7 +105,7 @@ module _ (t : List ℕ) (ok : refusal t ≡ 0) where
         omega arith
 
     -- demand 3, the bound
-    pub addition-bound : AdditionBound t
+    pub addition-bound : AdditionBound t (numbersOf t)
     unfolding planOf numbersOf
     addition-bound = record {
       at-least-one = kept-ones (places t) (checks t) (good .distinct) (good .low);
@@ -184,7 +185,7 @@ module _ (t : List ℕ) (ok : refusal t ≡ 0) where
       }
 
       -- demand 2, planning and then encoding
-      pub the-one-block : TheOneBlock t information blockBuffer scratchBuffer limit
+      pub the-one-block : TheOneBlock t (numbersOf t) information blockBuffer scratchBuffer limit
       unfolding planOf numbersOf
       the-one-block = record {
         not-refused = fits;
@@ -192,3 +193,40 @@ module _ (t : List ℕ) (ok : refusal t ≡ 0) where
         only = λ b r. sym (packets-joined s n b (r .long))
             ∙ ap joined (one-block n s (checks t) (good .distinct) (good .low) ps sized (packets-length s k information) (packets s n b) (taken b r)) ∙ sym after;
       }
+
+-- ---- the calls, one after the other
+-- an accepted planning
+pub accepted-planning : (t planBuffer work : List ℕ) → plans t planBuffer work ≡ 0 → (refusal t ≡ 0) × (planOf t .g ≤ mostAside)
+unfolding planningRefusal
+accepted-planning t pb w h = byBool (eqb (refusal t) 0)
+    (λ a. byBool (leb leastPlan (length pb))
+    (λ b. byBool (eqb (length w) workWords)
+    (λ c. byBool (ltb mostAside (planOf t .g))
+    (λ d. absurd (omega (arith, rw (a, planningRefusal, b, c, d) at h)))
+    (λ d. (eqb-true (refusal t) 0 a, ltb-false mostAside (planOf t .g) d)))
+    (λ c. absurd (omega (arith, rw (a, planningRefusal, b, c) at h))))
+    (λ b. absurd (omega (arith, rw (a, planningRefusal, b) at h))))
+    (λ a. absurd (eqb-false (refusal t) 0 a (rw (a, planningRefusal) at h)))
+
+module _ (t planBuffer work : List ℕ) (ok : plans t planBuffer work ≡ 0) where
+  -- the plan as the planner wrote it
+  abbrev pub handed : List ℕ
+  handed = take (planAnswer t planBuffer work .length) (planAfter t planBuffer work)
+
+  pub plan-written : handed ≡ numbersOf t
+  plan-written = ap₂ take (ap (λ r. planAnswerAt r t .length) ok) (rw (ok, planAfter)) ∙ take-at (numbersOf t) (drop (length (numbersOf t)) planBuffer) (length (numbersOf t)) refl
+
+  -- demand 2: planning and then encoding to the last step gives the one block
+  pub planning-then-encoding : (information blockBuffer scratchBuffer : List ℕ) (limit : ℕ) → Lent t information blockBuffer scratchBuffer limit
+      → TheOneBlock t handed information blockBuffer scratchBuffer limit
+  planning-then-encoding i b c limit lent = let r = accepted-planning t planBuffer work ok in
+      subst (λ p. TheOneBlock t p i b c limit) (sym plan-written) (the-one-block t (r .0) (r .1) i b c limit lent)
+
+  -- demand 3: the bound
+  pub additions-bounded : AdditionBound t handed
+  additions-bounded = let r = accepted-planning t planBuffer work ok in subst (AdditionBound t) (sym plan-written) (addition-bound t (r .0) (r .1))
+
+  -- the planner's reported number of add steps is the plan's
+  pub additions-reported : planAnswer t planBuffer work .additions ≡ addSteps (stepsOf handed)
+  additions-reported = let r = accepted-planning t planBuffer work ok in
+      ap (λ r. planAnswerAt r t .additions) ok ∙ sym (ap (λ p. addSteps (stepsOf p)) plan-written ∙ ap addSteps (own-steps t (r .0) (r .1)))

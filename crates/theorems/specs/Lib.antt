@@ -1,3 +1,5 @@
 pub mod OwnPlan
 pub mod Demands
+pub mod Refusals
+pub mod Restoring
 pub mod Starred
