@@ -7,20 +7,19 @@ use native.Mathlib.Nat.{mod-lt, suc-mul, zero-mul, mul-comm, add-comm, mod-eq-of
 use native.Mathlib.Omega.{arith}
 use lib.Arith.{digits-lt}
 use lib.Pow.{pow-pos, pow-add, pow-lt, shl-exact, shr-shr, high, low, field, mod-mod-pow}
-use lib.Bits.{bitXor, xor-block, xor-mod, xor-zero-r, bitAnd, and-mask}
+use lib.Bits.{bitXor, xor-block, xor-mod, xor-zero-r}
 use lib.ListN.{length, getD, set, length-set}
 use lib.Seq.{getD-set-same, getD-set-other}
-use lib.Dec.{eqb, lit<}
+use lib.Dec.{lit<}
 use borrow.Author.Count.{below-more}
-use Rattle.gf2.specs.Bit.{bit, odd, bit-is, eqb-true, eqb-false}
-use Rattle.gf2.specs.Span.{byBool}
+use Rattle.gf2.specs.Bit.{bit, odd, bit-is}
 use Rattle.rows.specs.Row.{num, row, RowPut}
 
 -- ---- digits of a number cut in two
 bit-up : (s p x : ℕ) → bit (s + p) x ≡ bit p (x / 2 ^ s)
 bit-up s p x = bit-is (s + p) x ∙ ap (λ (y : ℕ). odd (y % 2)) (sym (shr-shr x s p)) ∙ sym (bit-is p (x / 2 ^ s))
 
-bit-low : (s p x : ℕ) → p < s → bit p (x % 2 ^ s) ≡ bit p x
+pub bit-low : (s p x : ℕ) → p < s → bit p (x % 2 ^ s) ≡ bit p x
 bit-low s p x h =
     let d = s - p - 1 in
     let e : s ≡ (d + 1) + p = omega arith in
@@ -39,6 +38,12 @@ pub num-same : (s : ℕ) (f g : ℕ → ℕ) (k : ℕ) → ((j : ℕ) → j < k 
 unfolding num
 num-same s f g zero h = refl
 num-same s f g (suc k) h = ap₂ (λ (q r : ℕ). q * 2 ^ s + r % 2 ^ s) (num-same s (λ j. f (suc j)) (λ j. g (suc j)) k (λ j l. h (suc j) (omega arith))) (h 0 (omega arith))
+
+-- only the lowest s digits of a word count
+pub num-low : (s : ℕ) (f g : ℕ → ℕ) (k : ℕ) → ((j : ℕ) → j < k → f j % 2 ^ s ≡ g j % 2 ^ s) → num s f k ≡ num s g k
+unfolding num
+num-low s f g zero h = refl
+num-low s f g (suc k) h = ap₂ (λ (q r : ℕ). q * 2 ^ s + r) (num-low s (λ j. f (suc j)) (λ j. g (suc j)) k (λ j l. h (suc j) (omega arith))) (h 0 (omega arith))
 
 pub num-zero : (s : ℕ) (f : ℕ → ℕ) (k : ℕ) → ((j : ℕ) → j < k → f j ≡ 0) → num s f k ≡ 0
 unfolding num
@@ -180,18 +185,3 @@ both w a b k = bitXor (getD w (a * 16 + k) 0) (getD w (b * 16 + k) 0)
 pub both-turn : (w : List ℕ) (a b i : ℕ) {e : List ℕ} → b * 16 + 16 ≤ length w → i < 16 → Wrote w b (both w a b) i e
     → Wrote w b (both w a b) (i + 1) (set e (b * 16 + i) (bitXor (getD e (a * 16 + i) 0) (getD e (b * 16 + i) 0)))
 both-turn w a b i {e} room more d = wrote-turn _ room more d (ap₂ bitXor (d .rest (a * 16 + i) (λ p q. omega arith)) (d .rest (b * 16 + i) (λ p q. omega arith)))
-
-pub added : (w : List ℕ) (a b : ℕ) {e : List ℕ} → Wrote w b (both w a b) 16 e → RowPut w b (bitXor (row w a) (row w b)) e
-unfolding row
-added w a b d = put-is (wrote-row d) (num-xor 64 (λ j. getD w (a * 16 + j) 0) (λ j. getD w (b * 16 + j) 0) (both w a b) 16 (λ j h. refl))
-
--- ---- the test of a bit
-one-odd : (x : ℕ) → x < 2 → eqb x 1 ≡ odd x
-one-odd zero h = refl
-one-odd (suc zero) h = refl
-one-odd (suc (suc x)) h = absurd (omega arith)
-
-pub tested : (w : List ℕ) (r p : ℕ) → p < 1024 → eqb (bitAnd (getD w (r * 16 + p / 64) 0 / 2 ^ (p % 64)) 1) 1 ≡ bit p (row w r)
-tested w r p h =
-    let x = getD w (r * 16 + p / 64) 0 in
-    ap (λ (y : ℕ). eqb y 1) (and-mask (x / 2 ^ (p % 64)) 1) ∙ one-odd (x / 2 ^ (p % 64) % 2) (omega arith) ∙ sym (bit-is (p % 64) x) ∙ sym (row-bit w r p h)

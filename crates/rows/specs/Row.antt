@@ -1,17 +1,12 @@
 -- Rows of 16 words in a list of 64-bit words, as the numbers of the algebra.
 use mathlib.Core.Path.{_≡_}
-use mathlib.Core.Bool.{Bool, true, false}
 use mathlib.Core.List.{List, [], _∷_, _++_}
-use mathlib.Core.Option.{Option, none, some}
 use Prim.Native.Nat.{ℕ, zero, suc, _+_, _*_, _/_, _%_, _^_, _<_, _≤_}
 use lib.ListN.{length, getD, take, drop}
 use Rattle.gf2.specs.Group.{XorGroup}
 use Rattle.table.specs.Checks.{check, from}
-use Rattle.gf2.specs.Bit.{bit}
-use Rattle.gf2.specs.Elim.{Piv, sweep}
 use Rattle.gf2.specs.Fit.{isZero}
 use Rattle.gf2.specs.Greedy.{choose}
-use Rattle.gf2.specs.Lists.{highest}
 use Rattle.gf2.specs.Places.{rowOf}
 
 -- k words of s bits, the first the lowest
@@ -28,21 +23,6 @@ pub record RowPut (w : List ℕ) (r x : ℕ) (e : List ℕ) : Type 0 where
   pub len : length e ≡ length w
   pub here : row e r ≡ x
   pub rest : (j : ℕ) → (j / 16 ≡ r → ⊥) → getD e j 0 ≡ getD w j 0
-
--- the first k rows with their pivots' places
-unfoldable pub pivs : List ℕ → List ℕ → ℕ → List Piv
-pivs w cols zero = []
-pivs w cols (suc k) = pivs w cols k ++ (record { col = getD cols k 0; row = row w k } ∷ [])
-
--- the highest digit of x below n, or n
-unfoldable pub top : ℕ → Option ℕ → ℕ
-top n (some p) = p
-top n none = n
-
--- e is w with x, reduced by the k rows before, as row k, and p is its highest place below n, or n
-pub record Reduced (w cols : List ℕ) (k x n : ℕ) (e : List ℕ) (p : ℕ) : Type 0 where
-  pub put : RowPut w k (sweep (pivs w cols k) x) e
-  pub place : p ≡ top n (highest n (λ q. bit q (sweep (pivs w cols k) x)))
 
 -- the numbers of the checks that are kept
 unfoldable pub keptOf : List ℕ → ℕ → List ℕ
