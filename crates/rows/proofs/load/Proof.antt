@@ -1,5 +1,4 @@
 use Rattle.rows.specs.Row.{row, RowPut}
-use Rattle.gf2.specs.Elim.{sweep}
 use Rattle.gf2.specs.Places.{rowOf}
 use Rattle.rows.proofs.Words.{put-put, put-is, put-self}
 use Rattle.rows.proofs.Steps.{load-turn}
