@@ -118,10 +118,10 @@ pub answer-refused : (t b l : List ℕ) (c : ℕ) → repairRefusal t b l ≡ c 
     → (r : Repaired) → r .refusal ≡ c → r .restored ≡ 0 → r .lost ≡ 0 → r .additions ≡ 0 → Answers t b l r b l
 answer-refused t b l zero h e0 e8 r e1 e2 e3 e4 = absurd (true≢false e0)
 answer-refused t b l (suc c) h e0 e8 r e1 e2 e3 e4 = record {
-    report = rw (h, e1, e2, e3, e4);
-    block-is = sym (block-refused t b l (suc c) h e0 e8);
-    map-is = sym (map-refused t b l (suc c) h e0);
-  }
+  report = rw (h, e1, e2, e3, e4);
+  block-is = sym (block-refused t b l (suc c) h e0 e8);
+  map-is = sym (map-refused t b l (suc c) h e0);
+}
 
 -- the causes in order, each with what the code found before it
 module _ (t b l : List ℕ) (c n s : ℕ) (look : c ≡ refusal t) (r : Repaired) (e2 : r .restored ≡ 0) (e3 : r .lost ≡ 0) (e4 : r .additions ≡ 0) where
