@@ -1,28 +1,26 @@
 -- The scan's start, and what its end gives: the fitted places of the rule, and its inverse.
 use mathlib.Core.Path.{_≡_, refl, sym, ap, ap₂, _∙_, subst}
-use mathlib.Core.Bool.{Bool, true, false, cond, not, true≢false, false≢true}
+use mathlib.Core.Bool.{Bool, true, false, cond, not, true≢false}
 use mathlib.Core.List.{List, [], _∷_, _++_, map}
-use Prim.Native.Nat.{ℕ, zero, suc, _+_, _*_, _-_, _^_, _<_, _≤_}
+use Prim.Native.Nat.{ℕ, suc, _+_, _*_, _-_, _^_, _<_, _≤_}
 use native.Mathlib.Omega.{arith}
 use lib.Dec.{eqb}
-use lib.Bits.{bitXor}
-use lib.ListN.{length, getD, take, drop, replicate, length-map, length-append, length-drop, length-take}
+use lib.ListN.{length, getD, take, replicate, length-map}
 use lib.Seq.{slice, slice-empty, length-slice, length-take-le, getD-take}
-use Rattle.gf2.specs.Group.{XorGroup, bxor}
-use Rattle.gf2.specs.Bit.{bit, bits-zero, bit-pow, num, eqb-true, eqb-false, eqb-self}
-use Rattle.gf2.specs.Fit.{isZero, isZero-sound, column, column-lt, below, pair, pair-column}
+use Rattle.gf2.specs.Group.{XorGroup}
+use Rattle.gf2.specs.Bit.{bit, bits-zero, bit-pow, num, eqb-true, eqb-self}
+use Rattle.gf2.specs.Fit.{isZero, isZero-sound, column, column-lt, below, pair-column}
 use Rattle.gf2.specs.Greedy.{choose}
-use Rattle.gf2.specs.Independent.{Indep}
 use Rattle.gf2.specs.Lists.{Distinct, rev, all-in, getD-zeros}
-use Rattle.gf2.specs.Places.{has, rowOf, filter, minus}
+use Rattle.gf2.specs.Places.{has, rowOf, filter}
 use Rattle.gf2.specs.Span.{byBool, comb, span-zero, isSum, isSum-complete}
 use Rattle.gf2.specs.Unique.{mask-unique}
-use Rattle.gf2.specs.Width.{All, All.nil, All.cons, all-map, Zero}
-use Rattle.table.specs.Checks.{check, offset, Checks, Places}
+use Rattle.gf2.specs.Width.{All, All.nil, All.cons, Zero}
+use Rattle.table.specs.Checks.{check, offset, Places}
 use Rattle.table.specs.Table.{number, places, checks}
 use Rattle.table.specs.TableLaws.{accepted}
-use Rattle.rule.specs.Rule.{Solved, reduce, reduced, owns, unowned, restricted, fittedPlaces, inverse}
-use Rattle.rule.specs.Buffers.{solved, peeling, Chosen, maskBits, Fitted}
+use Rattle.rule.specs.Rule.{Solved, reduce, reduced, owns, restricted, inverse}
+use Rattle.rule.specs.Buffers.{solved, maskBits, Fitted}
 use Rattle.rule.specs.Info.{getD-has}
 use Rattle.rule.specs.Inverse.{pow, res-bit-in}
 use Rattle.rule.specs.Main.{ts, az, E, C, F, same, own-zero, dF, ind, good, lens, append-nil, length-rev}

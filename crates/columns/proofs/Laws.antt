@@ -1,26 +1,26 @@
 -- Putting a solved check in is one exclusive-or a place.
-use mathlib.Core.Path.{_≡_, refl, sym, ap, ap₂, _∙_, subst}
-use mathlib.Core.Bool.{Bool, true, false, cond, _||_, true≢false, false≢true}
+use mathlib.Core.Path.{_≡_, refl, sym, ap, ap₂, _∙_}
+use mathlib.Core.Bool.{Bool, true, false, cond}
 use mathlib.Core.List.{List, [], _∷_, _++_, map}
-use Prim.Native.Nat.{ℕ, zero, suc, _+_, _*_, _-_, _/_, _%_, _^_, _<_, _≤_}
+use Prim.Native.Nat.{ℕ, suc, _+_, _*_, _-_, _%_, _^_, _<_}
 use native.Mathlib.Nat.{pow-suc}
 use native.Mathlib.Numerals.{add-one}
 use native.Mathlib.Omega.{arith}
-use lib.ListN.{length, getD, set, take, drop, length-drop, length-take}
+use lib.ListN.{length, getD, take, drop, length-take}
 use lib.Seq.{getD-drop, getD-take, take-suc, length-take-le}
 use lib.Pow.{shl-exact}
-use lib.Bits.{bitXor, xor-block, xor-zero-r, xor-comm}
+use lib.Bits.{bitXor, xor-block, xor-zero-r}
 use lib.Dec.{eqb}
 use Rattle.gf2.specs.Group.{bxor}
 use Rattle.rule.specs.Buffers.{solved}
 use Rattle.table.specs.Checks.{check, offset, Places}
-use Rattle.gf2.specs.Bit.{bit, num, bit-adds, bit-zero, eqb-true}
+use Rattle.gf2.specs.Bit.{bit, num, bit-adds, eqb-true}
 use Rattle.gf2.specs.Fit.{column}
 use Rattle.rule.specs.Rule.{Solved, put, reduce}
 use Rattle.gf2.specs.Places.{has, par, rowOf, bit-row}
 use Rattle.gf2.specs.Span.{byBool}
 use Rattle.live.specs.Live.{Upd}
-use Rattle.columns.specs.Cols.{Columns, Taken}
+use Rattle.columns.specs.Cols.{Columns}
 
 -- ---- places that rise lie in a check once
 Rising : List ℕ → Type 0

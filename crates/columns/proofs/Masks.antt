@@ -1,8 +1,8 @@
 -- Laws of the loops over masks.
-use mathlib.Core.Path.{_≡_, refl, sym, ap, ap₂, _∙_, subst}
-use mathlib.Core.Bool.{Bool, true, false, cond}
-use mathlib.Core.List.{List, [], _∷_}
-use Prim.Native.Nat.{ℕ, zero, suc, _+_, _^_, _<_, _≤_}
+use mathlib.Core.Path.{_≡_, refl, sym, ap, _∙_, subst}
+use mathlib.Core.Bool.{true, false}
+use mathlib.Core.List.{List}
+use Prim.Native.Nat.{ℕ, _+_, _^_, _<_, _≤_}
 use native.Mathlib.Omega.{arith}
 use lib.Bits.{bitXor}
 use lib.Dec.{eqb}
@@ -11,7 +11,7 @@ use lib.Seq.{getD-set-same, getD-set-other}
 use Rattle.gf2.specs.Bit.{eqb-true, eqb-false}
 use Rattle.gf2.specs.Span.{byBool}
 use Rattle.columns.specs.Dot.{dot}
-use Rattle.columns.specs.Fitting.{Units, Lowest, mended, Mended, Tied}
+use Rattle.columns.specs.Fitting.{mended, Mended, Tied}
 
 -- ---- one element more
 more : {P : ℕ → Type 0} (i : ℕ) → ((k : ℕ) → k < i → P k) → P i → (k : ℕ) → k < i + 1 → P k

@@ -1,17 +1,16 @@
 -- One column of the scan: it is skipped if no free mask sees it, else a mask is tied to it.
 use mathlib.Core.Path.{_≡_, refl, sym, ap, ap₂, _∙_, subst}
-use mathlib.Core.Bool.{Bool, true, false, cond}
+use mathlib.Core.Bool.{Bool, true, false}
 use mathlib.Core.List.{List, [], _∷_, _++_, map, append-assoc}
 use Prim.Native.Nat.{ℕ, zero, suc, _+_, _-_, _^_, _<_, _≤_}
 use native.Mathlib.Numerals.{add-one}
 use native.Mathlib.Omega.{arith}
 use borrow.Author.Tests.{ltb-true, ltb-false}
-use lib.Bits.{bitXor}
 use lib.Dec.{eqb, ltb}
 use lib.ListN.{length, getD, set, take, drop, length-set}
-use lib.Seq.{slice, slice-empty, slice-cons, getD-set-same, getD-set-other, take-set-lt, drop-set-lt, set-getD}
+use lib.Seq.{slice, slice-empty, slice-cons, getD-set-same, getD-set-other, take-set-lt, drop-set-lt}
 use Rattle.gf2.specs.Group.{XorGroup, bxor}
-use Rattle.gf2.specs.Bit.{eqb-true, eqb-false, eqb-self, eqb-comm}
+use Rattle.gf2.specs.Bit.{eqb-true, eqb-false, eqb-comm}
 use Rattle.gf2.specs.Fit.{isZero, below}
 use Rattle.gf2.specs.Greedy.{choose}
 use Rattle.gf2.specs.Lists.{rev, eqb-lt}

@@ -1,4 +1,4 @@
-// Columns of the set-aside checks.
+// Step 5 of the rule: the columns of the set-aside checks, the fitted places and the rows of the inverse.
 ghost use mathlib.Core.Path.{_≡_};
 ghost use mathlib.Core.List.{List, [], map};
 ghost use Prim.Native.Nat.{ℕ, _+_, _*_, _^_, _≤_, _<_};
@@ -20,7 +20,7 @@ fn wide(x: u16) -> usize
 }
 
 // c added into the columns of a check's places
-pub fn spread(col: &mut [u32], t: &[u16], at: usize, weight: usize, c: u32)
+fn spread(col: &mut [u32], t: &[u16], at: usize, weight: usize, c: u32)
     requires { ⌜ Places (now t) at weight (length (now col)) ⌝ }
     ensures { λ _. ⌜ Upd (λ a. bitXor a c) (now (col .entry)) (take weight (drop at (now (t .entry)))) (now (col .exit)) ⌝ }
 {
@@ -46,7 +46,7 @@ pub fn fill_columns(col: &mut [u32], t: &[u16], m: usize, starts: &[u16], aside:
 }
 
 // one solved check put in
-pub fn push(col: &mut [u32], t: &[u16], at: usize, weight: usize, own: usize)
+fn push(col: &mut [u32], t: &[u16], at: usize, weight: usize, own: usize)
     requires { ⌜ Places (now t) at weight (length (now col)) × (own < length (now col)) ⌝ }
     ensures { λ _. ⌜ Upd (λ a. bitXor a (getD (now (col .entry)) own 0)) (now (col .entry)) (take weight (drop at (now (t .entry)))) (now (col .exit)) ⌝ }
 {
@@ -83,7 +83,7 @@ pub fn sees(mask: u32, col: u32) -> bool
 }
 
 // the unit masks
-pub fn units(masks: &mut [u32], g: usize)
+fn units(masks: &mut [u32], g: usize)
     requires { ⌜ (g ≤ length (now masks)) × (g ≤ 32) ⌝ }
     ensures { λ _. ⌜ Units g (now (masks .exit)) ⌝ }
 {
@@ -95,7 +95,7 @@ pub fn units(masks: &mut [u32], g: usize)
 }
 
 // the lowest free mask that sees the column, or the number of free masks
-pub fn find(masks: &[u32], free: usize, c: u32) -> usize
+fn find(masks: &[u32], free: usize, c: u32) -> usize
     requires { ⌜ free ≤ length (now masks) ⌝ }
     ensures { λ r. ⌜ Lowest (now (masks .entry)) free c r ⌝ }
 {
@@ -117,7 +117,7 @@ fn mend_one(mask: u32, v: u32, c: u32) -> u32
 }
 
 // .. into each of g masks
-pub fn mend(masks: &mut [u32], g: usize, v: u32, c: u32)
+fn mend(masks: &mut [u32], g: usize, v: u32, c: u32)
     requires { ⌜ g ≤ length (now masks) ⌝ }
     ensures { λ _. ⌜ Mended g v c (now (masks .entry)) (now (masks .exit)) ⌝ }
 {
@@ -129,7 +129,7 @@ pub fn mend(masks: &mut [u32], g: usize, v: u32, c: u32)
 }
 
 // mask i, which sees the column, becomes the last free one, k, and is added into every other that sees it
-pub fn tie(masks: &mut [u32], g: usize, i: usize, k: usize, c: u32)
+fn tie(masks: &mut [u32], g: usize, i: usize, k: usize, c: u32)
     requires { ⌜ (g ≤ length (now masks)) × (i ≤ k) × (k < g) ⌝ }
     ensures { λ _. ⌜ Tied g i k c (now (masks .entry)) (now (masks .exit)) ⌝ }
 {
@@ -140,14 +140,7 @@ pub fn tie(masks: &mut [u32], g: usize, i: usize, k: usize, c: u32)
 }
 
 // one column: a free mask that sees it is tied to its place, if there is one; how many masks are then free
-pub fn fit_one(
-    masks: &mut [u32],
-    fitted: &mut [u16],
-    g: usize,
-    free: usize,
-    p: usize,
-    c: u32,
-) -> usize
+fn fit_one(masks: &mut [u32], fitted: &mut [u16], g: usize, free: usize, p: usize, c: u32) -> usize
     requires { ⌜ (g ≤ length (now masks)) × (g ≤ length (now fitted)) × (free ≤ g) × (p < 1024) ⌝ }
     ensures { λ r. ⌜ (r ≤ free) × ((f : ℕ → ℕ) → (W : List ℕ) → f p ≡ c → Scan f W g (p + 1) free (now (masks .entry)) (now (fitted .entry)) → Scan f W g p r (now (masks .exit)) (now (fitted .exit))) ⌝ }
 {
@@ -161,16 +154,25 @@ pub fn fit_one(
     }
 }
 
+// the k-th of n places, from the highest down
+fn from_top(n: usize, k: usize) -> usize
+    requires { ⌜ k < n ⌝ }
+    ensures { λ r. ⌜ r + k + 1 ≡ n ⌝ }
+{
+    n - 1 - k
+}
+
 // every column, from the highest place down; each mask is then its place's row of the inverse, places ascending
 pub fn fit(col: &[u32], n: usize, g: usize, masks: &mut [u32], fitted: &mut [u16]) -> usize
     requires { ⌜ (n ≤ length (now col)) × (n ≤ 1024) × (g ≤ length (now masks)) × (g ≤ length (now fitted)) ⌝ }
     ensures { λ r. ⌜ ((f : ℕ → ℕ) → (W : List ℕ) → ((p : ℕ) → p < n → f p ≡ getD (now (col .entry)) p 0) → Scan f W g n g (now (masks .entry)) (now (fitted .entry)) → Scan f W g 0 r (now (masks .exit)) (now (fitted .exit))) ⌝ }
 {
     let mut free = g;
-    let mut p = n;
-    while p > 0 {
-        p -= 1;
+    let mut k = 0;
+    while k < n {
+        let p = from_top(n, k);
         free = fit_one(masks, fitted, g, free, p, col[p]);
+        k += 1;
     }
     free
 }

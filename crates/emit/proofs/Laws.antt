@@ -4,7 +4,8 @@ use mathlib.Core.List.{List, [], _∷_, _++_, append-assoc}
 use Prim.Native.Nat.{ℕ, zero, suc, _+_, _-_, _*_, _<_, _≤_}
 use native.Mathlib.Omega.{arith}
 use lib.ListN.{length, getD, set, take, drop, length-set, length-drop, length-take, length-append, take-append-drop}
-use lib.Seq.{drop-cons, set-at, take-at, drop-at, drop-drop}
+use native.Mathlib.Numerals.{add-one}
+use lib.Seq.{drop-cons, set-at, take-at, drop-at, drop-drop, take-suc, length-take-le}
 use Rattle.emit.specs.Emit.{written, Wrote}
 
 -- ---- a list written from a place on
@@ -106,3 +107,19 @@ module _ {l : List ℕ} {at : ℕ} {ws : List ℕ} (room : at + length ws ≤ le
   -- one number of it
   pub left-one : {rest e : List ℕ} {k v : ℕ} → Left l at ws (v ∷ rest) e k → Left l at ws rest (set e k v) (k + 1)
   left-one {rest} {e} {k} {v} w = let h = left-room w in let n = left-length w in left-more (v ∷ []) rest w (wrote-one e k v (omega arith))
+
+-- a list written behind the place for its length, and then the length
+pub wrote-count : {l : List ℕ} {at : ℕ} {ws e : List ℕ} {r : ℕ} → at + 1 + length ws ≤ length l → Wrote l (at + 1) ws e r → Wrote l at (length ws ∷ ws) (set e at (r - at - 1)) r
+unfolding written
+wrote-count {l} {at} {ws} {e} {r} h w =
+    let n = w .next in
+    let v : r - at - 1 ≡ length ws = omega arith in
+    let R = ws ++ drop (at + 1 + length ws) l in
+    let t : take (at + 1) l ≡ take at l ++ (getD l at 0 ∷ []) = ap (λ k. take k l) (add-one at) ∙ take-suc l at 0 (omega arith) in
+    let is : e ≡ take at l ++ (getD l at 0 ∷ R) = w .list ∙ ap (λ x. x ++ R) t ∙ append-assoc (take at l) (getD l at 0 ∷ []) R in
+    let s : at + 1 + length ws ≡ at + length (length ws ∷ ws) = omega arith in
+    record {
+      list = ap₂ (λ x y. set x at y) is v ∙ set-at (take at l) (getD l at 0) R (length ws) at (length-take-le at l (omega arith))
+          ∙ ap (λ k. take at l ++ (length ws ∷ (ws ++ drop k l))) s;
+      next = omega arith;
+    }

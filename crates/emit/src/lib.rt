@@ -2,18 +2,18 @@
 use plan::Step;
 use table::wide;
 ghost use mathlib.Core.Path.{_≡_};
-ghost use mathlib.Core.List.{_∷_, map};
+ghost use mathlib.Core.List.{[], _∷_, _++_, map};
 ghost use Prim.Native.Nat.{ℕ, _+_, _*_, _≤_, _<_};
 ghost use lib.ListN.{length, getD, take, drop};
 ghost use Rattle.gf2.specs.Fit.{below};
 ghost use Rattle.gf2.specs.Lists.{rev};
 ghost use Rattle.gf2.specs.Places.{minus};
 ghost use Rattle.table.specs.Checks.{check, Places};
-ghost use Rattle.table.specs.Table.{number, places};
+ghost use Rattle.table.specs.Table.{number, places, size};
 ghost use Rattle.plan.specs.Step.{pack};
-ghost use Rattle.rule.specs.Rule.{clearAndAdd, solvingSteps, scratchSteps, slotsNamed};
+ghost use Rattle.rule.specs.Rule.{clearAndAdd, solvingSteps, scratchSteps, slotsNamed, planSteps};
 ghost use Rattle.rule.specs.Buffers.{maskBits};
-ghost use Rattle.emit.specs.Emit.{Wrote, marked, marking, solvedIn, asideIn, fittingRows, Readable, Numbers, Below};
+ghost use Rattle.emit.specs.Emit.{Wrote, marked, marking, solvedIn, asideIn, fittingRows, gapSteps, clearCount, Readable, Numbers, Below, Phases, Planned, Emitted};
 
 // ---- marks, a byte a place
 
@@ -155,6 +155,102 @@ fn fit_all(plan: &mut [u32], at: usize, n: usize, g: usize, fitted: &[u16], rows
     k
 }
 
+// the steps where checks were set aside
+fn gap_steps(
+    plan: &mut [u32],
+    at: usize,
+    t: &[u16],
+    starts: &[u16],
+    order: &[u16],
+    owns: &[u16],
+    taken: usize,
+    aside: &[u16],
+    g: usize,
+    fitted: &[u16],
+    rows: &[u32],
+) -> usize
+    requires { ⌜ (at + length (gapSteps (places (now t)) (solvedIn (now t) (now order) (now owns) taken) (asideIn (now t) (now aside) g)) ≤ length (now plan)) × Phases (now t) (now starts) (now order) (now owns) taken (now aside) g (now fitted) (now rows) ⌝ }
+    ensures { λ r. ⌜ Wrote (now (plan .entry)) at (map pack (gapSteps (places (now (t .entry))) (solvedIn (now (t .entry)) (now (order .entry)) (now (owns .entry)) taken) (asideIn (now (t .entry)) (now (aside .entry)) g))) (now (plan .exit)) r ⌝ }
+{
+    let none = [0u8; 1024];
+    let mut skip = [0u8; 1024];
+    mark(&mut skip, fitted, g);
+    let a = solve_all(plan, at, t, starts, order, owns, taken, &skip);
+    let b = set_aside(plan, a, t, starts, aside, g, &skip);
+    let e = fit_all(plan, b, wide(t[1]), g, fitted, rows);
+    solve_all(plan, e, t, starts, order, owns, taken, &none)
+}
+
+// all steps
+fn write_steps(
+    plan: &mut [u32],
+    at: usize,
+    t: &[u16],
+    starts: &[u16],
+    order: &[u16],
+    owns: &[u16],
+    taken: usize,
+    aside: &[u16],
+    g: usize,
+    fitted: &[u16],
+    rows: &[u32],
+) -> usize
+    requires { ⌜ (at + length (planSteps (places (now t)) (solvedIn (now t) (now order) (now owns) taken) (asideIn (now t) (now aside) g)) ≤ length (now plan)) × Phases (now t) (now starts) (now order) (now owns) taken (now aside) g (now fitted) (now rows) ⌝ }
+    ensures { λ r. ⌜ Wrote (now (plan .entry)) at (map pack (planSteps (places (now (t .entry))) (solvedIn (now (t .entry)) (now (order .entry)) (now (owns .entry)) taken) (asideIn (now (t .entry)) (now (aside .entry)) g))) (now (plan .exit)) r ⌝ }
+{
+    if g == 0 {
+        let none = [0u8; 1024];
+        return solve_all(plan, at, t, starts, order, owns, taken, &none);
+    }
+    gap_steps(
+        plan,
+        at,
+        t,
+        starts,
+        order,
+        owns,
+        taken,
+        aside,
+        g,
+        fitted,
+        rows,
+    )
+}
+
+// the count of steps, and the steps
+fn step_section(
+    plan: &mut [u32],
+    at: usize,
+    t: &[u16],
+    starts: &[u16],
+    order: &[u16],
+    owns: &[u16],
+    taken: usize,
+    aside: &[u16],
+    g: usize,
+    fitted: &[u16],
+    rows: &[u32],
+) -> usize
+    requires { ⌜ (at + 1 + length (planSteps (places (now t)) (solvedIn (now t) (now order) (now owns) taken) (asideIn (now t) (now aside) g)) ≤ length (now plan)) × Phases (now t) (now starts) (now order) (now owns) taken (now aside) g (now fitted) (now rows) × (length (planSteps (places (now t)) (solvedIn (now t) (now order) (now owns) taken) (asideIn (now t) (now aside) g)) ≤ 13344) ⌝ }
+    ensures { λ r. ⌜ Wrote (now (plan .entry)) at (length (planSteps (places (now (t .entry))) (solvedIn (now (t .entry)) (now (order .entry)) (now (owns .entry)) taken) (asideIn (now (t .entry)) (now (aside .entry)) g)) ∷ map pack (planSteps (places (now (t .entry))) (solvedIn (now (t .entry)) (now (order .entry)) (now (owns .entry)) taken) (asideIn (now (t .entry)) (now (aside .entry)) g))) (now (plan .exit)) r ⌝ }
+{
+    let e = write_steps(
+        plan,
+        at + 1,
+        t,
+        starts,
+        order,
+        owns,
+        taken,
+        aside,
+        g,
+        fitted,
+        rows,
+    );
+    plan[at] = (e - at - 1) as u32;
+    e
+}
+
 // ---- the information places
 
 // the places below n that are not marked, ascending
@@ -172,4 +268,93 @@ fn unmarked(plan: &mut [u32], at: usize, n: usize, used: &[u8]) -> usize
         p += 1;
     }
     k
+}
+
+// the count of information places, and the places
+fn info_section(
+    plan: &mut [u32],
+    at: usize,
+    n: usize,
+    owns: &[u16],
+    taken: usize,
+    fitted: &[u16],
+    g: usize,
+) -> usize
+    requires { ⌜ (at + 1 + length (minus (rev (below n)) (take taken (now owns) ++ take g (now fitted))) ≤ length (now plan)) × Below n (now owns) taken × Below n (now fitted) g × (n ≤ 1024) ⌝ }
+    ensures { λ r. ⌜ Wrote (now (plan .entry)) at (length (minus (rev (below n)) (take taken (now (owns .entry)) ++ take g (now (fitted .entry)))) ∷ minus (rev (below n)) (take taken (now (owns .entry)) ++ take g (now (fitted .entry)))) (now (plan .exit)) r ⌝ }
+{
+    let mut used = [0u8; 1024];
+    mark(&mut used, fitted, g);
+    mark(&mut used, owns, taken);
+    let k = unmarked(plan, at + 1, n, &used);
+    plan[at] = (k - at - 1) as u32;
+    k
+}
+
+// ---- the plan
+
+// the first five numbers
+fn header(plan: &mut [u32], t: &[u16], g: usize, kept: usize)
+    requires { ⌜ (5 ≤ length (now plan)) × (5 ≤ length (now t)) × (g ≤ 32) × (kept ≤ 1024) ⌝ }
+    ensures { λ _. ⌜ Wrote (now (plan .entry)) 0 (4 ∷ places (now (t .entry)) ∷ size (now (t .entry)) ∷ g ∷ kept ∷ []) (now (plan .exit)) 5 ⌝ }
+{
+    plan[0] = 4;
+    plan[1] = t[1] as u32;
+    plan[2] = t[2] as u32;
+    plan[3] = g as u32;
+    plan[4] = kept as u32;
+}
+
+// how many of the steps are clear steps
+fn clears(taken: usize, g: usize) -> usize
+    requires { ⌜ (taken ≤ 15360) × (g ≤ 32) ⌝ }
+    ensures { λ r. ⌜ r ≡ clearCount taken g ⌝ }
+{
+    if g == 0 {
+        return taken;
+    }
+    2 * taken + 2 * g
+}
+
+pub struct Written {
+    pub length: usize,
+    pub additions: usize,
+}
+
+// the whole plan
+pub fn write_plan(
+    t: &[u16],
+    starts: &[u16],
+    order: &[u16],
+    owns: &[u16],
+    taken: usize,
+    aside: &[u16],
+    g: usize,
+    fitted: &[u16],
+    rows: &[u32],
+    kept: usize,
+    plan: &mut [u32],
+) -> Written
+    requires { ⌜ Planned (now t) (now starts) (now order) (now owns) taken (now aside) g (now fitted) (now rows) kept × (15360 ≤ length (now plan)) ⌝ }
+    ensures { λ r. ⌜ Emitted (now (t .entry)) (now (plan .entry)) (now (plan .exit)) (r .length) (r .additions) ⌝ }
+{
+    header(plan, t, g, kept);
+    let k = info_section(plan, 5, wide(t[1]), owns, taken, fitted, g);
+    let e = step_section(
+        plan,
+        k,
+        t,
+        starts,
+        order,
+        owns,
+        taken,
+        aside,
+        g,
+        fitted,
+        rows,
+    );
+    Written {
+        length: e,
+        additions: e - k - 1 - clears(taken, g),
+    }
 }

@@ -18,7 +18,7 @@ use Rattle.gf2.specs.Lists.{highest}
 use Rattle.rule.specs.Rule.{count, inOneOnly, first, without}
 use Rattle.gf2.specs.Places.{has}
 use Rattle.gf2.specs.Span.{byBool}
-use Rattle.live.specs.Live.{Upd, Noted, Forgot, found, Tally}
+use Rattle.live.specs.Live.{Upd, Noted, Forgot, found, Tally, Raised}
 use Rattle.live.specs.declared.Found.{Found}
 use Rattle.live.specs.declared.Found.the-variants.{At, Nothing}
 
@@ -172,3 +172,20 @@ one-is g p (j ∷ JS) h = byBool (has p (g j))
 -- so does the tally
 pub tally-one : (g : ℕ → List ℕ) (p : ℕ) {JS c x : List ℕ} → Tally g JS c x → getD c p 0 ≡ 1 → One g p JS (getD x p 0)
 tally-one g p {JS} s h = subst (One g p JS) (sym (s .names p)) (one-is g p JS (sym (s .counts p) ∙ h))
+
+-- ---- the bound
+pub raised-none : (c t : List ℕ) (at top : ℕ) → top ≤ length c → Raised c t at 0 top top
+raised-none c t at top h = record { low = omega arith; most = h; above = λ i z. absurd (omega arith) }
+
+pub raised-turn : {c t : List ℕ} {at i top r : ℕ} (x p : ℕ) → Raised c t at i top r → p ≡ getD t (at + i) 0 → r ≤ x → x ≤ length c → (getD c p 0 ≡ 1 → p < x) → Raised c t at (i + 1) top x
+raised-turn {c} {t} {at} {i} {top} {r} x p s e l m h =
+    let sl = s .low in
+    record {
+      low = omega arith;
+      most = m;
+      above = λ k z o. byBool (eqb k i)
+          (λ a. let b : k ≡ i = eqb-true k i a in
+          let q : getD t (at + k) 0 ≡ p = ap (λ (j : ℕ). getD t (at + j) 0) b ∙ sym e in
+          let u : p < x = h (rw q at o) in omega arith)
+          (λ a. let b = eqb-false k i a in let u = s .above k (omega arith) o in omega arith);
+    }

@@ -35,3 +35,14 @@ found none = Nothing
 pub record Tally (g : ℕ → List ℕ) (JS : List ℕ) (c x : List ℕ) : Type 0 where
   pub counts : (p : ℕ) → getD c p 0 ≡ count (has p) (map g JS)
   pub names : (p : ℕ) → getD x p 0 ≡ sumOver XorGroup (λ (j : ℕ). cond (has p (g j)) j 0) JS
+
+-- no place from top on lies in exactly one live check
+pub record Calm (c : List ℕ) (top : ℕ) : Type 0 where
+  pub most : top ≤ length c
+  pub above : (p : ℕ) → top ≤ p → getD c p 0 ≡ 1 → ⊥
+
+-- r is top, raised above each of weight places of t from at that lies in exactly one live check
+pub record Raised (c t : List ℕ) (at weight top r : ℕ) : Type 0 where
+  pub low : top ≤ r
+  pub most : r ≤ length c
+  pub above : (i : ℕ) → i < weight → getD c (getD t (at + i) 0) 0 ≡ 1 → getD t (at + i) 0 < r

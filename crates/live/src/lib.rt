@@ -5,7 +5,7 @@ ghost use lib.ListN.{length, getD, take, drop};
 ghost use lib.Dec.{eqb};
 ghost use Rattle.gf2.specs.Lists.{highest};
 ghost use Rattle.table.specs.Checks.{Places};
-ghost use Rattle.live.specs.Live.{Noted, Forgot, found};
+ghost use Rattle.live.specs.Live.{Noted, Forgot, Raised, found};
 
 pub enum Found {
     At(usize),
@@ -61,4 +61,23 @@ pub fn single(count: &[u16], n: usize) -> Found
             break Found::At(p);
         }
     }
+}
+
+// top, raised above each of the weight places of t from at that lies in exactly one live check
+pub fn raise(count: &[u16], t: &[u16], at: usize, weight: usize, top: usize) -> usize
+    requires { ⌜ Places (now t) at weight (length (now count)) × (top ≤ length (now count)) ⌝ }
+    ensures { λ r. ⌜ Raised (now (count .entry)) (now (t .entry)) at weight top r ⌝ }
+{
+    let mut r = top;
+    let mut i = 0;
+    while i < weight {
+        let p = wide(t[at + i]);
+        if count[p] == 1 {
+            if r <= p {
+                r = p + 1;
+            }
+        }
+        i += 1;
+    }
+    r
 }

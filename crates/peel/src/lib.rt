@@ -7,6 +7,7 @@ ghost use Rattle.table.specs.Checks.{check, offset, Checks, Starts};
 ghost use mathlib.Core.List.{map};
 ghost use Rattle.table.specs.Table.{total, number, places, refusal};
 ghost use Rattle.rows.specs.Row.{keptOf};
+ghost use Rattle.live.specs.Live.{Calm};
 ghost use Rattle.peel.specs.Choice.{ChoiceOf};
 ghost use Rattle.peel.specs.Turn.{lives, less, heaviestFrom, weight, In, Ready, Picked, Removed, Peeled, Numbers, Zeros, Entered, First};
 
@@ -42,18 +43,26 @@ fn heaviest_of(t: &[u16], m: usize, live: &[u8]) -> usize
     best
 }
 
-// the next event
-fn pick(t: &[u16], m: usize, n: usize, live: &[u8], count: &[u16], names: &[u16]) -> Event
-    requires { ⌜ Checks (now t) m n × Ready (now t) m n (now live) (now count) (now names) × (0 < length (lives (now live) 0 m)) ⌝ }
+// the next event; the scan starts from top
+fn pick(
+    t: &[u16],
+    m: usize,
+    n: usize,
+    live: &[u8],
+    count: &[u16],
+    names: &[u16],
+    top: usize,
+) -> Event
+    requires { ⌜ Checks (now t) m n × Ready (now t) m n (now live) (now count) (now names) × (0 < length (lives (now live) 0 m)) × Calm (now count) top ⌝ }
     ensures { λ r. ⌜ Picked (check (now (t .entry)) m) (lives (now (live .entry)) 0 m) n r ⌝ }
 {
-    match live::single(count, n) {
+    match live::single(count, top) {
         Found::At(p) => Event::Took(p, wide(names[p])),
         Found::Nothing => Event::Aside(heaviest_of(t, m, live)),
     }
 }
 
-// check j is no longer live
+// check j is no longer live; where the next scan starts
 fn remove(
     live: &mut [u8],
     count: &mut [u16],
@@ -62,12 +71,16 @@ fn remove(
     m: usize,
     starts: &[u16],
     j: usize,
-)
-    requires { ⌜ Checks (now t) m (length (now count)) × Ready (now t) m (length (now count)) (now live) (now count) (now names) × Starts (now t) m (now starts) × In j (lives (now live) 0 m) ⌝ }
-    ensures { λ _. ⌜ Removed (now (t .entry)) m (length (now (count .entry))) j (now (live .entry)) (now (live .exit)) (now (count .exit)) (now (names .exit)) ⌝ }
+    top: usize,
+) -> usize
+    requires { ⌜ Checks (now t) m (length (now count)) × Ready (now t) m (length (now count)) (now live) (now count) (now names) × Starts (now t) m (now starts) × In j (lives (now live) 0 m) × Calm (now count) top ⌝ }
+    ensures { λ r. ⌜ Removed (now (t .entry)) m (length (now (count .entry))) j (now (live .entry)) (now (live .exit)) (now (count .exit)) (now (names .exit)) × Calm (now (count .exit)) r ⌝ }
 {
+    let at = wide(starts[j]);
+    let weight = wide(t[4 + j]);
     live[j] = 0;
-    live::forget(count, names, t, wide(starts[j]), wide(t[4 + j]), j as u16);
+    live::forget(count, names, t, at, weight, j as u16);
+    live::raise(count, t, at, weight, top)
 }
 
 pub struct Counts {
@@ -95,19 +108,20 @@ pub fn peel_checks(
     let mut taken = 0;
     let mut put = 0;
     let mut left = total;
+    let mut top = n;
     while 0 < left {
-        let event = pick(t, m, n, live, count, names);
+        let event = pick(t, m, n, live, count, names, top);
         match event {
             Event::Took(p, j) => {
                 order[taken] = j as u16;
                 owns[taken] = p as u16;
                 taken += 1;
-                remove(live, count, names, t, m, starts, j);
+                top = remove(live, count, names, t, m, starts, j, p + 1);
             }
             Event::Aside(j) => {
                 aside[put] = j as u16;
                 put += 1;
-                remove(live, count, names, t, m, starts, j);
+                top = remove(live, count, names, t, m, starts, j, 0);
             }
         }
         left -= 1;

@@ -9,6 +9,7 @@ use Rattle.table.specs.Table.{places, size, checks, refusal}
 use Rattle.plan.specs.Step.{addSteps}
 use Rattle.plan.specs.Layout.{planNumbers, mostAside}
 use Rattle.rule.specs.Rule.{plan, Plan}
+use Rattle.planner.specs.declared.Planned.{Planned}
 
 -- "the planner's plan at least 15,360 numbers"
 abbrev pub leastPlan : ℕ
@@ -19,11 +20,11 @@ abbrev pub workWords : ℕ
 workWords = 8192
 
 -- the rule's plan of a table
-abbrev pub planOf : List ℕ → Plan
+unfoldable pub planOf : List ℕ → Plan
 planOf t = plan (places t) (checks t)
 
 -- its numbers
-abbrev pub numbersOf : List ℕ → List ℕ
+unfoldable pub numbersOf : List ℕ → List ℕ
 numbersOf t = planNumbers (places t) (size t) (planOf t .g) (planOf t .M) (planOf t .info) (planOf t .list)
 
 -- the first cause that holds: 1 to 4; 5, a buffer of wrong length; 6, "more than 32 checks set aside"
@@ -52,6 +53,9 @@ pub record Answer : Type 0 where
   pub gap : ℕ
   pub additions : ℕ
 
+abbrev pub refusedBy : ℕ → Answer
+refusedBy r = record { refusal = r; length = 0; kept = 0; ones = 0; gap = 0; additions = 0 }
+
 abbrev pub answerAt : ℕ → List ℕ → Answer
 answerAt zero t = record {
   refusal = 0;
@@ -61,7 +65,18 @@ answerAt zero t = record {
   gap = planOf t .g;
   additions = addSteps (planOf t .list);
 }
-answerAt (suc r) t = record { refusal = suc r; length = 0; kept = 0; ones = 0; gap = 0; additions = 0 }
+answerAt (suc r) t = refusedBy (suc r)
+
+-- what the code answers
+abbrev pub answered : Planned → Answer
+answered p = record {
+  refusal = p .refusal;
+  length = p .length;
+  kept = p .kept;
+  ones = p .ones;
+  gap = p .gap;
+  additions = p .additions;
+}
 
 module _ (t planBuffer work : List ℕ) where
   abbrev pub plans : ℕ

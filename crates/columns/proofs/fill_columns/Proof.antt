@@ -3,20 +3,12 @@ use Rattle.gf2.specs.Places.{rowOf}
 use Rattle.table.specs.Checks.{check, offset, Places}
 use Rattle.columns.specs.Cols.{Columns}
 use Rattle.columns.proofs.Laws.{fill-turn, unit-word}
-use Prim.Native.Nat.{ℕ, zero, suc, _+_, _-_, _*_, _/_, _%_, _^_, _≤_, _<_}
-use mathlib.Core.Path.{_≡_, refl, sym, ap, ap₂, _∙_, subst}
-use mathlib.Core.Bool.{Bool, true, false}
-use mathlib.Core.List.{List, [], _∷_, _++_}
-use mathlib.Core.Logic.{⊎-elim}
+use Prim.Native.Nat.{_+_, _-_, _≤_, _<_}
+use mathlib.Core.Path.{_≡_, refl, _∙_}
 use native.Mathlib.Omega.{arith}
-use lib.ListN.{length, getD, set, take, drop, length-set}
-use borrow.Author.Needs.{needs}
+use lib.ListN.{length, getD, take}
 use Rattle.columns.proofs.fill_columns.Statement.{statement}
 use Rattle.columns.proofs.fill_columns.Tie as tie
-use Rattle.columns.proofs.fill_columns.Reads as reads
-use Rattle.columns.proofs.fill_columns.Lts as lts
-use Rattle.columns.proofs.spread.Reads as spread-reads
-use Rattle.columns.proofs.wide.Reads as wide-reads
 
 abbrev Inv-loop : tie.InvT-loop
 Inv-loop col₀ t m starts aside g i₀ col i = (i ≤ g) × (length col ≡ length col₀) × Columns (map rowOf (map (check t m) (take i aside))) col

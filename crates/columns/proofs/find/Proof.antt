@@ -1,18 +1,12 @@
 use Rattle.columns.specs.Dot.{dot}
 use Rattle.columns.proofs.Masks.{blind-more}
-use Prim.Native.Nat.{ℕ, zero, suc, _+_, _-_, _*_, _/_, _%_, _^_, _≤_, _<_}
-use mathlib.Core.Path.{_≡_, refl, sym, ap, ap₂, _∙_, subst}
-use mathlib.Core.Bool.{Bool, true, false}
-use mathlib.Core.List.{List, [], _∷_, _++_}
-use mathlib.Core.Logic.{⊎-elim}
+use Prim.Native.Nat.{ℕ, _-_, _≤_, _<_}
+use mathlib.Core.Path.{_≡_, sym, _∙_}
+use mathlib.Core.Bool.{false}
 use native.Mathlib.Omega.{arith}
-use lib.ListN.{length, getD, set, take, drop, length-set}
-use borrow.Author.Needs.{needs}
+use lib.ListN.{getD}
 use Rattle.columns.proofs.find.Statement.{statement}
 use Rattle.columns.proofs.find.Tie as tie
-use Rattle.columns.proofs.find.Reads as reads
-use Rattle.columns.proofs.find.Lts as lts
-use Rattle.columns.proofs.sees.Reads as sees-reads
 
 abbrev Inv-loop : tie.InvT-loop
 Inv-loop masks free c i₀ i = (i ≤ free) × ((k : ℕ) → k < i → dot (getD masks k 0) c ≡ false)

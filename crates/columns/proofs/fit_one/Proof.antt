@@ -1,18 +1,9 @@
 use Rattle.columns.proofs.Scanning.{one-skipped, one-taken}
-use Prim.Native.Nat.{ℕ, zero, suc, _+_, _-_, _*_, _/_, _%_, _^_, _≤_, _<_}
-use mathlib.Core.Path.{_≡_, refl, sym, ap, ap₂, _∙_, subst}
-use mathlib.Core.Bool.{Bool, true, false}
-use mathlib.Core.List.{List, [], _∷_, _++_}
-use mathlib.Core.Logic.{⊎-elim}
+use Prim.Native.Nat.{_-_}
 use native.Mathlib.Omega.{arith}
-use lib.ListN.{length, getD, set, take, drop, length-set}
 use borrow.Author.Needs.{needs}
 use Rattle.columns.proofs.fit_one.Statement.{statement}
 use Rattle.columns.proofs.fit_one.Tie as tie
-use Rattle.columns.proofs.fit_one.Reads as reads
-use Rattle.columns.proofs.fit_one.Lts as lts
-use Rattle.columns.proofs.find.Reads as find-reads
-use Rattle.columns.proofs.tie.Reads as tie-reads
 
 find-requires : tie.Need-find-requires
 find-requires c κs = search needs

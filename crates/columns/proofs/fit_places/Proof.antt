@@ -1,20 +1,9 @@
 use Rattle.columns.proofs.Inverse.{asks-aside, asks-taken, no-columns, all-fitted}
-use Prim.Native.Nat.{ℕ, zero, suc, _+_, _-_, _*_, _/_, _%_, _^_, _≤_, _<_}
-use mathlib.Core.Path.{_≡_, refl, sym, ap, ap₂, _∙_, subst}
-use mathlib.Core.Bool.{Bool, true, false}
-use mathlib.Core.List.{List, [], _∷_, _++_}
-use mathlib.Core.Logic.{⊎-elim}
+use Prim.Native.Nat.{_-_}
 use native.Mathlib.Omega.{arith}
-use lib.ListN.{length, getD, set, take, drop, length-set}
 use borrow.Author.Needs.{needs}
 use Rattle.columns.proofs.fit_places.Statement.{statement}
 use Rattle.columns.proofs.fit_places.Tie as tie
-use Rattle.columns.proofs.fit_places.Reads as reads
-use Rattle.columns.proofs.fit_places.Lts as lts
-use Rattle.columns.proofs.fill_columns.Reads as fill-columns-reads
-use Rattle.columns.proofs.fit.Reads as fit-reads
-use Rattle.columns.proofs.push_all.Reads as push-all-reads
-use Rattle.columns.proofs.units.Reads as units-reads
 
 slice-aggregate-fill-columns : tie.Need-slice-aggregate-fill-columns
 slice-aggregate-fill-columns c = search needs

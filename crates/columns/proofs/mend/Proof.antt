@@ -1,17 +1,9 @@
 use Rattle.columns.proofs.Masks.{Part, part-none, part-turn, part-all}
-use Prim.Native.Nat.{ℕ, zero, suc, _+_, _-_, _*_, _/_, _%_, _^_, _≤_, _<_}
-use mathlib.Core.Path.{_≡_, refl, sym, ap, ap₂, _∙_, subst}
-use mathlib.Core.Bool.{Bool, true, false}
-use mathlib.Core.List.{List, [], _∷_, _++_}
-use mathlib.Core.Logic.{⊎-elim}
+use Prim.Native.Nat.{_-_, _≤_}
+use mathlib.Core.Path.{_≡_}
 use native.Mathlib.Omega.{arith}
-use lib.ListN.{length, getD, set, take, drop, length-set}
-use borrow.Author.Needs.{needs}
 use Rattle.columns.proofs.mend.Statement.{statement}
 use Rattle.columns.proofs.mend.Tie as tie
-use Rattle.columns.proofs.mend.Reads as reads
-use Rattle.columns.proofs.mend.Lts as lts
-use Rattle.columns.proofs.mend_one.Reads as mend-one-reads
 
 abbrev Inv-loop : tie.InvT-loop
 Inv-loop masks₀ g v c i₀ masks i = (i ≤ g) × Part i v c masks₀ masks

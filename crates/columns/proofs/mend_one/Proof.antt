@@ -1,17 +1,9 @@
 use Rattle.columns.proofs.Masks.{mended-on, mended-off}
-use Prim.Native.Nat.{ℕ, zero, suc, _+_, _-_, _*_, _/_, _%_, _^_, _≤_, _<_}
-use mathlib.Core.Path.{_≡_, refl, sym, ap, ap₂, _∙_, subst}
-use mathlib.Core.Bool.{Bool, true, false}
-use mathlib.Core.List.{List, [], _∷_, _++_}
-use mathlib.Core.Logic.{⊎-elim}
-use native.Mathlib.Omega.{arith}
-use lib.ListN.{length, getD, set, take, drop, length-set}
+use Prim.Native.Nat.{_-_}
+use mathlib.Core.Path.{sym, _∙_}
 use borrow.Author.Needs.{needs}
 use Rattle.columns.proofs.mend_one.Statement.{statement}
 use Rattle.columns.proofs.mend_one.Tie as tie
-use Rattle.columns.proofs.mend_one.Reads as reads
-use Rattle.columns.proofs.mend_one.Lts as lts
-use Rattle.columns.proofs.sees.Reads as sees-reads
 
 sees-requires : tie.Need-sees-requires
 sees-requires c κs = search needs

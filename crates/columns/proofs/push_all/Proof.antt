@@ -2,23 +2,15 @@ use mathlib.Core.List.{map}
 use Rattle.rule.specs.Rule.{reduce}
 use Rattle.rule.specs.Buffers.{solved}
 use Rattle.table.specs.Checks.{check, offset, Places}
-use Rattle.live.specs.Live.{Upd}
-use Rattle.columns.specs.Cols.{Columns, Taken}
+use Rattle.columns.specs.Cols.{Columns}
 use Rattle.columns.proofs.Laws.{start, turn}
-use Prim.Native.Nat.{ℕ, zero, suc, _+_, _-_, _*_, _/_, _%_, _^_, _≤_, _<_}
-use mathlib.Core.Path.{_≡_, refl, sym, ap, ap₂, _∙_, subst}
-use mathlib.Core.Bool.{Bool, true, false}
-use mathlib.Core.List.{List, [], _∷_, _++_}
-use mathlib.Core.Logic.{⊎-elim}
+use Prim.Native.Nat.{ℕ, _+_, _-_, _≤_, _<_}
+use mathlib.Core.Path.{_≡_, refl, _∙_}
+use mathlib.Core.List.{List}
 use native.Mathlib.Omega.{arith}
-use lib.ListN.{length, getD, set, take, drop, length-set}
-use borrow.Author.Needs.{needs}
+use lib.ListN.{length, getD}
 use Rattle.columns.proofs.push_all.Statement.{statement}
 use Rattle.columns.proofs.push_all.Tie as tie
-use Rattle.columns.proofs.push_all.Reads as reads
-use Rattle.columns.proofs.push_all.Lts as lts
-use Rattle.columns.proofs.push.Reads as push-reads
-use Rattle.columns.proofs.wide.Reads as wide-reads
 
 abbrev Inv-loop : tie.InvT-loop
 Inv-loop col₀ t m starts order owns taken k₀ col k = (k ≤ taken) × (length col ≡ length col₀) × ((E : List ℕ) → Columns E col₀ → Columns (map (reduce (solved (check t m) order owns k)) E) col)
@@ -26,11 +18,9 @@ Inv-loop col₀ t m starts order owns taken k₀ col k = (k ≤ taken) × (lengt
 abbrev μ-loop : tie.MeasureT-loop
 μ-loop col₀ t m starts order owns taken k₀ col k = taken - k
 
--- src/lib.rt:38:5
 loop-holds : tie.Need-loop-holds Inv-loop μ-loop
 loop-holds c = (omega arith, refl, λ E h. start _ _ _ E _ h)
 
--- src/lib.rt:39:22
 mul-wide : tie.Need-mul-wide Inv-loop μ-loop
 mul-wide c =
     let s = c .before .loop in
@@ -46,7 +36,6 @@ mul-wide c =
     let ln = s .inv .1 in
     omega arith
 
--- src/lib.rt:39:22
 shared-slice-read-wide : tie.Need-shared-slice-read-wide Inv-loop μ-loop
 shared-slice-read-wide c =
     let s = c .before .before .loop in
@@ -62,11 +51,9 @@ shared-slice-read-wide c =
     let ln = s .inv .1 in
     omega arith
 
--- src/lib.rt:39:13
 wide-requires : tie.Need-wide-requires Inv-loop μ-loop
 wide-requires c κs = omega arith
 
--- src/lib.rt:40:27
 mul-wide-2 : tie.Need-mul-wide-2 Inv-loop μ-loop
 mul-wide-2 c =
     let s = c .before .before .before .before .loop in
@@ -82,7 +69,6 @@ mul-wide-2 c =
     let ln = s .inv .1 in
     omega arith
 
--- src/lib.rt:40:27
 shared-slice-read-wide-2 : tie.Need-shared-slice-read-wide-2 Inv-loop μ-loop
 shared-slice-read-wide-2 c =
     let s = c .before .before .before .before .before .loop in
@@ -98,11 +84,9 @@ shared-slice-read-wide-2 c =
     let ln = s .inv .1 in
     omega arith
 
--- src/lib.rt:40:22
 wide-requires-2 : tie.Need-wide-requires-2 Inv-loop μ-loop
 wide-requires-2 c κs = omega arith
 
--- src/lib.rt:40:46
 add-wide : tie.Need-add-wide Inv-loop μ-loop
 add-wide c =
     let s = c .before .before .before .before .before .before .loop in
@@ -118,7 +102,6 @@ add-wide c =
     let ln = s .inv .1 in
     omega arith
 
--- src/lib.rt:40:44
 mul-wide-3 : tie.Need-mul-wide-3 Inv-loop μ-loop
 mul-wide-3 c =
     let s = c .before .before .before .before .before .before .loop in
@@ -134,7 +117,6 @@ mul-wide-3 c =
     let ln = s .inv .1 in
     omega arith
 
--- src/lib.rt:40:44
 shared-slice-read-wide-3 : tie.Need-shared-slice-read-wide-3 Inv-loop μ-loop
 shared-slice-read-wide-3 c =
     let s = c .before .before .before .before .before .before .before .loop in
@@ -150,11 +132,9 @@ shared-slice-read-wide-3 c =
     let ln = s .inv .1 in
     omega arith
 
--- src/lib.rt:40:39
 wide-requires-3 : tie.Need-wide-requires-3 Inv-loop μ-loop
 wide-requires-3 c κs = omega arith
 
--- src/lib.rt:40:60
 mul-wide-4 : tie.Need-mul-wide-4 Inv-loop μ-loop
 mul-wide-4 c =
     let s = c .before .before .before .before .before .before .before .before .loop in
@@ -170,7 +150,6 @@ mul-wide-4 c =
     let ln = s .inv .1 in
     omega arith
 
--- src/lib.rt:40:60
 shared-slice-read-wide-4 : tie.Need-shared-slice-read-wide-4 Inv-loop μ-loop
 shared-slice-read-wide-4 c =
     let s = c .before .before .before .before .before .before .before .before .before .loop in
@@ -186,11 +165,9 @@ shared-slice-read-wide-4 c =
     let ln = s .inv .1 in
     omega arith
 
--- src/lib.rt:40:55
 wide-requires-4 : tie.Need-wide-requires-4 Inv-loop μ-loop
 wide-requires-4 c κs = omega arith
 
--- src/lib.rt:40:9
 push-requires : tie.Need-push-requires Inv-loop μ-loop
 push-requires c κs =
     let s = c .before .before .before .before .before .before .before .before .before .before .loop in
@@ -212,15 +189,12 @@ push-requires c κs =
     let pl : Places (a .t .now) (5 + a .m + offset (a .t .now) j) (getD (a .t .now) (4 + j) 0) (length (s .col)) = rw ln (v .places j jl) in
     rw (e1, e2) (pl, omega arith)
 
--- src/lib.rt:41:9
 add-k : tie.Need-add-k Inv-loop μ-loop
 add-k c = omega arith
 
--- src/lib.rt:38:5
 loop-less : tie.Need-loop-less Inv-loop μ-loop
 loop-less c = omega arith
 
--- src/lib.rt:38:5
 loop-again : tie.Need-loop-again Inv-loop μ-loop
 loop-again c =
     let s = c .before .before .before .before .before .before .before .before .before .before .before .before .before .loop in
@@ -241,11 +215,9 @@ loop-again c =
     let e2 : c .before .before .before .before .before .wide3 .result ≡ getD (a .t .now) (4 + j) 0 = c .before .before .before .before .before .wide3 .ensures in
     (omega arith, c .before .col .given ∙ ln, λ E h. turn _ _ _ j _ _ _ _ _ E (s .k) (v .places j jl) (c .before .before .before .before .before .before .before .before .before .before .wide .ensures) (c .before .before .before .wide4 .ensures) e1 e2 (s .inv .2 E h) (c .before .before .push .ensures))
 
--- src/lib.rt:33:1
 same-length : tie.Need-same-length Inv-loop μ-loop
 same-length c = c .before .loop .inv .1
 
--- src/lib.rt:33:1
 returns : tie.Need-returns Inv-loop μ-loop
 returns c =
     let s = c .before .loop in

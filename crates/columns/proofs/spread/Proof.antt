@@ -1,20 +1,12 @@
 use lib.Bits.{bitXor}
 use Rattle.live.specs.Live.{Upd}
-use Rattle.table.specs.Checks.{Places}
 use Rattle.live.proofs.Laws.{upd-none, upd-turn, in-part, part-at, part-up}
-use Prim.Native.Nat.{ℕ, zero, suc, _+_, _-_, _*_, _/_, _%_, _^_, _≤_, _<_}
-use mathlib.Core.Path.{_≡_, refl, sym, ap, ap₂, _∙_, subst}
-use mathlib.Core.Bool.{Bool, true, false}
-use mathlib.Core.List.{List, [], _∷_, _++_}
-use mathlib.Core.Logic.{⊎-elim}
+use Prim.Native.Nat.{ℕ, _-_, _≤_, _<_}
+use mathlib.Core.Path.{_≡_, refl, sym, _∙_}
 use native.Mathlib.Omega.{arith}
-use lib.ListN.{length, getD, set, take, drop, length-set}
-use borrow.Author.Needs.{needs}
+use lib.ListN.{getD, take, drop}
 use Rattle.columns.proofs.spread.Statement.{statement}
 use Rattle.columns.proofs.spread.Tie as tie
-use Rattle.columns.proofs.spread.Reads as reads
-use Rattle.columns.proofs.spread.Lts as lts
-use Rattle.columns.proofs.wide.Reads as wide-reads
 
 abbrev Inv-loop : tie.InvT-loop
 Inv-loop col₀ t at weight c i₀ col i = (i ≤ weight) × Upd (λ a. bitXor a c) col₀ (take i (drop at t)) col

@@ -1,17 +1,10 @@
 use Rattle.columns.proofs.Masks.{tied}
-use Prim.Native.Nat.{ℕ, zero, suc, _+_, _-_, _*_, _/_, _%_, _^_, _≤_, _<_}
-use mathlib.Core.Path.{_≡_, refl, sym, ap, ap₂, _∙_, subst}
-use mathlib.Core.Bool.{Bool, true, false}
-use mathlib.Core.List.{List, [], _∷_, _++_}
-use mathlib.Core.Logic.{⊎-elim}
+use Prim.Native.Nat.{_-_}
 use native.Mathlib.Omega.{arith}
-use lib.ListN.{length, getD, set, take, drop, length-set}
+use lib.ListN.{length-set}
 use borrow.Author.Needs.{needs}
 use Rattle.columns.proofs.tie.Statement.{statement}
 use Rattle.columns.proofs.tie.Tie as tie
-use Rattle.columns.proofs.tie.Reads as reads
-use Rattle.columns.proofs.tie.Lts as lts
-use Rattle.columns.proofs.mend.Reads as mend-reads
 
 mul-v : tie.Need-mul-v
 mul-v c = search needs

@@ -1,17 +1,11 @@
 use Rattle.columns.proofs.Masks.{units-more}
 use Rattle.columns.proofs.Laws.{unit-word}
-use Prim.Native.Nat.{ℕ, zero, suc, _+_, _-_, _*_, _/_, _%_, _^_, _≤_, _<_}
-use mathlib.Core.Path.{_≡_, refl, sym, ap, ap₂, _∙_, subst}
-use mathlib.Core.Bool.{Bool, true, false}
-use mathlib.Core.List.{List, [], _∷_, _++_}
-use mathlib.Core.Logic.{⊎-elim}
+use Prim.Native.Nat.{ℕ, _-_, _^_, _≤_, _<_}
+use mathlib.Core.Path.{_≡_, refl}
 use native.Mathlib.Omega.{arith}
-use lib.ListN.{length, getD, set, take, drop, length-set}
-use borrow.Author.Needs.{needs}
+use lib.ListN.{length, getD, length-set}
 use Rattle.columns.proofs.units.Statement.{statement}
 use Rattle.columns.proofs.units.Tie as tie
-use Rattle.columns.proofs.units.Reads as reads
-use Rattle.columns.proofs.units.Lts as lts
 
 abbrev Inv-loop : tie.InvT-loop
 Inv-loop masks₀ g i₀ masks i = (i ≤ g) × (length masks ≡ length masks₀) × ((k : ℕ) → k < i → getD masks k 0 ≡ 2 ^ k)

@@ -1,0 +1,126 @@
+-- The counts of a plan fit 32 bits, and the answer is the rule's.
+use mathlib.Core.Path.{_≡_, refl, sym, ap, ap₂, _∙_, subst}
+use mathlib.Core.List.{List, [], _∷_, _++_, map}
+use Prim.Native.Nat.{ℕ, zero, suc, _+_, _<_, _≤_}
+use native.Mathlib.Omega.{arith}
+use lib.ListN.{length, take, drop}
+use Rattle.table.specs.Table.{places, size, checks, ones, refusal}
+use Rattle.table.specs.TableLaws.{accepted}
+use Rattle.plan.specs.Layout.{planNumbers}
+use Rattle.plan.specs.Step.{addSteps}
+use Rattle.plan.specs.declared.Step.{Step}
+use Rattle.plan.specs.declared.Step.the-variants.{Clear, Add}
+use Rattle.rule.specs.Accepted.{words-limit, kept-length, kept-weight}
+use Rattle.rule.specs.PlanWords.{words-length}
+use Rattle.rule.specs.Rule.{kept, setAsideOf, plan}
+use Rattle.rule.specs.Buffers.{peeling}
+use Rattle.table.specs.Checks.{check, Starts}
+use Rattle.table.specs.ChecksLaws.{each-check}
+use Rattle.table.specs.Table.{number}
+use Rattle.rule.specs.Buffers.{solved, Fitted}
+use Rattle.peel.specs.Choice.{ChoiceOf}
+use Rattle.columns.specs.Fitting.{Ready}
+use Rattle.emit.specs.Emit.{Planned, Emitted, planWords}
+use Rattle.emit.specs.Emit as emit
+use Rattle.planner.specs.Planning.{planOf, numbersOf, answerAt, Answer}
+
+adds-few : (xs : List Step) → addSteps xs ≤ length xs
+adds-few [] = omega arith
+adds-few (Clear to ∷ xs) = let h = adds-few xs in omega arith
+adds-few (Add to from ∷ xs) = let h = adds-few xs in omega arith
+
+-- six numbers make the answer
+pub same-answer : {r l k o g d r′ l′ k′ o′ g′ d′ : ℕ} → r ≡ r′ → l ≡ l′ → k ≡ k′ → o ≡ o′ → g ≡ g′ → d ≡ d′
+    → _≡_ {A = Answer} (record { refusal = r; length = l; kept = k; ones = o; gap = g; additions = d })
+    (record { refusal = r′; length = l′; kept = k′; ones = o′; gap = g′; additions = d′ })
+same-answer a b c d e f = cc
+
+module _ (t : List ℕ) (ok : refusal t ≡ 0) where
+  -- M, W and g are those of the rule
+  pub kept-is : planOf t .M ≡ length (kept (checks t))
+  unfolding planOf
+  kept-is = refl
+
+  pub ones-is : planOf t .W ≡ ones (kept (checks t))
+  unfolding planOf
+  ones-is = refl
+
+  pub gap-is : planOf t .g ≡ length (setAsideOf (peeling t))
+  unfolding planOf
+  gap-is = refl
+
+  pub kept-few : planOf t .M ≤ 512
+  unfolding planOf
+  kept-few = let a = kept-length (places t) (checks t) in let b = accepted t ok .few-checks in omega arith
+
+  pub ones-few : planOf t .W ≤ 6144
+  unfolding planOf
+  ones-few = let a = kept-weight (places t) (checks t) in let b = accepted t ok .few-ones in omega arith
+
+  words : planOf t .g ≤ 32 → 7 + length (planOf t .info) + length (planOf t .list) ≤ 15360
+  unfolding planOf
+  words h = let a = accepted t ok in words-limit (places t) (checks t) (a .distinct) (a .low) (a .few-places) (a .few-ones) h
+
+  pub length-few : planOf t .g ≤ 32 → length (numbersOf t) ≤ 15360
+  unfolding numbersOf
+  length-few h = let a = words-length (places t) (size t) (planOf t) in let b = words h in omega arith
+
+  pub adds-most : planOf t .g ≤ 32 → addSteps (planOf t .list) ≤ 15360
+  adds-most h = let a = adds-few (planOf t .list) in let b = words h in omega arith
+
+  -- ---- what the next phases ask
+  module _ {starts order owns aside : List ℕ} {M W taken put : ℕ} (st : Starts t (number t) starts) (ch : ChoiceOf t order owns aside M W taken put) (few : put ≤ 32) where
+    pub fit-ready : {m n : ℕ} → m ≡ number t → n ≡ places t → Ready t m n starts order owns taken aside put
+    fit-ready em en = record {
+      accepted = ok;
+      count = em;
+      size = en;
+      checks = rw (em, en) (each-check t ok);
+      starts-at = rw em st;
+      chosen = ch .chosen;
+      few = few;
+    }
+
+    pub plan-ready : {m n : ℕ} {fitted rows : List ℕ} → m ≡ number t → n ≡ places t
+        → Fitted n (solved (check t m) order owns taken) (map (check t m) (take put aside)) put fitted rows
+        → Planned t starts order owns taken aside put fitted rows M
+    plan-ready {m} {n} {fitted} {rows} em en f = record {
+      accepted = ok;
+      first = st;
+      chosen = ch .chosen;
+      few = few;
+      fits = subst (λ (i : ℕ). Fitted (places t) (solved (check t i) order owns taken) (map (check t i) (take put aside)) put fitted rows) em
+          (subst (λ (i : ℕ). Fitted i (solved (check t m) order owns taken) (map (check t m) (take put aside)) put fitted rows) en f);
+      number-kept = ch .keeps;
+    }
+
+    pub gap-few : planOf t .g ≤ 32
+    gap-few = let a = gap-is in let b = ch .gap in omega arith
+
+    pub kept-fits : M ≤ 512
+    kept-fits = let a = kept-is in let b = ch .keeps in let c = kept-few in omega arith
+
+    pub ones-fit : W ≤ 6144
+    ones-fit = let a = ones-is in let b = ch .with-ones in let c = ones-few in omega arith
+
+    numbers-are : numbersOf t ≡ planWords t
+    unfolding numbersOf planOf
+    numbers-are = refl
+
+    adds-are : addSteps (planOf t .list) ≡ addSteps (emit.planOf t .list)
+    unfolding planOf
+    adds-are = refl
+
+    pub length-fits : {before after : List ℕ} {count adds : ℕ} → Emitted t before after count adds → count ≤ 15360
+    length-fits e = let a = length-few gap-few in let b = e .numbers ∙ ap length (sym numbers-are) in omega arith
+
+    pub adds-fit : {before after : List ℕ} {count adds : ℕ} → Emitted t before after count adds → adds ≤ 15360
+    adds-fit e = let a = adds-most gap-few in let b = e .additions ∙ sym adds-are in omega arith
+
+    pub written-out : {before after : List ℕ} {count adds : ℕ} → Emitted t before after count adds
+        → (_≡_ {A = Answer} (record { refusal = 0; length = count; kept = M; ones = W; gap = put; additions = adds }) (answerAt 0 t))
+        × (after ≡ numbersOf t ++ drop (length (numbersOf t)) before)
+    written-out {before} {after} {count} {adds} e = (
+      same-answer refl (e .numbers ∙ ap length (sym numbers-are)) (ch .keeps ∙ sym kept-is) (ch .with-ones ∙ sym ones-is) (ch .gap ∙ sym gap-is) (e .additions ∙ sym adds-are),
+      e .list ∙ ap (λ (l : List ℕ). l ++ drop (length l) before) (sym numbers-are),
+    )
