@@ -2,6 +2,10 @@
 ghost use mathlib.Core.Path.{_≡_};
 ghost use lib.ListN.{length};
 ghost use Rattle.table.specs.PacketCall.{packetRefusal, partStart, partLength};
+ghost use Rattle.repair.specs.Verify.{verification, valuesOf};
+ghost use Rattle.repair.specs.Repair.{repairReport, repairBlock, repairMap};
+ghost use Rattle.receiver.specs.Answers.{verified, repaired};
+use repair::Verified;
 
 // Where in the block a packet lies: 0 and 0 on refusal.
 #[repr(C)]
@@ -30,5 +34,60 @@ pub extern "C" fn bs_packet(n: usize, s: usize, place: usize, block: &[u8]) -> P
             start: 0,
             length: 0,
         }
+    }
+}
+
+// What verification says: codeword 1 or 0, and the lowest check that fails, else 0.
+#[repr(C)]
+pub struct Verification {
+    pub refusal: u32,
+    pub codeword: u32,
+    pub check: u32,
+}
+
+#[no_mangle]
+pub extern "C" fn bs_verify(table: &[u16], block: &[u8]) -> Verification
+    ensures { λ r. ⌜ verified r ≡ valuesOf (verification (now (table .entry)) (now (block .entry))) ⌝ }
+{
+    match repair::verify(table, block) {
+        Verified::Refused(refusal) => Verification {
+            refusal: refusal,
+            codeword: 0,
+            check: 0,
+        },
+        Verified::Codeword => Verification {
+            refusal: 0,
+            codeword: 1,
+            check: 0,
+        },
+        Verified::Fails(check) => Verification {
+            refusal: 0,
+            codeword: 0,
+            check: check as u32,
+        },
+    }
+}
+
+// What repair reports: the refusal, 0 for none, and the counts.
+#[repr(C)]
+pub struct Repair {
+    pub refusal: u32,
+    pub restored: u32,
+    pub lost: u32,
+    pub additions: u32,
+}
+
+#[no_mangle]
+pub extern "C" fn bs_repair(table: &[u16], block: &mut [u8], map: &mut [u8]) -> Repair
+    ensures report { λ r. ⌜ repaired r ≡ repairReport (now (table .entry)) (now (block .entry)) (now (map .entry)) ⌝ }
+    ensures block { λ _. ⌜ now (block .exit) ≡ repairBlock (now (table .entry)) (now (block .entry)) (now (map .entry)) ⌝ }
+    ensures map { λ _. ⌜ now (map .exit) ≡ repairMap (now (table .entry)) (now (block .entry)) (now (map .entry)) ⌝ }
+{
+    let r = repair::repair(table, block, map);
+    Repair {
+        refusal: r.refusal,
+        restored: r.restored,
+        lost: r.lost,
+        additions: r.additions,
     }
 }

@@ -15,12 +15,12 @@ use Rattle.gf2.specs.Width.{All}
 use Rattle.table.specs.PacketLaws.{packets-length, joined-packets}
 use Rattle.table.specs.Packets.{Packets, packets, joined}
 use Rattle.table.specs.Table.{places, size, number, checks, refusal}
-use Rattle.repair.specs.Repair.{State, zeroLost, restoring, repaired, consistent, tally, outcome, Report, repairRefusal, repairReport, repairBlock, repairMap}
+use Rattle.repair.specs.Repair.{State, zeroLost, restoring, repaired, consistent, tally, outcome, Report, repairRefusal, repairReport, repairBlock, repairMap, reportOf, Answers}
 use Rattle.repair.specs.RepairLaws.{Fitting, fitting-refusal, refusal-small, table-refused, block-short, map-short, byte-over, bytes-all, byte-at, start-length, start-sized, outcome-length, outcome-sized, block-accepted, block-contradicted, block-refused, map-accepted, map-refused}
 use Rattle.repair.specs.RestoringLaws.{restoring-map, restoring-same, restoring-mark}
 use Rattle.repair.specs.Stopping.{isLost}
-use Rattle.repair.specs.Turns.{TableOf, Holds, Restored, stateOf, unmarked, reportOf, Answers}
-use Rattle.repair.specs.Values.{received-kept, wipe-length, wipe-kept, wipe-zero}
+use Rattle.repair.specs.Turns.{TableOf, Holds, Restored, stateOf, unmarked}
+use Rattle.repair.specs.Values.{received-kept, zeroLost-length, zeroLost-kept, zeroLost-zero}
 use Rattle.repair.specs.declared.Repaired.{Repaired}
 
 -- ---- marks taken back
@@ -47,10 +47,10 @@ module _ (k s : ℕ) (cs : List (List ℕ)) (st : State) (bytes : All (λ x. x �
 
 -- ---- zeroing again gives the start again
 zero-same : (s : ℕ) (lost : List ℕ) (a b : List (List ℕ)) → length a ≡ length b → ((p : ℕ) → isLost lost p ≡ false → getD a p [] ≡ getD b p []) → zeroLost s lost a ≡ zeroLost s lost b
-zero-same s lost a b long same = ext-getD [] _ _ (wipe-length s lost a ∙ long ∙ sym (wipe-length s lost b)) (λ p h. byBool (isLost lost p)
-    (λ e. let k : p < length a = subst (λ x. p < x) (wipe-length s lost a) h in
-    wipe-zero s lost a p k e ∙ sym (wipe-zero s lost b p (subst (λ x. p < x) long k) e))
-    (λ e. wipe-kept s lost a p e ∙ same p e ∙ sym (wipe-kept s lost b p e)))
+zero-same s lost a b long same = ext-getD [] _ _ (zeroLost-length s lost a ∙ long ∙ sym (zeroLost-length s lost b)) (λ p h. byBool (isLost lost p)
+    (λ e. let k : p < length a = subst (λ x. p < x) (zeroLost-length s lost a) h in
+    zeroLost-zero s lost a p k e ∙ sym (zeroLost-zero s lost b p (subst (λ x. p < x) long k) e))
+    (λ e. zeroLost-kept s lost a p e ∙ same p e ∙ sym (zeroLost-kept s lost b p e)))
 
 -- ---- the call
 module _ (t : List ℕ) (m n s : ℕ) (k : TableOf t m n s) (b l : List ℕ) (f : Fitting t b l) (b₁ : List ℕ) (zeroed : b₁ ≡ joined (zeroLost s l (packets s n b)))

@@ -25,10 +25,10 @@ set-lost (x ∷ l) (suc q) zero h = h
 set-lost (x ∷ l) (suc q) (suc p) h = set-lost l q p h
 
 -- nor in the whole of repair
-pub mend-within : (k s : ℕ) (cs : List (List ℕ)) (m : State) (p : ℕ) → isLost (restoring k s cs m .lost) p ≡ true → isLost (m .lost) p ≡ true
-mend-within zero s cs m p h = h
-mend-within (suc k) s cs m p h = byOpt (ready (m .lost) cs)
-    (λ c r. set-lost (m .lost) _ p (mend-within k s cs _ p (rw (r, restoring) at h)))
+pub restoring-within : (k s : ℕ) (cs : List (List ℕ)) (m : State) (p : ℕ) → isLost (restoring k s cs m .lost) p ≡ true → isLost (m .lost) p ≡ true
+restoring-within zero s cs m p h = h
+restoring-within (suc k) s cs m p h = byOpt (ready (m .lost) cs)
+    (λ c r. set-lost (m .lost) _ p (restoring-within k s cs _ p (rw (r, restoring) at h)))
     (λ r. rw (r, restoring) at h)
 
 -- where no check has exactly one lost place, the lost places are a stopping set
@@ -53,7 +53,7 @@ module _ (n s : ℕ) (cs b : List (List ℕ)) (lost : List ℕ) (long : length l
 
   -- .. within the lost places ..
   pub left-within : (p : ℕ) → isLost (repaired n s cs b lost .lost) p ≡ true → isLost lost p ≡ true
-  left-within = mend-within n s cs _
+  left-within = restoring-within n s cs _
 
   -- .. and contains every stopping set within them
   pub left-largest : (S : ℕ → Bool) → Stopping cs S → ((p : ℕ) → S p ≡ true → isLost lost p ≡ true)

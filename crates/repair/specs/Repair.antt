@@ -1,5 +1,6 @@
 -- Repair (document 01, "Repair and the other calls"). A block is its n packets; the lost map has a byte a place: 0 received,
 -- 1 lost, 2 restored.
+use mathlib.Core.Path.{_≡_}
 use mathlib.Core.Bool.{Bool, true, false, cond, not, _||_}
 use mathlib.Core.List.{List, [], _∷_}
 use mathlib.Core.Option.{Option, none, some}
@@ -11,6 +12,7 @@ use Rattle.gf2.specs.Places.{filter, minus}
 use Rattle.gf2.specs.Span.{anyOf}
 use Rattle.table.specs.Packets.{packets, joined, packetSum}
 use Rattle.table.specs.Table.{places, size, checks, refusal}
+use Rattle.repair.specs.declared.Repaired.{Repaired}
 
 -- ---- restoring
 pub record State : Type 0 where
@@ -108,3 +110,13 @@ repairBlock t b map =
 -- the map afterwards: restored places are marked 2; as it was on refusal
 abbrev pub repairMap : List ℕ → List ℕ → List ℕ → List ℕ
 repairMap t b map = elim (eqb (repairRefusal t b map) 0) [ true ↦ outcome t b map .lost | false ↦ map ]
+
+-- document 01's numbers of an answer
+abbrev pub reportOf : Repaired → Report
+reportOf r = record { refusal = r .refusal; restored = r .restored; lost = r .lost; additions = r .additions }
+
+-- what the call answers, and what it leaves in block and map
+pub record Answers (t b map : List ℕ) (r : Repaired) (b′ map′ : List ℕ) : Type 0 where
+  pub report : reportOf r ≡ repairReport t b map
+  pub block-is : b′ ≡ repairBlock t b map
+  pub map-is : map′ ≡ repairMap t b map

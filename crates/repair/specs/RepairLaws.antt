@@ -21,7 +21,7 @@ use Rattle.repair.specs.Repair.{State, restoring, zeroLost, repaired, co
 use Rattle.repair.specs.RestoringLaws.{restoring-length, restoring-sized}
 use Rattle.repair.specs.Stopping.{isLost, lostIn}
 use Rattle.repair.specs.Tally.{restoredIn}
-use Rattle.repair.specs.Values.{wipe-length, wipe-kept, wipe-zero}
+use Rattle.repair.specs.Values.{zeroLost-length, zeroLost-kept, zeroLost-zero}
 
 -- a call that none of 1 to 7 refuses
 pub record Fitting (t b map : List ℕ) : Type 0 where
@@ -164,7 +164,7 @@ zeroLost-sized s (l ∷ ls) (cons {x = p} h a) = cons {x = cond (eqb l 1) (repli
 module _ (t b map : List ℕ) (f : Fitting t b map) where
   -- the packets that repair starts with
   pub start-length : length (zeroLost (size t) map (packets (size t) (places t) b)) ≡ places t
-  start-length = wipe-length (size t) map (packets (size t) (places t) b) ∙ packets-length (size t) (places t) b
+  start-length = zeroLost-length (size t) map (packets (size t) (places t) b) ∙ packets-length (size t) (places t) b
 
   pub start-sized : Packets (size t) (zeroLost (size t) map (packets (size t) (places t) b))
   start-sized = zeroLost-sized (size t) map (packets-sized (size t) (places t) b (f .block))

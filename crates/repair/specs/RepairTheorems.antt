@@ -24,7 +24,7 @@ use Rattle.repair.specs.RepairLaws.{Fitting, fitting-refusal, accepted-f
 use Rattle.repair.specs.RestoringLaws.{restoring-same, restoring-mark}
 use Rattle.repair.specs.Stopping.{isLost, Stopping, lostIn, no-lost}
 use Rattle.repair.specs.Tally.{restoredIn, restored-and-lost}
-use Rattle.repair.specs.Values.{received-kept, left-zero, restored, no-contradiction, wipe-kept, wipe-zero}
+use Rattle.repair.specs.Values.{received-kept, left-zero, restored, no-contradiction, zeroLost-kept, zeroLost-zero}
 use Rattle.repair.specs.Verify.{failing, verdict, verification}
 use Rattle.repair.specs.VerifyLaws.{zero-sound, verify-sound, verify-complete, verify-lowest, verification-is, verification-judged}
 use Rattle.repair.specs.declared.Verified.{Verified}
@@ -173,8 +173,8 @@ module _ (t b map w : List ℕ) (f : Fitting t b map) (word : IsCodeword t w) (a
 pub contradicted-repair : (t b map : List ℕ) → repairRefusal t b map ≡ 8 → Contradicted t b map
 contradicted-repair t b map h = record {
   no-codeword = λ w word agree. let z : _≡_ {A = ℕ} 8 0 = sym h ∙ repairing t b map w fits word agree .not-refused in omega arith;
-  received = λ p k e. part p k ∙ wipe-kept (size t) map (packets (size t) (places t) b) p (not-lost map p e) ∙ packet-at (size t) (places t) b p k;
-  zeroed = λ p k e. part p k ∙ wipe-zero (size t) map (packets (size t) (places t) b) p (subst (λ x. p < x) (sym (packets-length (size t) (places t) b)) k) (is-lost map p e);
+  received = λ p k e. part p k ∙ zeroLost-kept (size t) map (packets (size t) (places t) b) p (not-lost map p e) ∙ packet-at (size t) (places t) b p k;
+  zeroed = λ p k e. part p k ∙ zeroLost-zero (size t) map (packets (size t) (places t) b) p (subst (λ x. p < x) (sym (packets-length (size t) (places t) b)) k) (is-lost map p e);
   map-kept = map-refused t b map 8 h refl;
 }
   where

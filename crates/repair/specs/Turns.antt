@@ -8,8 +8,7 @@ use lib.ListN.{length, getD, set}
 use Rattle.gf2.specs.Places.{minus}
 use Rattle.table.specs.Packets.{packets, joined, packetSum}
 use Rattle.table.specs.Table.{places, size, number, refusal}
-use Rattle.repair.specs.Repair.{State, lostPlaces, restoring, Report, repairReport, repairBlock, repairMap}
-use Rattle.repair.specs.declared.Repaired.{Repaired}
+use Rattle.repair.specs.Repair.{State, lostPlaces, restoring}
 
 -- an accepted table, with its number of checks, its places and its packet size
 pub record TableOf (t : List ℕ) (m n s : ℕ) : Type 0 where
@@ -47,13 +46,3 @@ readyNumber lost (c ∷ cs) = elim (eqb (length (lostPlaces lost c)) 1) [ true �
 -- 1 for every 2
 unfoldable pub unmarked : List ℕ → List ℕ
 unmarked l = map (λ x. cond (eqb x 2) 1 x) l
-
--- document 01's numbers of an answer
-abbrev pub reportOf : Repaired → Report
-reportOf r = record { refusal = r .refusal; restored = r .restored; lost = r .lost; additions = r .additions }
-
--- what the call of repair answers and leaves
-pub record Answers (t b lost : List ℕ) (r : Repaired) (b′ lost′ : List ℕ) : Type 0 where
-  pub report : reportOf r ≡ repairReport t b lost
-  pub block-is : b′ ≡ repairBlock t b lost
-  pub map-is : lost′ ≡ repairMap t b lost

@@ -15,7 +15,7 @@ use Rattle.gf2.specs.Group.{Group2, XorGroup, bxor, sumOver, eq-zero}
 use Rattle.table.specs.PacketLaws.{view, sum-view}
 use Rattle.gf2.specs.Bit.{eqb-true, eqb-false, eqb-self, eqb-comm}
 use Rattle.table.specs.Packets.{packetSum, Packets}
-use Rattle.repair.specs.Largest.{set-lost, mend-within}
+use Rattle.repair.specs.Largest.{set-lost, restoring-within}
 use Rattle.gf2.specs.Lists.{all-filter, all-zip, filter-in, all-in, allPass, sameList, all-getD, getD-zeros, byOpt, par-has}
 use Rattle.repair.specs.Repair.{State, lostPlaces, ready, restoring, repaired, zeroLost, consistent}
 use Rattle.gf2.specs.Vectors.{add}
@@ -59,24 +59,24 @@ sum-agree s b e nil = refl
 sum-agree s b e (cons h a) = ap₂ (add XorGroup) h (sum-agree s b e a)
 
 -- ---- the start
-pub wipe-length : (s : ℕ) (lost : List ℕ) (b : List (List ℕ)) → length (zeroLost s lost b) ≡ length b
-wipe-length s [] b = refl
-wipe-length s (l ∷ ls) [] = refl
-wipe-length s (l ∷ ls) (p ∷ b) = ap suc (wipe-length s ls b)
+pub zeroLost-length : (s : ℕ) (lost : List ℕ) (b : List (List ℕ)) → length (zeroLost s lost b) ≡ length b
+zeroLost-length s [] b = refl
+zeroLost-length s (l ∷ ls) [] = refl
+zeroLost-length s (l ∷ ls) (p ∷ b) = ap suc (zeroLost-length s ls b)
 
 -- received packets stand
-pub wipe-kept : (s : ℕ) (lost : List ℕ) (b : List (List ℕ)) (p : ℕ) → isLost lost p ≡ false → getD (zeroLost s lost b) p [] ≡ getD b p []
-wipe-kept s [] b p h = refl
-wipe-kept s (l ∷ ls) [] p h = refl
-wipe-kept s (l ∷ ls) (x ∷ b) zero h = rw h
-wipe-kept s (l ∷ ls) (x ∷ b) (suc p) h = wipe-kept s ls b p h
+pub zeroLost-kept : (s : ℕ) (lost : List ℕ) (b : List (List ℕ)) (p : ℕ) → isLost lost p ≡ false → getD (zeroLost s lost b) p [] ≡ getD b p []
+zeroLost-kept s [] b p h = refl
+zeroLost-kept s (l ∷ ls) [] p h = refl
+zeroLost-kept s (l ∷ ls) (x ∷ b) zero h = rw h
+zeroLost-kept s (l ∷ ls) (x ∷ b) (suc p) h = zeroLost-kept s ls b p h
 
 -- lost ones are zero
-pub wipe-zero : (s : ℕ) (lost : List ℕ) (b : List (List ℕ)) (p : ℕ) → p < length b → isLost lost p ≡ true → getD (zeroLost s lost b) p [] ≡ replicate s 0
-wipe-zero s [] b p l h = absurd (false≢true h)
-wipe-zero s (l ∷ ls) [] p k h = absurd (omega arith)
-wipe-zero s (l ∷ ls) (x ∷ b) zero k h = rw h
-wipe-zero s (l ∷ ls) (x ∷ b) (suc p) k h = wipe-zero s ls b p (omega arith) h
+pub zeroLost-zero : (s : ℕ) (lost : List ℕ) (b : List (List ℕ)) (p : ℕ) → p < length b → isLost lost p ≡ true → getD (zeroLost s lost b) p [] ≡ replicate s 0
+zeroLost-zero s [] b p l h = absurd (false≢true h)
+zeroLost-zero s (l ∷ ls) [] p k h = absurd (omega arith)
+zeroLost-zero s (l ∷ ls) (x ∷ b) zero k h = rw h
+zeroLost-zero s (l ∷ ls) (x ∷ b) (suc p) k h = zeroLost-zero s ls b p (omega arith) h
 
 -- a restored place is not lost
 set-gone : (l : List ℕ) (q : ℕ) → isLost l q ≡ true → isLost (set l q 2) q ≡ false
@@ -90,34 +90,34 @@ all-units [] = nil
 all-units (x ∷ l) = cons tt (all-units l)
 
 -- ---- what repair leaves alone: places that were received, and places that stay lost
-pub mend-kept : (k s : ℕ) (cs : List (List ℕ)) (m : State) (p : ℕ) → isLost (m .lost) p ≡ false → getD (restoring k s cs m .block) p [] ≡ getD (m .block) p []
-mend-kept zero s cs m p h = refl
-mend-kept (suc k) s cs m p h = byOpt (ready (m .lost) cs)
+pub restoring-kept : (k s : ℕ) (cs : List (List ℕ)) (m : State) (p : ℕ) → isLost (m .lost) p ≡ false → getD (restoring k s cs m .block) p [] ≡ getD (m .block) p []
+restoring-kept zero s cs m p h = refl
+restoring-kept (suc k) s cs m p h = byOpt (ready (m .lost) cs)
     (λ c r. let w = ready-all (m .lost) (all-units cs) c r in
     let q = getD (lostPlaces (m .lost) c) 0 0 in
     let ne : p ≢ q = λ e. true≢false (sym (first-lost (isLost (m .lost)) c (w .1)) ∙ ap (isLost (m .lost)) (sym e) ∙ h) in
-    rw (r, restoring) (mend-kept k s cs _ p (ap (λ v. eqb v 1) (getD-set-other (m .lost) q p 2 0 ne) ∙ h) ∙ getD-set-other (m .block) q p _ [] ne))
+    rw (r, restoring) (restoring-kept k s cs _ p (ap (λ v. eqb v 1) (getD-set-other (m .lost) q p 2 0 ne) ∙ h) ∙ getD-set-other (m .block) q p _ [] ne))
     (λ r. rw (r, restoring))
 
 -- a place that stays lost is not written
-pub mend-left : (k s : ℕ) (cs : List (List ℕ)) (m : State) (p : ℕ) → isLost (restoring k s cs m .lost) p ≡ true → getD (restoring k s cs m .block) p [] ≡ getD (m .block) p []
-mend-left zero s cs m p h = refl
-mend-left (suc k) s cs m p h = byOpt (ready (m .lost) cs)
+pub restoring-left : (k s : ℕ) (cs : List (List ℕ)) (m : State) (p : ℕ) → isLost (restoring k s cs m .lost) p ≡ true → getD (restoring k s cs m .block) p [] ≡ getD (m .block) p []
+restoring-left zero s cs m p h = refl
+restoring-left (suc k) s cs m p h = byOpt (ready (m .lost) cs)
     (λ c r. let w = ready-all (m .lost) (all-units cs) c r in
     let q = getD (lostPlaces (m .lost) c) 0 0 in
     let h′ = rw (r, restoring) at h in
-    let ne : p ≢ q = λ e. true≢false (sym (mend-within k s cs _ p h′) ∙ ap (isLost (set (m .lost) q 2)) e ∙ set-gone (m .lost) q (first-lost (isLost (m .lost)) c (w .1))) in
-    rw (r, restoring) (mend-left k s cs _ p h′ ∙ getD-set-other (m .block) q p _ [] ne))
+    let ne : p ≢ q = λ e. true≢false (sym (restoring-within k s cs _ p h′) ∙ ap (isLost (set (m .lost) q 2)) e ∙ set-gone (m .lost) q (first-lost (isLost (m .lost)) c (w .1))) in
+    rw (r, restoring) (restoring-left k s cs _ p h′ ∙ getD-set-other (m .block) q p _ [] ne))
     (λ r. rw (r, restoring))
 
 module _ (n s : ℕ) (cs b : List (List ℕ)) (lost : List ℕ) where
   -- received packets are untouched
   pub received-kept : (p : ℕ) → isLost lost p ≡ false → getD (repaired n s cs b lost .block) p [] ≡ getD b p []
-  received-kept p h = mend-kept n s cs _ p h ∙ wipe-kept s lost b p h
+  received-kept p h = restoring-kept n s cs _ p h ∙ zeroLost-kept s lost b p h
 
   -- places that stay lost hold zero bytes
   pub left-zero : (p : ℕ) → p < length b → isLost (repaired n s cs b lost .lost) p ≡ true → getD (repaired n s cs b lost .block) p [] ≡ replicate s 0
-  left-zero p l h = mend-left n s cs _ p h ∙ wipe-zero s lost b p l (mend-within n s cs _ p h)
+  left-zero p l h = restoring-left n s cs _ p h ∙ zeroLost-zero s lost b p l (restoring-within n s cs _ p h)
 
 -- the comparison of a list with itself
 pub same-self : (l : List ℕ) → sameList l l ≡ true
@@ -142,16 +142,16 @@ module _ (n s : ℕ) (cs : List (List ℕ)) (low : All (λ c. All (λ p. p < n) 
       ∙ sym (sum-apart XorGroup (view word j) q c) ∙ sym (sum-view s sized lw .1 j) ∙ ap (λ v. getD v j 0) z ∙ getD-zeros s j)))
 
   -- each restored packet is the codeword's
-  mend-agrees : (k : ℕ) (m : State) → Agrees m → Agrees (restoring k s cs m)
-  mend-agrees zero m g = g
-  mend-agrees (suc k) m g = byOpt (ready (m .lost) cs)
+  restoring-agrees : (k : ℕ) (m : State) → Agrees m → Agrees (restoring k s cs m)
+  restoring-agrees zero m g = g
+  restoring-agrees (suc k) m g = byOpt (ready (m .lost) cs)
       (λ c r. let w = ready-all (m .lost) (all-zip low zeros) c r in
       let q = getD (lostPlaces (m .lost) c) 0 0 in
       let o = one-passes (isLost (m .lost)) c (w .1) in
       let l : q < n = all-in (λ p. p < n) q (par-has q c (o .0)) (w .0 .0) in
       let others : All (λ p. getD (m .block) p [] ≡ getD word p []) (minus c (q ∷ [])) =
       all-map (λ p t. g .same p (t .0 .0) (t .0 .1 (not-self p q (t .1)))) (filter-in (λ p. not (has p (q ∷ []))) (all-zip (w .0 .0) (o .1))) in
-      rw (r, restoring) (mend-agrees k _ (record {
+      rw (r, restoring) (restoring-agrees k _ (record {
         size = length-set (m .block) q _ ∙ g .size;
         same = λ p h u. byBool (eqb p q)
             (λ e. subst (λ x. getD (set (m .block) q (packetSum s (m .block) (minus c (q ∷ [])))) x [] ≡ getD word x []) (sym (eqb-true p q e))
@@ -163,7 +163,7 @@ module _ (n s : ℕ) (cs : List (List ℕ)) (low : All (λ c. All (λ p. p < n) 
   module _ (b : List (List ℕ)) (lost : List ℕ) (size : length b ≡ n) (agree : (p : ℕ) → p < n → isLost lost p ≡ false → getD b p [] ≡ getD word p []) where
     -- the end of repair
     end : Agrees (repaired n s cs b lost)
-    end = mend-agrees n _ (record { size = wipe-length s lost b ∙ size; same = λ p l h. wipe-kept s lost b p h ∙ agree p l h })
+    end = restoring-agrees n _ (record { size = zeroLost-length s lost b ∙ size; same = λ p l h. zeroLost-kept s lost b p h ∙ agree p l h })
 
     -- every restored packet is the codeword's (and every received one)
     pub restored : (p : ℕ) → p < n → isLost (repaired n s cs b lost .lost) p ≡ false → getD (repaired n s cs b lost .block) p [] ≡ getD word p []

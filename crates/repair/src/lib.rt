@@ -8,9 +8,9 @@ ghost use Rattle.gf2.specs.Span.{anyOf};
 ghost use Rattle.table.specs.Checks.{Places, Starts};
 ghost use Rattle.table.specs.Packets.{packets, joined};
 ghost use Rattle.table.specs.Table.{checks};
-ghost use Rattle.repair.specs.Repair.{lostPlaces, tally, zeroLost, consistent, restoring, repairReport, repairBlock, repairMap};
+ghost use Rattle.repair.specs.Repair.{lostPlaces, tally, zeroLost, consistent, restoring, Answers};
 ghost use Rattle.repair.specs.RepairLaws.{Fitting};
-ghost use Rattle.repair.specs.Turns.{TableOf, Holds, Restored, readyNumber, stateOf, turn, unmarked, reportOf, Answers};
+ghost use Rattle.repair.specs.Turns.{TableOf, Holds, Restored, readyNumber, stateOf, turn, unmarked};
 ghost use Rattle.repair.specs.Verify.{failing, verdict, verification};
 
 // What verification says: a refusal, a codeword, or the lowest check that fails.
@@ -39,7 +39,8 @@ fn look_at_checks(t: &[u16], m: usize, n: usize, s: usize, block: &[u8]) -> Veri
     let mut j = 0;
     while j < m {
         let w = wide(t[4 + j]);
-        if table::sum_of_check(t, at, w, block, n, s) != s {
+        let low = table::sum_of_check(t, at, w, block, n, s);
+        if low != s {
             return Verified::Fails(j);
         }
         at += w;
@@ -148,12 +149,12 @@ fn next_ready(t: &[u16], m: usize, n: usize, s: usize, starts: &[u16], map: &[u8
     requires { ⌜ TableOf (now t) m n s × Starts (now t) m (now starts) × (length (now map) ≡ n) ⌝ }
     ensures { λ r. ⌜ r ≡ readyNumber (now (map .entry)) (checks (now (t .entry))) ⌝ }
 {
-    let mut j = 0;
-    while j < m {
-        if lost_in(t, wide(starts[j]), wide(t[4 + j]), map) == 1 {
-            return j;
+    let mut lowest = 0;
+    while lowest < m {
+        if lost_in(t, wide(starts[lowest]), wide(t[4 + lowest]), map) == 1 {
+            return lowest;
         }
-        j += 1;
+        lowest += 1;
     }
     m
 }
@@ -265,7 +266,14 @@ fn accepted(map: &[u8], adds: usize) -> Repaired
 }
 
 // the call where none of 1 to 7 refuses
-fn mend(t: &[u16], m: usize, n: usize, s: usize, block: &mut [u8], map: &mut [u8]) -> Repaired
+fn repair_packets(
+    t: &[u16],
+    m: usize,
+    n: usize,
+    s: usize,
+    block: &mut [u8],
+    map: &mut [u8],
+) -> Repaired
     requires { ⌜ TableOf (now t) m n s × Fitting (now t) (now block) (now map) ⌝ }
     ensures { λ r. ⌜ Answers (now (t .entry)) (now (block .entry)) (now (map .entry)) r (now (block .exit)) (now (map .exit)) ⌝ }
 {
@@ -300,5 +308,5 @@ pub fn repair(t: &[u16], block: &mut [u8], map: &mut [u8]) -> Repaired
     if over_one(map) {
         return refused(7);
     }
-    mend(t, wide(t[3]), n, s, block, map)
+    repair_packets(t, wide(t[3]), n, s, block, map)
 }

@@ -82,9 +82,11 @@ answered (suc r) a = omega arith
 
 module _ (t : List ℕ) (ok : refusal t ≡ 0) where
   good : Good t
+  unfolding planOf numbersOf
   good = accepted t ok
 
   pub rule-numbers : RuleNumbers t
+  unfolding planOf numbersOf
   rule-numbers = record {
     fitted = fitted-number (places t) (checks t) (good .distinct) (good .low);
     information = info-number (places t) (checks t) (good .distinct) (good .low);
@@ -94,6 +96,7 @@ module _ (t : List ℕ) (ok : refusal t ≡ 0) where
 
   module _ (few : planOf t .g ≤ mostAside) where
     counted : (information b c : List ℕ) (limit : ℕ) → encodeAnswer (numbersOf t) information b c limit .additions ≤ addSteps (planOf t .list)
+    unfolding planOf numbersOf
     counted information b c limit =
         let p = answered (encodes (numbersOf t) information b c limit) (addSteps (stepsWithin (numbersOf t) limit)) in
         let q : addSteps (stepsWithin (numbersOf t) limit) ≤ addSteps (planOf t .list) =
@@ -102,6 +105,7 @@ module _ (t : List ℕ) (ok : refusal t ≡ 0) where
 
     -- demand 3, the bound
     pub addition-bound : AdditionBound t
+    unfolding planOf numbersOf
     addition-bound = record {
       at-least-one = kept-ones (places t) (checks t) (good .distinct) (good .low);
       always = λ i b c limit. let p = counted i b c limit in let q = adds-most (places t) (checks t) (good .distinct) (good .low) in
@@ -124,7 +128,7 @@ module _ (t : List ℕ) (ok : refusal t ≡ 0) where
       ps = packets s k information
 
       fits : encodes (numbersOf t) information blockBuffer scratchBuffer limit ≡ 0
-      unfolding encodeRefusal
+      unfolding encodeRefusal planOf numbersOf
       fits = rw (
         own-accepted t ok few,
         encodeRefusal,
@@ -135,27 +139,34 @@ module _ (t : List ℕ) (ok : refusal t ≡ 0) where
 
       -- the slots are those of the rule's plan
       slots-are : slotsAfter (numbersOf t) information limit ≡ encode n s (planOf t) ps
+      unfolding planOf numbersOf
       slots-are = ap₂ (λ I l. carryOutAll s (atStart (n + planOf t .g) s I (packets s (infoCount (numbersOf t)) information)) (take limit l)) (own-info t ok few) (own-steps t ok few)
           ∙ ap₂ (λ c l. carryOutAll s (atStart (n + planOf t .g) s (planOf t .info) (packets s c information)) l) (own-places t ok few) (take-all limit (planOf t .list) (lent .all-steps))
 
       after : blockAfter (numbersOf t) information blockBuffer scratchBuffer limit ≡ joined (block n s (checks t) ps)
+      unfolding planOf numbersOf
       after = rw (fits, blockAfter) (ap (λ st. joined (take n st)) slots-are)
 
       sized : Packets s ps
+      unfolding planOf numbersOf
       sized = packets-sized s k information (lent .info-long)
 
       made : Encodes n s (checks t) ps (block n s (checks t) ps)
+      unfolding planOf numbersOf
       made = block-encodes n s (checks t) (good .distinct) (good .low) ps sized (packets-length s k information)
 
       info-below : (j : ℕ) → j < k → getD (planOf t .info) j 0 < n
+      unfolding planOf numbersOf
       info-below j h = let m = info-number n (checks t) (good .distinct) (good .low) in
           all-in (λ p. p < n) _ (getD-has (planOf t .info) j (omega arith)) (info-low n (checks t) (good .distinct) (good .low))
 
       -- there and back
       back : packets s n (joined (block n s (checks t) ps)) ≡ block n s (checks t) ps
+      unfolding planOf numbersOf
       back = ap (λ m. packets s m (joined (block n s (checks t) ps))) (sym (made .long)) ∙ joined-packets s (made .sized)
 
       made-carries : Carries t information (joined (block n s (checks t) ps))
+      unfolding planOf numbersOf
       made-carries = record {
         long = joined-length s (made .sized) ∙ ap (λ m. m * s) (made .long);
         carries = λ j h. sym (packet-at s n (joined (block n s (checks t) ps)) (getD (planOf t .info) j 0) (info-below j h))
@@ -164,6 +175,7 @@ module _ (t : List ℕ) (ok : refusal t ≡ 0) where
       }
 
       taken : (b : List ℕ) → Carries t information b → Encodes n s (checks t) ps (packets s n b)
+      unfolding planOf numbersOf
       taken b r = record {
         long = packets-length s n b;
         sized = packets-sized s n b (r .long);
@@ -173,6 +185,7 @@ module _ (t : List ℕ) (ok : refusal t ≡ 0) where
 
       -- demand 2, planning and then encoding
       pub the-one-block : TheOneBlock t information blockBuffer scratchBuffer limit
+      unfolding planOf numbersOf
       the-one-block = record {
         not-refused = fits;
         carries = subst (Carries t information) (sym after) made-carries;

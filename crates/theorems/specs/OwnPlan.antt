@@ -59,6 +59,7 @@ unpacked k I h (cons {x = x} {l = xs} r a) = rw (unpack-pack k I x h r, unpackAl
 -- ---- for every accepted table
 module _ (t : List ℕ) (ok : refusal t ≡ 0) (few : planOf t .g ≤ mostAside) where
   good : Good t
+  unfolding planOf numbersOf
   good = accepted t ok
 
   abbrev n : ℕ
@@ -68,28 +69,36 @@ module _ (t : List ℕ) (ok : refusal t ≡ 0) (few : planOf t .g ≤ mostAside)
   P = planOf t
 
   sounds : All (Sound (n + P .g) (P .info)) (P .list)
+  unfolding planOf numbersOf
   sounds = well-formed n (checks t) (good .distinct) (good .low)
 
   fits : n + P .g ≤ 4096
+  unfolding planOf numbersOf
   fits = let a = good .few-places in omega arith
 
   -- reading back
   pub own-info : infoIn (numbersOf t) ≡ P .info
+  unfolding planOf numbersOf
   own-info = info-back n (size t) P
 
   pub own-count : stepCount (numbersOf t) ≡ length (P .list)
+  unfolding planOf numbersOf
   own-count = count-back n (size t) P
 
   pub own-length : length (numbersOf t) ≡ 7 + length (P .info) + length (P .list)
+  unfolding planOf numbersOf
   own-length = words-length n (size t) P
 
   pub own-steps : stepsOf (numbersOf t) ≡ P .list
+  unfolding planOf numbersOf
   own-steps = ap unpackAll (steps-back n (size t) P) ∙ unpacked (n + P .g) (P .info) fits sounds
 
   pub own-places : infoCount (numbersOf t) ≡ n - P .M
+  unfolding planOf numbersOf
   own-places = info-number n (checks t) (good .distinct) (good .low)
 
   counts : badCounts (numbersOf t) ≡ false
+  unfolding planOf numbersOf
   counts =
       let a = own-length in let b = own-count in let c = own-places in
       let g1 = good .few-places in let g2 = good .few-checks in
@@ -112,10 +121,12 @@ module _ (t : List ℕ) (ok : refusal t ≡ 0) (few : planOf t .g ≤ mostAside)
 
   -- "the planner's own plan is well-formed"
   pub own-well-formed : wellFormed (numbersOf t) ≡ true
+  unfolding planOf numbersOf
   own-well-formed = and-yes (ap not counts)
       (and-yes (ap (rising n 0) own-info ∙ up-rising n (info-up n (checks t)) (info-low n (checks t) (good .distinct) (good .low)))
       (ap₂ (λ I l. allPass (λ x. goodStep (n + P .g) I (unpack x)) l) own-info (steps-back n (size t) P) ∙ steps-good (n + P .g) (P .info) fits sounds))
 
   -- so that the encoder never refuses it with 9
   pub own-accepted : planRefusal (numbersOf t) ≡ 0
+  unfolding planOf numbersOf
   own-accepted = ap (λ b. cond b 0 9) own-well-formed

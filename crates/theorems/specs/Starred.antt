@@ -78,5 +78,5 @@ starred =
     ∷ []
 
 pub starred-cases : map (λ c. c .given) starred ≡ map (λ c. c .paper) starred
-unfolding planningRefusal encodeRefusal repairRefusal
+unfolding planningRefusal encodeRefusal repairRefusal planOf numbersOf
 starred-cases = refl

@@ -20,7 +20,7 @@ returns : tie.Need-returns
 returns c = let kept = isMarked (c .before .before .before .before .before .args .marks .now) in rw (c .before .before .x2 .given .1) (add-outside (c .before .before .before .before .before .args .k) kept _ _ (c .if1 .taken))
 
 returns-2 : tie.Need-returns-2
-returns-2 c = let kept = isMarked (c .before .before .before .before .before .before .args .marks .now) in rw (c .before .before .before .x2 .given .1) (add-itself (c .before .before .before .before .before .before .args .k) kept _ _ (c .if2 .taken))
+returns-2 c = let kept = isMarked (c .before .before .before .before .before .before .args .marks .now) in let x = c .before .before .before .x2 .given in rw (x .1) (add-itself (c .before .before .before .before .before .before .args .k) kept (x .0 .0) (x .0 .1 .0) (omega arith))
 
 may-write-requires-2 : tie.Need-may-write-requires-2
 may-write-requires-2 c κs = search needs

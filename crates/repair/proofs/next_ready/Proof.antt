@@ -18,10 +18,10 @@ use Rattle.repair.proofs.lost_in.Reads as lost-in-reads
 use Rattle.table.proofs.wide.Reads as wide-reads
 
 abbrev Inv-loop : tie.InvT-loop
-Inv-loop t m n s starts map j₀ j = (j ≤ m) × (readyNumber map (checks t) ≡ j + readyNumber map (drop j (checks t)))
+Inv-loop t m n s starts map lowest₀ lowest = (lowest ≤ m) × (readyNumber map (checks t) ≡ lowest + readyNumber map (drop lowest (checks t)))
 
 abbrev μ-loop : tie.MeasureT-loop
-μ-loop t m n s starts map j₀ j = m - j
+μ-loop t m n s starts map lowest₀ lowest = m - lowest
 
 -- src/lib.rt:105:5
 loop-holds : tie.Need-loop-holds Inv-loop μ-loop
@@ -60,7 +60,7 @@ lost-in-requires : tie.Need-lost-in-requires Inv-loop μ-loop
 lost-in-requires c κs =
     let p = c .before .before .before .before .before .before .before .before .before .pre in
     let h = c .before .before .before .before .loop-test .taken in
-    places-at _ _ _ _ (p .0) (c .before .before .before .before .before .loop .j) h _ _ (c .before .before .wide .ensures ∙ p .1 .each _ h) (c .wide2 .ensures) _ (p .2)
+    places-at _ _ _ _ (p .0) (c .before .before .before .before .before .loop .lowest) h _ _ (c .before .before .wide .ensures ∙ p .1 .each _ h) (c .wide2 .ensures) _ (p .2)
 
 -- src/lib.rt:107:13
 returns : tie.Need-returns Inv-loop μ-loop
@@ -69,13 +69,13 @@ returns c =
     let a = c .before .before .before .before .before .before .before .before .before .before .before .args in
     let s = c .before .before .before .before .before .before .before .loop in
     let more = c .before .before .before .before .before .before .loop-test .taken in
-    let z = check-is (a .t .now) _ _ _ (p .0) (s .j) more _ _ (c .before .before .before .before .wide .ensures ∙ p .1 .each _ more) (c .before .before .wide2 .ensures) in
-    let h = ready-hit (a .map .now) (checks (a .t .now)) (s .j) (rw (check-count _ _ _ _ (p .0)) more) (sym (c .before .lost-in .ensures ∙ ap (λ l. length (lostPlaces (a .map .now) l)) z) ∙ c .if1 .taken) in
+    let z = check-is (a .t .now) _ _ _ (p .0) (s .lowest) more _ _ (c .before .before .before .before .wide .ensures ∙ p .1 .each _ more) (c .before .before .wide2 .ensures) in
+    let h = ready-hit (a .map .now) (checks (a .t .now)) (s .lowest) (rw (check-count _ _ _ _ (p .0)) more) (sym (c .before .lost-in .ensures ∙ ap (λ l. length (lostPlaces (a .map .now) l)) z) ∙ c .if1 .taken) in
     omega arith
 
 -- src/lib.rt:109:9
-add-j : tie.Need-add-j Inv-loop μ-loop
-add-j c = omega arith
+add-lowest : tie.Need-add-lowest Inv-loop μ-loop
+add-lowest c = omega arith
 
 -- src/lib.rt:105:5
 loop-less : tie.Need-loop-less Inv-loop μ-loop
@@ -88,8 +88,8 @@ loop-again c =
     let a = c .before .before .before .before .before .before .before .before .before .before .before .args in
     let s = c .before .before .before .before .before .before .before .loop in
     let more = c .before .before .before .before .before .before .loop-test .taken in
-    let z = check-is (a .t .now) _ _ _ (p .0) (s .j) more _ _ (c .before .before .before .before .wide .ensures ∙ p .1 .each _ more) (c .before .before .wide2 .ensures) in
-    let h = ready-miss (a .map .now) (checks (a .t .now)) (s .j) (rw (check-count _ _ _ _ (p .0)) more) (λ e. c .if1 .left (c .before .lost-in .ensures ∙ ap (λ l. length (lostPlaces (a .map .now) l)) z ∙ e)) in
+    let z = check-is (a .t .now) _ _ _ (p .0) (s .lowest) more _ _ (c .before .before .before .before .wide .ensures ∙ p .1 .each _ more) (c .before .before .wide2 .ensures) in
+    let h = ready-miss (a .map .now) (checks (a .t .now)) (s .lowest) (rw (check-count _ _ _ _ (p .0)) more) (λ e. c .if1 .left (c .before .lost-in .ensures ∙ ap (λ l. length (lostPlaces (a .map .now) l)) z ∙ e)) in
     (omega arith, omega arith)
 
 -- src/lib.rt:100:1
@@ -98,7 +98,7 @@ returns-2 c =
     let p = c .before .before .before .before .before .pre in
     let a = c .before .before .before .before .before .args in
     let s = c .before .loop in
-    let h = ready-end (a .map .now) (checks (a .t .now)) (s .j) (rw (check-count _ _ _ _ (p .0)) (c .loop-test .left)) in
+    let h = ready-end (a .map .now) (checks (a .t .now)) (s .lowest) (rw (check-count _ _ _ _ (p .0)) (c .loop-test .left)) in
     omega arith
 
 pub next-ready-spec : {M : Type 1} → statement M
@@ -117,7 +117,7 @@ next-ready-spec =
     wide-requires-2
     lost-in-requires
     returns
-    add-j
+    add-lowest
     loop-less
     loop-again
     returns-2)

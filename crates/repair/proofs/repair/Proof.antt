@@ -13,7 +13,7 @@ use Rattle.repair.proofs.repair.Statement.{statement}
 use Rattle.repair.proofs.repair.Tie as tie
 use Rattle.repair.proofs.repair.Reads as reads
 use Rattle.repair.proofs.repair.Lts as lts
-use Rattle.repair.proofs.mend.Reads as mend-reads
+use Rattle.repair.proofs.repair_packets.Reads as repair-packets-reads
 use Rattle.repair.proofs.over_one.Reads as over-one-reads
 use Rattle.repair.proofs.refused.Reads as refused-reads
 use Rattle.table.proofs.look_over.Reads as look-over-reads
@@ -106,8 +106,8 @@ wide-requires-3 : tie.Need-wide-requires-3
 wide-requires-3 c κs = search needs
 
 -- src/lib.rt:303:5
-mend-requires : tie.Need-mend-requires
-mend-requires c κs =
+repair-packets-requires : tie.Need-repair-packets-requires
+repair-packets-requires c κs =
     let a = c .before .before .before .before .before .before .before .before .before .before .before .before .before .before .before .before .before .before .args in (
       table-of (a .t .now) _ _ _ _ (c .before .before .before .before .before .before .before .before .before .before .before .before .before .before .look-over .ensures) (c .before .before .before .before .before .before .before .before .before .before .before .before .before .if1 .left) (c .before .before .wide3 .ensures) (c .before .before .before .before .before .before .before .before .before .before .before .wide .ensures) (c .before .before .before .before .before .before .before .before .before .wide2 .ensures),
       fitting (a .t .now) (a .block .now) (a .map .now) _ _ _ (c .before .before .before .before .before .before .before .before .before .before .before .before .before .before .look-over .ensures) (c .before .before .before .before .before .before .before .before .before .before .before .before .before .if1 .left) (c .before .before .before .before .before .before .before .before .before .before .before .wide .ensures) (c .before .before .before .before .before .before .before .before .before .wide2 .ensures) (c .before .before .before .before .before .before .before .before .if2 .left) (c .before .before .before .before .before .before .before .if3 .left) _ (c .before .before .before .before .before .over-one .ensures) (c .before .before .before .before .if4 .left),
@@ -147,7 +147,7 @@ repair-spec =
     returns-4
     shared-slice-read-wide-3
     wide-requires-3
-    mend-requires
+    repair-packets-requires
     same-length-2
     same-length-3
     returns-5)

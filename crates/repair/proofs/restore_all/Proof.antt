@@ -121,7 +121,7 @@ sub-adds c =
     let weight = c .before .before .before .before .before .before .before .before .before .wide .ensures in
     let number = c .before .before .before .before .before .before .before .before .before .before .before .before .next-ready .ensures in
     let more = c .before .before .before .before .before .before .before .before .before .before .before .if1 .left in
-    next-some (a .t .now) (a .m) (a .n) (a .s) (p .0) _ _ number more (a .starts .now) (p .1) _ _ at weight
+    omega (arith, next-some (a .t .now) (a .m) (a .n) (a .s) (p .0) _ _ number more (a .starts .now) (p .1) _ _ at weight)
 
 -- src/lib.rt:238:9
 add-adds : tie.Need-add-adds Inv-loop μ-loop

@@ -8,10 +8,10 @@ use mathlib.Core.Logic.{⊎-elim}
 use native.Mathlib.Omega.{arith}
 use lib.ListN.{length, getD, set, take, drop, length-set}
 use borrow.Author.Needs.{needs}
-use Rattle.repair.proofs.mend.Statement.{statement}
-use Rattle.repair.proofs.mend.Tie as tie
-use Rattle.repair.proofs.mend.Reads as reads
-use Rattle.repair.proofs.mend.Lts as lts
+use Rattle.repair.proofs.repair_packets.Statement.{statement}
+use Rattle.repair.proofs.repair_packets.Tie as tie
+use Rattle.repair.proofs.repair_packets.Reads as reads
+use Rattle.repair.proofs.repair_packets.Lts as lts
 use Rattle.repair.proofs.accepted.Reads as accepted-reads
 use Rattle.repair.proofs.agrees.Reads as agrees-reads
 use Rattle.repair.proofs.refused.Reads as refused-reads
@@ -117,8 +117,8 @@ returns-2 c =
     let e = c .refused .ensures in
     answer-contradicted (a .t .now) (a .m) (a .n) (a .s) (p .0) (a .block .now) (a .map .now) (p .1) _ (c .before .before .before .before .before .before .before .before .before .before .before .before .before .before .before .before .before .before .before .before .before .before .before .before .zero-lost .ensures) _ _ _ (c .before .before .before .before .before .before .before .before .before .before .before .before .before .before .before .before .before .before .restore-all .ensures) _ (c .before .before .before .before .before .before .before .before .before .before .before .agrees .ensures) (c .before .before .before .before .before .before .before .before .before .before .if1 .left) _ _ (c .before .before .before .before .before .before .before .before .unmark .ensures) (c .before .before .before .zero-lost2 .ensures) _ (e .0) (e .1) (e .2) (e .3)
 
-pub mend-spec : {M : Type 1} → statement M
-mend-spec =
+pub repair-packets-spec : {M : Type 1} → statement M
+repair-packets-spec =
     tie.close
     (tie.spec
     slice-aggregate-fill-starts

@@ -1,0 +1,97 @@
+//! Repairs a block that lost three packets, then verifies it.
+
+#[repr(C)]
+struct Repaired {
+    refusal: u32,
+    restored: u32,
+    lost: u32,
+    additions: u32,
+}
+
+#[repr(C)]
+struct Verified {
+    refusal: u32,
+    codeword: u32,
+    check: u32,
+}
+
+#[repr(C)]
+struct Part {
+    refusal: u32,
+    start: usize,
+    length: usize,
+}
+
+#[link(name = "receiver", kind = "static")]
+extern "C" {
+    fn bs_repair(
+        table: *const u16,
+        table_len: usize,
+        block: *mut u8,
+        block_len: usize,
+        map: *mut u8,
+        map_len: usize,
+    ) -> Repaired;
+    fn bs_verify(table: *const u16, table_len: usize, block: *const u8, block_len: usize)
+        -> Verified;
+    fn bs_packet(n: usize, s: usize, place: usize, block: *const u8, block_len: usize) -> Part;
+}
+
+/// Restores lost packets; the numbers of restored and still lost places and
+/// of additions, or the refusal.
+fn repair(table: &[u16], block: &mut [u8], map: &mut [u8]) -> Result<(u32, u32, u32), u32> {
+    let r = unsafe {
+        bs_repair(
+            table.as_ptr(),
+            table.len(),
+            block.as_mut_ptr(),
+            block.len(),
+            map.as_mut_ptr(),
+            map.len(),
+        )
+    };
+    if r.refusal == 0 {
+        Ok((r.restored, r.lost, r.additions))
+    } else {
+        Err(r.refusal)
+    }
+}
+
+/// None for a codeword, else the lowest check that fails; or the refusal.
+fn verify(table: &[u16], block: &[u8]) -> Result<Option<u32>, u32> {
+    let v = unsafe { bs_verify(table.as_ptr(), table.len(), block.as_ptr(), block.len()) };
+    match (v.refusal, v.codeword) {
+        (0, 1) => Ok(None),
+        (0, _) => Ok(Some(v.check)),
+        (refusal, _) => Err(refusal),
+    }
+}
+
+/// The packet of one place, or the refusal.
+fn packet(n: usize, s: usize, place: usize, block: &[u8]) -> Result<&[u8], u32> {
+    let part = unsafe { bs_packet(n, s, place, block.as_ptr(), block.len()) };
+    if part.refusal == 0 {
+        Ok(&block[part.start..part.start + part.length])
+    } else {
+        Err(part.refusal)
+    }
+}
+
+fn main() {
+    // Seven packets of one byte, three checks of four places each.
+    let table = [2, 7, 1, 3, 4, 4, 4, 12, 0, 2, 4, 6, 1, 2, 5, 6, 3, 4, 5, 6];
+    let sent = [0x01, 0x02, 0x04, 0x0e, 0x08, 0x0b, 0x0d];
+
+    // Places 3, 5 and 6 didn't arrive.
+    let mut block = [0x01, 0x02, 0x04, 0, 0x08, 0, 0];
+    let mut map = [0, 0, 0, 1, 0, 1, 1];
+
+    let repaired = repair(&table, &mut block, &mut map);
+    let verified = verify(&table, &block);
+    let fifth = packet(7, 1, 5, &block);
+    if repaired != Ok((3, 0, 9)) || block != sent || verified != Ok(None) || fifth != Ok(&[0x0b]) {
+        println!("receiver.rs: wrong: {repaired:?}, {block:02x?}, {verified:?}, {fifth:?}");
+        std::process::exit(1);
+    }
+    println!("receiver.rs: 3 restored, 0 lost, 9 additions; packet 5 is {:02x}", block[5]);
+}

@@ -1,0 +1,105 @@
+//! Plans a table once, then encodes a block of it.
+
+#[repr(C)]
+struct Planned {
+    refusal: u32,
+    length: u32,
+    kept: u32,
+    ones: u32,
+    gap: u32,
+    additions: u32,
+}
+
+#[repr(C)]
+struct Encoded {
+    refusal: u32,
+    additions: u32,
+}
+
+#[link(name = "uplink", kind = "static")]
+extern "C" {
+    fn bs_plan(
+        table: *const u16,
+        table_len: usize,
+        plan: *mut u32,
+        plan_len: usize,
+        work: *mut u64,
+        work_len: usize,
+    ) -> Planned;
+    fn bs_encode(
+        plan: *const u32,
+        plan_len: usize,
+        information: *const u8,
+        information_len: usize,
+        block: *mut u8,
+        block_len: usize,
+        scratch: *mut u8,
+        scratch_len: usize,
+        limit: usize,
+    ) -> Encoded;
+}
+
+/// The plan of a table with its counts, or the refusal.
+fn plan(table: &[u16]) -> Result<(Vec<u32>, Planned), u32> {
+    let mut plan = vec![0u32; 15_360];
+    let mut work = vec![0u64; 8_192];
+    let planned = unsafe {
+        bs_plan(
+            table.as_ptr(),
+            table.len(),
+            plan.as_mut_ptr(),
+            plan.len(),
+            work.as_mut_ptr(),
+            work.len(),
+        )
+    };
+    if planned.refusal != 0 {
+        return Err(planned.refusal);
+    }
+    plan.truncate(planned.length as usize);
+    Ok((plan, planned))
+}
+
+/// The block of some information packets, or the refusal.
+fn encode(plan: &[u32], information: &[u8]) -> Result<(Vec<u8>, u32), u32> {
+    // A plan starts with 4, n, s, g.
+    let (n, s, g) = (plan[1] as usize, plan[2] as usize, plan[3] as usize);
+    let mut block = vec![0u8; n * s];
+    let mut scratch = vec![0u8; g * s];
+    let encoded = unsafe {
+        bs_encode(
+            plan.as_ptr(),
+            plan.len(),
+            information.as_ptr(),
+            information.len(),
+            block.as_mut_ptr(),
+            block.len(),
+            scratch.as_mut_ptr(),
+            scratch.len(),
+            usize::MAX,
+        )
+    };
+    if encoded.refusal == 0 {
+        Ok((block, encoded.additions))
+    } else {
+        Err(encoded.refusal)
+    }
+}
+
+fn main() {
+    // Four packets of two bytes; three checks of three places each, of which
+    // one is set aside.
+    let table = [2, 4, 2, 3, 3, 3, 3, 9, 0, 1, 2, 0, 1, 3, 0, 2, 3];
+    let (plan, planned) = plan(&table).unwrap_or_else(|refusal| {
+        println!("uplink.rs: planning refused with {refusal}");
+        std::process::exit(1);
+    });
+    let encoded = encode(&plan, &[0xa5, 0x5a]);
+    let block = vec![0, 0, 0xa5, 0x5a, 0xa5, 0x5a, 0xa5, 0x5a];
+    let counts = (planned.kept, planned.ones, planned.gap, planned.additions);
+    if encoded != Ok((block, 9)) || counts != (3, 9, 1, 9) {
+        println!("uplink.rs: wrong: {encoded:02x?}, {counts:?}");
+        std::process::exit(1);
+    }
+    println!("uplink.rs: {} checks kept, gap {}, 9 additions", planned.kept, planned.gap);
+}

@@ -1,0 +1,88 @@
+/* Receiver: repair and verification of sparse-check blocks.
+ *
+ * A block is n packets of s bytes, at places 0 to n - 1. A check is a set of
+ * places; the block is a codeword if the packets of each check sum to zero
+ * (bytewise exclusive-or). The table of checks is made of 16-bit numbers:
+ *
+ *     2, n, s,   m, the m weights,   W0, the W0 places, check by check,
+ *                                    ascending within a check
+ *
+ * n and s are 1 to 1,024, m at most 512, a weight at most 64, W0 at most
+ * 6,144. Checks are numbered from 0.
+ *
+ * No call writes a byte that isn't named here. Lengths count elements, not
+ * bytes. Buffers lent to one call don't overlap, and a pointer isn't null even
+ * where its length is 0.
+ *
+ * refusal is 0 if the call was accepted. A refused call gives 0 in all other
+ * fields and, where nothing else is said, leaves its buffers as they were:
+ *
+ *      1  a table of fewer than 5 words
+ *      2  first word not 2, or n, s or m beyond its limits
+ *      3  too few words for the weights, a weight over 64, W0 over 6,144 or
+ *         not the sum of the weights, or a table of wrong length
+ *      4  a place not below n, or not ascending in its check
+ *      5  a buffer of wrong length
+ *      7  a byte of the lost map over 1
+ *      8  the received packets contradict each other
+ *     10  a place not below n in bs_packet
+ *
+ * Of several causes the one with the lowest number is given.
+ */
+#ifndef BS_RECEIVER_H
+#define BS_RECEIVER_H
+
+#include <stddef.h>
+#include <stdint.h>
+
+#ifdef __cplusplus
+extern "C" {
+#endif
+
+typedef struct {
+    uint32_t refusal;
+    uint32_t restored;  /* places restored */
+    uint32_t lost;      /* places still lost */
+    uint32_t additions; /* packets added: weight - 1 for each check used */
+} bs_repaired;
+
+/* Restores lost packets. block has n * s bytes. map has n bytes: 0 received,
+ * 1 lost. While some check has exactly one lost place, the lowest such check
+ * restores it. What stays lost is the largest stopping set. Bytes that lie at
+ * lost places beforehand don't count.
+ *
+ * Accepted: map bytes of restored places become 2, their packets are in the
+ * block, and places still lost hold zero bytes. Received places are kept.
+ * Refusals: 1 to 5, 7 and 8. After 8 every place that map says is lost holds
+ * zero bytes; map and received places are kept. */
+bs_repaired bs_repair(const uint16_t *table, size_t table_len,
+                      uint8_t *block, size_t block_len,
+                      uint8_t *map, size_t map_len);
+
+typedef struct {
+    uint32_t refusal;
+    uint32_t codeword; /* 1 if the block is a codeword, else 0 */
+    uint32_t check;    /* the lowest check that fails; 0 if none does */
+} bs_verified;
+
+/* Says whether a block of n * s bytes is a codeword. Writes nothing.
+ * Refusals: 1 to 5. */
+bs_verified bs_verify(const uint16_t *table, size_t table_len,
+                      const uint8_t *block, size_t block_len);
+
+typedef struct {
+    uint32_t refusal;
+    size_t start;  /* where the packet starts in the block */
+    size_t length; /* its bytes: s; 0 if refused */
+} bs_part;
+
+/* Where the packet of one place lies in a block of n * s bytes. Writes
+ * nothing. Refusals: 2, 5 and 10. */
+bs_part bs_packet(size_t n, size_t s, size_t place,
+                  const uint8_t *block, size_t block_len);
+
+#ifdef __cplusplus
+}
+#endif
+
+#endif

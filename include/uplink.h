@@ -1,0 +1,95 @@
+/* Uplink: planning and encoding of sparse-check blocks.
+ *
+ * A block is n packets of s bytes, at places 0 to n - 1. A check is a set of
+ * places; the block is a codeword if the packets of each check sum to zero
+ * (bytewise exclusive-or). The table of checks is made of 16-bit numbers:
+ *
+ *     2, n, s,   m, the m weights,   W0, the W0 places, check by check,
+ *                                    ascending within a check
+ *
+ * n and s are 1 to 1,024, m at most 512, a weight at most 64, W0 at most
+ * 6,144.
+ *
+ * The planner turns a table into a plan once; the encoder carries out the
+ * plan for each block. A plan is made of 32-bit numbers:
+ *
+ *     4, n, s, g, M,   n - M, the information places, ascending,
+ *     the count of steps, the steps
+ *
+ * A step is kind * 16,777,216 + to * 4,096 + from. Kind 0 clears slot to
+ * (from is 0), kind 1 adds slot from into slot to. Slots 0 to n - 1 are the
+ * places of the block, n to n + g - 1 those of the scratch.
+ *
+ * No call writes a byte that isn't named here. Lengths count elements, not
+ * bytes. Buffers lent to one call don't overlap, and a pointer isn't null even
+ * where its length is 0.
+ *
+ * refusal is 0 if the call was accepted. A refused call gives 0 in all other
+ * fields and, where nothing else is said, leaves its buffers as they were:
+ *
+ *      1  a table of fewer than 5 words
+ *      2  first word not 2, or n, s or m beyond its limits
+ *      3  too few words for the weights, a weight over 64, W0 over 6,144 or
+ *         not the sum of the weights, or a table of wrong length
+ *      4  a place not below n, or not ascending in its check
+ *      5  a buffer of wrong length
+ *      6  more than 32 checks set aside
+ *      9  a plan that isn't well-formed: wrong counts or length, n, s, g, M
+ *         or the count of steps beyond limits, places not ascending below n,
+ *         or a step that names no slot, adds a slot into itself, clears with
+ *         from above 0, has an unknown kind or writes an information place
+ *
+ * Of several causes the one with the lowest number is given, but 9 before 5.
+ */
+#ifndef BS_UPLINK_H
+#define BS_UPLINK_H
+
+#include <stddef.h>
+#include <stdint.h>
+
+#ifdef __cplusplus
+extern "C" {
+#endif
+
+#define BS_PLAN_WORDS 15360 /* least length of the planner's plan buffer */
+#define BS_WORK_WORDS 8192  /* length of the planner's work buffer */
+
+typedef struct {
+    uint32_t refusal;
+    uint32_t length;    /* words of the plan */
+    uint32_t kept;      /* M: checks kept, so n - M packets of information */
+    uint32_t ones;      /* W: places in the kept checks */
+    uint32_t gap;       /* g: checks set aside, packets of scratch */
+    uint32_t additions; /* add steps of the plan */
+} bs_planned;
+
+/* Plans a table. plan_len is at least BS_PLAN_WORDS; the plan's length is
+ * written, the rest kept. work_len is exactly BS_WORK_WORDS; work may hold
+ * anything, and is all zero after planning.
+ * Refusals: 1 to 6. After 6 the plan is kept and work is all zero. */
+bs_planned bs_plan(const uint16_t *table, size_t table_len,
+                   uint32_t *plan, size_t plan_len,
+                   uint64_t *work, size_t work_len);
+
+typedef struct {
+    uint32_t refusal;
+    uint32_t additions; /* add steps carried out */
+} bs_encoded;
+
+/* Encodes one block by a plan. plan_len is exactly the plan's length,
+ * information has (n - M) * s bytes, block n * s, scratch g * s. At most
+ * limit steps are carried out; a limit at or above the count of steps, such
+ * as SIZE_MAX, means all of them. What block and scratch hold beforehand
+ * doesn't count.
+ * Refusals: 9 and 5. */
+bs_encoded bs_encode(const uint32_t *plan, size_t plan_len,
+                     const uint8_t *information, size_t information_len,
+                     uint8_t *block, size_t block_len,
+                     uint8_t *scratch, size_t scratch_len,
+                     size_t limit);
+
+#ifdef __cplusplus
+}
+#endif
+
+#endif
