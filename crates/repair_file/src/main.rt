@@ -10,12 +10,9 @@ const MOST_MAP: usize = 1024;
 
 fn print_counts(answer: Repaired) {
     let mut line = [0u8; 128];
-    let at = text::put(&mut line, 0, b"restored ");
-    let at = text::put_number(&mut line, at, answer.restored as u64);
-    let at = text::put(&mut line, at, b" lost ");
-    let at = text::put_number(&mut line, at, answer.lost as u64);
-    let at = text::put(&mut line, at, b" additions ");
-    let at = text::put_number(&mut line, at, answer.additions as u64);
+    let at = text::put_count(&mut line, 0, b"restored ", answer.restored as u64);
+    let at = text::put_count(&mut line, at, b" lost ", answer.lost as u64);
+    let at = text::put_count(&mut line, at, b" additions ", answer.additions as u64);
     let at = text::put(&mut line, at, b"\n");
     io::write_all(libc::STDOUT_FILENO, &line[..at]);
 }
