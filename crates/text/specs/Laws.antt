@@ -1,23 +1,33 @@
 -- Laws of lines, and of bytes and words that were read.
 use mathlib.Core.Path.{_≡_, ap, _∙_, subst}
-use mathlib.Core.List.{List, _++_}
-use Prim.Native.Nat.{ℕ}
-use lib.ListN.{take}
+use mathlib.Core.List.{List, _++_, append-assoc}
+use Prim.Native.Nat.{ℕ, _+_}
+use native.Mathlib.Omega.{arith}
+use lib.ListN.{length, take, length-append}
 use Rattle.io.specs.Counts.{Counts}
 use Rattle.text.specs.declared.Input.{Input}
 use Rattle.text.specs.declared.Input.the-variants.{Bytes}
 use Rattle.text.specs.declared.Read.{Read}
 use Rattle.text.specs.declared.Read.the-variants.{Nothing, Count}
 use Rattle.text.specs.Files.{Held, ReadInto, TakenFrom}
-use Rattle.text.specs.Lines.{Appended}
+use Rattle.text.specs.Lines.{Appended, Line}
 
--- a line's first word
-pub first-word : {line word line' : List ℕ} {r : ℕ} → Appended line 0 word line' r → take r line' ≡ word
-first-word a = a .text
+-- a line of one word
+pub first-word : {line word line' : List ℕ} {r : ℕ} → Appended line 0 word line' r → Line word line' r
+first-word a = record { within = a .within; counts = a .counts; is = a .text }
+
+-- two words after each other
+pub both-words : {line a line' b line'' : List ℕ} {at r q : ℕ} → Appended line at a line' r → Appended line' r b line'' q → Appended line at (a ++ b) line'' q
+both-words {line} {a} {line'} {b} {line''} {at} {r} {q} p n = record {
+  ends = simp length-append (omega (arith, p .ends, n .ends));
+  within = n .within;
+  counts = n .counts;
+  text = n .text ∙ ap (λ (t : List ℕ). t ++ b) (p .text) ∙ append-assoc (take at line) a b;
+}
 
 -- a word more
-pub next-word : {line word line' text : List ℕ} {at r : ℕ} → take at line ≡ text → Appended line at word line' r → take r line' ≡ text ++ word
-next-word {line} {word} e a = a .text ∙ ap (λ (l : List ℕ). l ++ word) e
+pub next-word : {line word line' text : List ℕ} {at r : ℕ} → Line text line at → Appended line at word line' r → Line (text ++ word) line' r
+next-word {line} {word} l a = record { within = a .within; counts = a .counts; is = a .text ∙ ap (λ (t : List ℕ). t ++ word) (l .is) }
 
 -- what was read
 pub held-bytes : {r : Input} {n : ℕ} (buf : List ℕ) → Held r buf → r ≡ Bytes n → Counts n buf

@@ -21,3 +21,9 @@ pub record Appended (line : List ℕ) (at : ℕ) (word line' : List ℕ) (r : �
   pub within : r ≤ length line'
   pub counts : r ≡ length (take r line')
   pub text : take r line' ≡ take at line ++ word
+
+-- the line's first r bytes are the text
+pub record Line (text line : List ℕ) (r : ℕ) : Type 0 where
+  pub within : r ≤ length line
+  pub counts : r ≡ length (take r line)
+  pub is : take r line ≡ text

@@ -1,5 +1,6 @@
 // Lines of text, and the files that a program's arguments name.
 ghost use mathlib.Core.Path.{_≡_};
+ghost use mathlib.Core.List.{_++_};
 ghost use Prim.Native.Nat.{_+_, _*_, _≤_};
 ghost use lib.ListN.{length, getD};
 ghost use Rattle.text.specs.Lines.{Appended, decimal};
@@ -49,11 +50,19 @@ pub fn put_number(line: &mut [u8], at: usize, x: u64) -> usize
     put(line, at, &digits[..k])
 }
 
+// A word and a number, likewise.
+pub fn put_count(line: &mut [u8], at: usize, word: &[u8], x: u64) -> usize
+    requires { ⌜ at + length (now word) + 20 ≤ length (now line) ⌝ }
+    ensures { λ r. ⌜ Appended (now (line .entry)) at (now (word .entry) ++ decimal x) (now (line .exit)) r × (r ≤ at + length (now (word .entry)) + 20) ⌝ }
+{
+    let at = put(line, at, word);
+    put_number(line, at, x)
+}
+
 // Prints "refused" and the number.
 pub fn print_refusal(number: u32) {
     let mut line = [0u8; 32];
-    let at = put(&mut line, 0, b"refused ");
-    let at = put_number(&mut line, at, number as u64);
+    let at = put_count(&mut line, 0, b"refused ", number as u64);
     let at = put(&mut line, at, b"\n");
     io::write_all(libc::STDOUT_FILENO, &line[..at]);
 }
@@ -61,10 +70,8 @@ pub fn print_refusal(number: u32) {
 // Says on standard error that an argument's file has too many bytes.
 fn say_overlong(number: usize, most: usize) {
     let mut line = [0u8; 128];
-    let at = put(&mut line, 0, b"argument ");
-    let at = put_number(&mut line, at, number as u64);
-    let at = put(&mut line, at, b": the file has more than ");
-    let at = put_number(&mut line, at, most as u64);
+    let at = put_count(&mut line, 0, b"argument ", number as u64);
+    let at = put_count(&mut line, at, b": the file has more than ", most as u64);
     let at = put(&mut line, at, b" bytes\n");
     io::write_all(libc::STDERR_FILENO, &line[..at]);
 }

@@ -7,8 +7,7 @@ const MOST_BLOCK: usize = 32768;
 
 fn print_fails(check: usize) {
     let mut line = [0u8; 64];
-    let at = text::put(&mut line, 0, b"check ");
-    let at = text::put_number(&mut line, at, check as u64);
+    let at = text::put_count(&mut line, 0, b"check ", check as u64);
     let at = text::put(&mut line, at, b" fails\n");
     io::write_all(libc::STDOUT_FILENO, &line[..at]);
 }

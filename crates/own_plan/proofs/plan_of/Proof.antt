@@ -1,0 +1,23 @@
+-- `own_plan::plan_of` meets its contract.
+use lib.ListN.{replicate}
+use borrow.Author.Needs.{needs}
+use Rattle.own_plan.specs.Own.{accepted-plan}
+use Rattle.own_plan.proofs.plan_of.Statement.{statement}
+use Rattle.own_plan.proofs.plan_of.Tie as tie
+
+slice-aggregate-plan : tie.Need-slice-aggregate-plan
+slice-aggregate-plan c = search needs
+
+plan-requires : tie.Need-plan-requires
+plan-requires c κs = search needs
+
+same-length : tie.Need-same-length
+same-length c = search needs
+
+returns : tie.Need-returns
+returns c =
+    let p = c .before .before .before .plan in
+    record { own = λ z. accepted-plan _ (c .before .before .before .before .before .before .before .before .args .plan .now) (replicate 8192 0) (p .result) _ (p .ensures .0) (p .ensures .1 .0) z }
+
+pub plan-of-spec : {M : Type 1} → statement M
+plan-of-spec = tie.close (tie.spec slice-aggregate-plan plan-requires same-length returns)

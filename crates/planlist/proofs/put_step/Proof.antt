@@ -1,0 +1,41 @@
+-- `planlist::put_step` meets its contract, by the kind of step.
+use borrow.Author.Needs.{needs}
+use Rattle.planlist.proofs.put_step.Statement.{statement}
+use Rattle.planlist.proofs.put_step.Tie as tie
+
+enum-known-x : tie.Need-enum-known-x
+enum-known-x c = search needs
+
+put-clear-requires : tie.Need-put-clear-requires
+put-clear-requires c κs = search needs
+
+enum-known-x-2 : tie.Need-enum-known-x-2
+enum-known-x-2 c = search needs
+
+put-add-requires : tie.Need-put-add-requires
+put-add-requires c κs = search needs
+
+same-length : tie.Need-same-length
+same-length c = search needs
+
+returns : tie.Need-returns
+returns c = rw (c .before .before .before .before .before .x .given .1) (c .before .before .put-clear .ensures)
+
+same-length-2 : tie.Need-same-length-2
+same-length-2 c = search needs
+
+returns-2 : tie.Need-returns-2
+returns-2 c = rw (c .before .before .before .before .before .x2 .given .1) (c .before .before .put-add .ensures)
+
+pub put-step-spec : {M : Type 1} → statement M
+put-step-spec =
+    tie.close
+    (tie.spec
+    enum-known-x
+    put-clear-requires
+    enum-known-x-2
+    put-add-requires
+    same-length
+    returns
+    same-length-2
+    returns-2)

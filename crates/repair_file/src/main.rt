@@ -1,0 +1,56 @@
+// repair_file TABLE BLOCK MAP: restores what it can of the lost packets, and writes block and map
+// back.
+use repair::Repaired;
+use text::Read;
+
+// the most bytes of a block, and of a map: a byte a place
+const MOST_BLOCK: usize = 32768;
+
+const MOST_MAP: usize = 1024;
+
+fn print_counts(answer: Repaired) {
+    let mut line = [0u8; 128];
+    let at = text::put_count(&mut line, 0, b"restored ", answer.restored as u64);
+    let at = text::put_count(&mut line, at, b" lost ", answer.lost as u64);
+    let at = text::put_count(&mut line, at, b" additions ", answer.additions as u64);
+    let at = text::put(&mut line, at, b"\n");
+    io::write_all(libc::STDOUT_FILENO, &line[..at]);
+}
+
+fn repair_block(table: &[u16], block: &mut [u8], map: &mut [u8]) {
+    let answer = repair::repair(table, block, map);
+    if answer.refusal != 0 {
+        text::print_refusal(answer.refusal);
+        return;
+    }
+    if !text::write_argument(2, block) {
+        return;
+    }
+    if text::write_argument(3, map) {
+        print_counts(answer);
+    }
+}
+
+fn repair_files(table: &[u16]) {
+    let mut block = [0u8; MOST_BLOCK];
+    let mut map = [0u8; MOST_MAP];
+    let Read::Count(bytes) = text::read_argument(2, &mut block) else {
+        return;
+    };
+    let Read::Count(places) = text::read_argument(3, &mut map) else {
+        return;
+    };
+    repair_block(table, &mut block[..bytes], &mut map[..places]);
+}
+
+fn main() {
+    if os::arg_count() != 4 {
+        io::write_all(libc::STDERR_FILENO, b"usage: repair_file TABLE BLOCK MAP\n");
+        return;
+    }
+    let mut words = [0u16; text::MOST_WORDS];
+    let Read::Count(n) = text::read_table(text::open_argument(1), &mut words) else {
+        return;
+    };
+    repair_files(&words[..n]);
+}
