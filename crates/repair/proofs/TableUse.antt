@@ -14,12 +14,12 @@ use lib.Seq.{drop-cons}
 use Rattle.gf2.specs.Lists.{sameList}
 use Rattle.gf2.specs.Span.{byBool}
 use Rattle.table.specs.Checks.{offset, check, Places, Checks, CheckIn}
-use Rattle.table.specs.ChecksLaws.{limits, checks-length, checks-at, check-places, weight-small, each-check}
+use Rattle.table.specs.ChecksLaws.{limits, short, offset-all, checks-length, checks-at, check-places, weight-small, each-check}
 use Rattle.table.specs.Packets.{packets, packetSum, lowestNonzero}
 use Rattle.table.specs.SumLaws.{places-in, sum-length, lowest-same, same-lowest}
-use Rattle.table.specs.Table.{places, size, number, checks, refusal}
+use Rattle.table.specs.Table.{places, size, number, onesCount, checks, refusal}
 use Rattle.repair.specs.Repair.{State, lostPlaces, consistent}
-use Rattle.repair.specs.Turns.{TableOf, readyNumber}
+use Rattle.repair.specs.Turns.{TableOf}
 use Rattle.repair.specs.Verify.{zeroSum, failing}
 
 -- what a look at the table and its first words tell
@@ -40,6 +40,10 @@ module _ (t : List ℕ) (m n s : ℕ) (k : TableOf t m n s) where
   pub block-small : n * s ≤ 1048576
   block-small = mul-le-mul few-places few-bytes
 
+  -- the words of a table
+  pub few-words : length t ≤ 6661
+  few-words = short t (k .accepted)
+
   pub few-checks : m ≤ 512
   few-checks = rw (k .number-is) (limits t (k .accepted) .few-checks)
 
@@ -57,6 +61,9 @@ module _ (t : List ℕ) (m n s : ℕ) (k : TableOf t m n s) where
     pub places-at : (l : ℕ) → l ≡ n → Places t a w l
     places-at l e = rw (at, weight, e, k .number-is, k .places-are) (check-places t (k .accepted) j (subst (λ x. j < x) (k .number-is) h))
 
+    pub places-wide : (l : ℕ) → n ≤ l → Places t a w l
+    places-wide l e = let p = places-at n refl in record { room = p .room; below = λ i u. let v = p .below i u in omega arith; rising = p .rising }
+
     pub check-is : take w (drop a t) ≡ getD (checks t) j []
     unfolding check
     check-is = rw (at, weight, k .number-is) (sym (checks-at t (k .accepted) j (subst (λ x. j < x) (k .number-is) h)))
@@ -67,6 +74,14 @@ module _ (t : List ℕ) (m n s : ℕ) (k : TableOf t m n s) where
     pub check-in : (b : List ℕ) → length b ≡ n * s → CheckIn t a w b n s
     check-in b e = places-in t a w b n s (places-at n refl) e
 
+-- the last check ends where the table does
+pub offset-last : (t : List ℕ) (m n s : ℕ) → TableOf t m n s → 5 + m + offset t m ≡ length t
+offset-last t m n s k =
+    let e = k .number-is in
+    let z : offset t m ≡ onesCount t = ap (offset t) e ∙ offset-all t (k .accepted) in
+    let l = limits t (k .accepted) .long in
+    omega arith
+
 -- the next start
 pub offset-none : (t : List ℕ) (m : ℕ) → 5 + m ≡ 5 + m + offset t 0
 unfolding offset
@@ -76,22 +91,9 @@ pub offset-more : (t : List ℕ) (m j a w : ℕ) → a ≡ 5 + m + offset t j �
 unfolding offset
 offset-more t m j a w e f = rw (add-one j) (omega arith)
 
--- ---- the lowest ready check
+-- check j and those after it
 drop-more : (cs : List (List ℕ)) (j : ℕ) → j < length cs → drop j cs ≡ getD cs j [] ∷ drop (j + 1) cs
 drop-more cs j h = rw (add-one, drop-cons cs j [])
-
-pub ready-hit : (lost : List ℕ) (cs : List (List ℕ)) (j : ℕ) → j < length cs → length (lostPlaces lost (getD cs j [])) ≡ 1 → readyNumber lost (drop j cs) ≡ 0
-unfolding readyNumber
-ready-hit lost cs j h e = rw (drop-more cs j h, eq-eqb _ _ e, readyNumber)
-
-pub ready-miss : (lost : List ℕ) (cs : List (List ℕ)) (j : ℕ) → j < length cs → (length (lostPlaces lost (getD cs j [])) ≡ 1 → ⊥)
-    → readyNumber lost (drop j cs) ≡ suc (readyNumber lost (drop (j + 1) cs))
-unfolding readyNumber
-ready-miss lost cs j h e = rw (drop-more cs j h, ne-eqb _ _ e, readyNumber)
-
-pub ready-end : (lost : List ℕ) (cs : List (List ℕ)) (j : ℕ) → length cs ≤ j → readyNumber lost (drop j cs) ≡ 0
-unfolding readyNumber
-ready-end lost cs j h = rw (drop-of-length-le cs h)
 
 -- ---- the lowest check that fails
 pub fail-hit : (s : ℕ) (b cs : List (List ℕ)) (j : ℕ) → j < length cs → zeroSum s b (getD cs j []) ≡ false → failing s b j (drop j cs) ≡ some j

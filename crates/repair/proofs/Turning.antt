@@ -22,13 +22,22 @@ use Rattle.repair.specs.Largest.{lost-most}
 use Rattle.repair.specs.Repair.{State, lostPlaces, ready, restoring}
 use Rattle.repair.specs.RestoringLaws.{lost-inside, ready-one, ready-lost, restoring-enough}
 use Rattle.repair.specs.Stopping.{isLost, first-lost, lostIn, restore-one}
-use Rattle.repair.specs.Turns.{TableOf, Holds, Restored, readyNumber, stateOf, turn}
+use Rattle.repair.specs.Turns.{TableOf, Holds, Restored, stateOf, turn}
 use Rattle.repair.proofs.BlockLaws.{packets-set, bytes-set}
 use Rattle.repair.proofs.TableUse.{check-count, places-at, check-is, light}
+
+-- the number of the lowest check with exactly one lost place; the number of checks if there is none
+unfoldable pub readyNumber : List ℕ → List (List ℕ) → ℕ
+readyNumber lost [] = 0
+readyNumber lost (c ∷ cs) = elim (eqb (length (lostPlaces lost c)) 1) [ true ↦ 0 | false ↦ suc (readyNumber lost cs) ]
 
 -- the one lost place of a check is a place
 pub lost-place-in : (lost c : List ℕ) (n p : ℕ) → length lost ≡ n → length (lostPlaces lost c) ≡ 1 → p ≡ getD (lostPlaces lost c) 0 0 → p < n
 lost-place-in lost c n p long one e = rw (e, ← long) (lost-inside lost _ (first-lost (isLost lost) c one))
+
+-- and lost
+pub lost-place : (lost c : List ℕ) (p : ℕ) → length (lostPlaces lost c) ≡ 1 → p ≡ getD (lostPlaces lost c) 0 0 → isLost lost p ≡ true
+lost-place lost c p one e = rw e (first-lost (isLost lost) c one)
 
 -- ---- by number or by check
 number-least : (lost : List ℕ) (cs : List (List ℕ)) → readyNumber lost cs ≤ length cs
@@ -117,7 +126,7 @@ module _ (n s : ℕ) (cs : List (List ℕ)) (b₀ l₀ b l : List ℕ) (adds : �
   }
 
 -- ---- the ready check as the code has it
-filter-less : (f : ℕ → Bool) (c : List ℕ) → length (filter f c) ≤ length c
+pub filter-less : (f : ℕ → Bool) (c : List ℕ) → length (filter f c) ≤ length c
 filter-less f [] = omega arith
 filter-less f (x ∷ c) = let h = filter-less f c in byBool (f x) (λ e. rw e (omega arith)) (λ e. rw e (omega arith))
 

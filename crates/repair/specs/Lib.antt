@@ -1,4 +1,5 @@
 pub mod Largest
+pub mod Linked
 pub mod Repair
 pub mod RepairLaws
 pub mod RepairTheorems

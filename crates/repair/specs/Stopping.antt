@@ -41,6 +41,10 @@ filter-first f g (x ∷ c) l e h = byBool (f x)
     (λ t. byBool (g x) (λ k. absurd (true≢false (sym (h x k) ∙ t)))
     (λ k. rw (k, filter) (filter-first f g c (rw (t, filter) at l) (rw (t, filter) at e) h)))
 
+-- the lowest ready check is the one taken
+pub ready-lowest : (lost c : List ℕ) (cs : List (List ℕ)) → length (lostPlaces lost c) ≡ 1 → ready lost (c ∷ cs) ≡ some c
+ready-lowest lost c cs h = let e : eqb (length (lostPlaces lost c)) 1 ≡ true = ap (λ x. eqb x 1) h in rw (e, ready)
+
 pub ready-all : {P : List ℕ → Type 0} (lost : List ℕ) {cs : List (List ℕ)} → All P cs → (c : List ℕ) → ready lost cs ≡ some c → P c × (length (lostPlaces lost c) ≡ 1)
 ready-all lost nil c e = absurd (let z : _≡_ {A = ℕ} 0 1 = cc in omega arith)
 ready-all {P} lost (cons {x = x} {l = cs} p a) c e = byBool (eqb (length (lostPlaces lost x)) 1)

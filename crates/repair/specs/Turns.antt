@@ -1,6 +1,6 @@
--- What the parts of repair are: a turn, the number of the lowest ready check, marks taken back.
+-- What the parts of repair are: a turn, all turns, marks taken back.
 use mathlib.Core.Path.{_≡_}
-use mathlib.Core.Bool.{Bool, true, false, cond}
+use mathlib.Core.Bool.{cond}
 use mathlib.Core.List.{List, [], _∷_, map}
 use Prim.Native.Nat.{ℕ, zero, suc, _+_, _-_, _≤_}
 use lib.Dec.{eqb}
@@ -37,11 +37,6 @@ pub record Restored (n s : ℕ) (cs : List (List ℕ)) (b lost b′ lost′ : Li
   pub holds : Holds (restoring n s cs (stateOf s n b lost 0)) b′ lost′
   pub adds-are : adds ≡ restoring n s cs (stateOf s n b lost 0) .adds
   pub few : adds ≤ 64512
-
--- the number of the lowest check with exactly one lost place; the number of checks if there is none
-unfoldable pub readyNumber : List ℕ → List (List ℕ) → ℕ
-readyNumber lost [] = 0
-readyNumber lost (c ∷ cs) = elim (eqb (length (lostPlaces lost c)) 1) [ true ↦ 0 | false ↦ suc (readyNumber lost cs) ]
 
 -- 1 for every 2
 unfoldable pub unmarked : List ℕ → List ℕ

@@ -1,16 +1,20 @@
 // The receiver: verification and repair.
 use table::wide;
 ghost use mathlib.Core.Path.{_≡_};
+ghost use mathlib.Core.Bool.{cond};
+ghost use mathlib.Core.List.{List, _∷_};
 ghost use Prim.Native.Nat.{ℕ, _+_, _*_, _≤_, _<_};
 ghost use lib.Dec.{ltb};
 ghost use lib.ListN.{length, getD, take, drop};
+ghost use Rattle.gf2.specs.Places.{has};
 ghost use Rattle.gf2.specs.Span.{anyOf};
-ghost use Rattle.table.specs.Checks.{Places, Starts};
+ghost use Rattle.table.specs.Checks.{check, Places, Starts};
 ghost use Rattle.table.specs.Packets.{packets, joined};
 ghost use Rattle.table.specs.Table.{checks};
+ghost use Rattle.repair.specs.Linked.{Links, Linked, Counted, Walk, Walked, LowestOne, holders};
 ghost use Rattle.repair.specs.Repair.{lostPlaces, tally, zeroLost, consistent, restoring, Answers};
 ghost use Rattle.repair.specs.RepairLaws.{Fitting};
-ghost use Rattle.repair.specs.Turns.{TableOf, Holds, Restored, readyNumber, stateOf, turn, unmarked};
+ghost use Rattle.repair.specs.Turns.{TableOf, Holds, Restored, stateOf, turn, unmarked};
 ghost use Rattle.repair.specs.Verify.{failing, verdict, verification};
 
 // What verification says: a refusal, a codeword, or the lowest check that fails.
@@ -144,21 +148,6 @@ fn first_lost(t: &[u16], at: usize, weight: usize, map: &[u8]) -> usize
     0
 }
 
-// the number of the lowest check with exactly one lost place, m if there is none
-fn next_ready(t: &[u16], m: usize, n: usize, s: usize, starts: &[u16], map: &[u8]) -> usize
-    requires { ⌜ TableOf (now t) m n s × Starts (now t) m (now starts) × (length (now map) ≡ n) ⌝ }
-    ensures { λ r. ⌜ r ≡ readyNumber (now (map .entry)) (checks (now (t .entry))) ⌝ }
-{
-    let mut lowest = 0;
-    while lowest < m {
-        if lost_in(t, wide(starts[lowest]), wide(t[4 + lowest]), map) == 1 {
-            return lowest;
-        }
-        lowest += 1;
-    }
-    m
-}
-
 // ---- the block
 
 // zero bytes at every lost place
@@ -195,9 +184,111 @@ fn agrees(t: &[u16], m: usize, n: usize, s: usize, block: &[u8], map: &[u8]) -> 
     true
 }
 
+// ---- counts and chains
+
+// the number of lost places of each check
+fn count_all(t: &[u16], m: usize, n: usize, s: usize, starts: &[u16], map: &[u8], count: &mut [u16])
+    requires { ⌜ TableOf (now t) m n s × Starts (now t) m (now starts) × (length (now map) ≡ n) × (m ≤ length (now count)) ⌝ }
+    ensures { λ _. ⌜ Counted (now (t .entry)) m (now (map .entry)) (now (count .exit)) ⌝ }
+{
+    let mut j = 0;
+    while j < m {
+        count[j] = lost_in(t, wide(starts[j]), wide(t[4 + j]), map) as u16;
+        j += 1;
+    }
+}
+
+// check j, the weight places of t from at, goes to the chain of each of its places
+fn link_check(
+    head: &mut [u16],
+    next: &mut [u16],
+    owner: &mut [u16],
+    t: &[u16],
+    at: usize,
+    weight: usize,
+    j: u16,
+)
+    requires { ⌜ Places (now t) at weight (length (now head)) × (at + weight ≤ length (now next)) × (at + weight ≤ length (now owner)) × (length (now next) ≤ 65535) ⌝ }
+    ensures { λ _. ⌜ (length (now (head .exit)) ≡ length (now (head .entry))) × (length (now (next .exit)) ≡ length (now (next .entry))) × (length (now (owner .exit)) ≡ length (now (owner .entry))) × ((L : ℕ → List ℕ) → Links (now (next .entry)) (now (owner .entry)) (now (head .entry)) at L → Links (now (next .exit)) (now (owner .exit)) (now (head .exit)) (at + weight) (λ p. cond (has p (take weight (drop at (now (t .entry))))) (j ∷ L p) (L p))) ⌝ }
+{
+    let end = at + weight;
+    let mut i = at;
+    while i < end {
+        let p = wide(t[i]);
+        next[i] = head[p];
+        owner[i] = j;
+        head[p] = i as u16 + 1;
+        i += 1;
+    }
+}
+// every check goes to the chains of its places
+fn link_all(
+    t: &[u16],
+    m: usize,
+    n: usize,
+    s: usize,
+    starts: &[u16],
+    head: &mut [u16],
+    next: &mut [u16],
+    owner: &mut [u16],
+)
+    requires { ⌜ TableOf (now t) m n s × Starts (now t) m (now starts) × (n ≤ length (now head)) × (length (now t) ≤ length (now next)) × (length (now t) ≤ length (now owner)) × (length (now next) ≤ 65535) × ((p : ℕ) → getD (now head) p 0 ≡ 0) ⌝ }
+    ensures { λ _. ⌜ (length (now (head .exit)) ≡ length (now (head .entry))) × (length (now (next .exit)) ≡ length (now (next .entry))) × (length (now (owner .exit)) ≡ length (now (owner .entry))) × Links (now (next .exit)) (now (owner .exit)) (now (head .exit)) (length (now (t .entry))) (λ p. holders (check (now (t .entry)) m) p m) ⌝ }
+{
+    let mut j = 0;
+    while j < m {
+        link_check(
+            head,
+            next,
+            owner,
+            t,
+            wide(starts[j]),
+            wide(t[4 + j]),
+            j as u16,
+        );
+        j += 1;
+    }
+}
+
+// one lost place less in each check of the chain from first on; a bound below which none of these has exactly one
+fn walk(next: &[u16], owner: &[u16], count: &mut [u16], first: usize, bound: usize) -> usize
+    requires { ⌜ Walk (now next) (now owner) (now count) first ⌝ }
+    ensures { λ r. ⌜ Walked (now (next .entry)) (now (owner .entry)) first (now (count .entry)) (now (count .exit)) bound r ⌝ }
+{
+    let mut low = bound;
+    let mut i = first;
+    while 0 < i {
+        let j = wide(owner[i - 1]);
+        let left = count[j] - 1;
+        count[j] = left;
+        if left == 1 {
+            if j < low {
+                low = j;
+            }
+        }
+        i = wide(next[i - 1]);
+    }
+    low
+}
+
+// the lowest check from low on with exactly one lost place, m if there is none
+fn lowest_one(count: &[u16], low: usize, m: usize) -> usize
+    requires { ⌜ (low ≤ m) × (m ≤ length (now count)) ⌝ }
+    ensures { λ r. ⌜ LowestOne (now (count .entry)) low m r ⌝ }
+{
+    let mut j = low;
+    while j < m {
+        if count[j] == 1 {
+            return j;
+        }
+        j += 1;
+    }
+    m
+}
+
 // ---- repair
 
-// the check at at, of which one place is lost, restores that place
+// the check at at, of which one place is lost, restores that place and returns it
 fn restore_one(
     t: &[u16],
     at: usize,
@@ -206,17 +297,49 @@ fn restore_one(
     s: usize,
     block: &mut [u8],
     map: &mut [u8],
-)
+) -> usize
     requires { ⌜ Places (now t) at weight n × (length (now block) ≡ n * s) × (length (now map) ≡ n) × (length (lostPlaces (now map) (take weight (drop at (now t)))) ≡ 1) ⌝ }
-    ensures { λ _. ⌜ Holds (turn s (take weight (drop at (now (t .entry)))) (stateOf s n (now (block .entry)) (now (map .entry)) 0)) (now (block .exit)) (now (map .exit)) ⌝ }
+    ensures { λ r. ⌜ (r ≡ getD (lostPlaces (now (map .entry)) (take weight (drop at (now (t .entry))))) 0 0) × Holds (turn s (take weight (drop at (now (t .entry)))) (stateOf s n (now (block .entry)) (now (map .entry)) 0)) (now (block .exit)) (now (map .exit)) ⌝ }
 {
     let p = first_lost(t, at, weight, map);
     table::restore(t, at, weight, block, n, s, p);
     map[p] = 2;
+    p
 }
 
 // while some check has exactly one lost place, the lowest such check restores it; the additions
 fn restore_all(
+    t: &[u16],
+    m: usize,
+    n: usize,
+    s: usize,
+    starts: &[u16],
+    head: &[u16],
+    next: &[u16],
+    owner: &[u16],
+    count: &mut [u16],
+    block: &mut [u8],
+    map: &mut [u8],
+) -> usize
+    requires { ⌜ TableOf (now t) m n s × Starts (now t) m (now starts) × Linked (now t) m n (now head) (now next) (now owner) × Counted (now t) m (now map) (now count) × (length (now block) ≡ n * s) × (length (now map) ≡ n) ⌝ }
+    ensures { λ r. ⌜ Restored n s (checks (now (t .entry))) (now (block .entry)) (now (map .entry)) (now (block .exit)) (now (map .exit)) r ⌝ }
+{
+    let mut adds = 0;
+    let mut low = 0;
+    loop {
+        let j = lowest_one(count, low, m);
+        if j == m {
+            return adds;
+        }
+        let w = wide(t[4 + j]);
+        let p = restore_one(t, wide(starts[j]), w, n, s, block, map);
+        low = walk(next, owner, count, wide(head[p]), j);
+        adds += w - 1;
+    }
+}
+
+// the same with counts and chains made first
+fn restore_lost(
     t: &[u16],
     m: usize,
     n: usize,
@@ -228,16 +351,25 @@ fn restore_all(
     requires { ⌜ TableOf (now t) m n s × Starts (now t) m (now starts) × (length (now block) ≡ n * s) × (length (now map) ≡ n) ⌝ }
     ensures { λ r. ⌜ Restored n s (checks (now (t .entry))) (now (block .entry)) (now (map .entry)) (now (block .exit)) (now (map .exit)) r ⌝ }
 {
-    let mut adds = 0;
-    loop {
-        let j = next_ready(t, m, n, s, starts, map);
-        if j == m {
-            return adds;
-        }
-        let w = wide(t[4 + j]);
-        restore_one(t, wide(starts[j]), w, n, s, block, map);
-        adds += w - 1;
-    }
+    let mut count = [0u16; 512];
+    let mut head = [0u16; 1024];
+    let mut next = [0u16; 6661];
+    let mut owner = [0u16; 6661];
+    count_all(t, m, n, s, starts, map, &mut count);
+    link_all(t, m, n, s, starts, &mut head, &mut next, &mut owner);
+    restore_all(
+        t,
+        m,
+        n,
+        s,
+        starts,
+        &head,
+        &next,
+        &owner,
+        &mut count,
+        block,
+        map,
+    )
 }
 
 // a refusal, counts 0
@@ -280,7 +412,7 @@ fn repair_packets(
     let mut starts = [0u16; 512];
     table::fill_starts(t, m, &mut starts);
     zero_lost(block, map, n, s);
-    let adds = restore_all(t, m, n, s, &starts, block, map);
+    let adds = restore_lost(t, m, n, s, &starts, block, map);
     if agrees(t, m, n, s, block, map) {
         return accepted(map, adds);
     }

@@ -1,24 +1,16 @@
+-- `repair::agrees` meets its contract.
 use Rattle.table.specs.Checks.{offset}
-use Rattle.table.specs.Packets.{packets}
 use Rattle.table.specs.Table.{checks}
 use Rattle.repair.specs.Repair.{lostPlaces, consistent}
 use Rattle.repair.specs.Turns.{stateOf}
 use Rattle.repair.proofs.TableUse.{has-weights, check-count, places-at, check-is, check-fits, check-in, offset-none, offset-more, agree-lost, agree-zero, agree-not, agree-end, sum-zero, sum-nonzero}
-use Prim.Native.Nat.{ℕ, zero, suc, _+_, _-_, _*_, _/_, _%_, _^_, _≤_, _<_}
-use mathlib.Core.Path.{_≡_, refl, sym, ap, ap₂, _∙_, subst}
-use mathlib.Core.Bool.{Bool, true, false}
-use mathlib.Core.List.{List, [], _∷_, _++_}
+use Prim.Native.Nat.{_+_, _-_, _≤_, _<_}
+use mathlib.Core.Path.{_≡_, refl, sym, ap, _∙_}
 use mathlib.Core.Logic.{⊎-elim}
 use native.Mathlib.Omega.{arith}
-use lib.ListN.{length, getD, set, take, drop, length-set}
-use borrow.Author.Needs.{needs}
+use lib.ListN.{length, drop}
 use Rattle.repair.proofs.agrees.Statement.{statement}
 use Rattle.repair.proofs.agrees.Tie as tie
-use Rattle.repair.proofs.agrees.Reads as reads
-use Rattle.repair.proofs.agrees.Lts as lts
-use Rattle.repair.proofs.lost_in.Reads as lost-in-reads
-use Rattle.table.proofs.sum_of_check.Reads as sum-of-check-reads
-use Rattle.table.proofs.wide.Reads as wide-reads
 
 abbrev Inv-loop : tie.InvT-loop
 Inv-loop t m n s block map at₀ j₀ at j = (j ≤ m) × (at ≡ 5 + m + offset t j) × (consistent s (checks t) (stateOf s n block map 0) ≡ consistent s (drop j (checks t)) (stateOf s n block map 0))
@@ -26,45 +18,36 @@ Inv-loop t m n s block map at₀ j₀ at j = (j ≤ m) × (at ≡ 5 + m + offset
 abbrev μ-loop : tie.MeasureT-loop
 μ-loop t m n s block map at₀ j₀ at j = m - j
 
--- src/lib.rt:173:18
 add-at : tie.Need-add-at Inv-loop μ-loop
 add-at c = omega (arith, has-weights _ _ _ _ (c .before .before .before .pre .0))
 
--- src/lib.rt:175:5
 loop-holds : tie.Need-loop-holds Inv-loop μ-loop
 loop-holds c = (omega arith, offset-none _ _, refl)
 
--- src/lib.rt:176:24
 add-wide : tie.Need-add-wide Inv-loop μ-loop
 add-wide c = omega (arith, has-weights _ _ _ _ (c .before .before .before .before .before .pre .0))
 
--- src/lib.rt:176:22
 mul-wide : tie.Need-mul-wide Inv-loop μ-loop
 mul-wide c = omega (arith, has-weights _ _ _ _ (c .before .before .before .before .before .pre .0))
 
--- src/lib.rt:176:22
 shared-slice-read-wide : tie.Need-shared-slice-read-wide Inv-loop μ-loop
 shared-slice-read-wide c = omega (arith, has-weights _ _ _ _ (c .before .before .before .before .before .before .pre .0))
 
--- src/lib.rt:176:13
 wide-requires : tie.Need-wide-requires Inv-loop μ-loop
 wide-requires c κs = omega arith
 
--- src/lib.rt:177:12
 lost-in-requires : tie.Need-lost-in-requires Inv-loop μ-loop
 lost-in-requires c κs =
     let p = c .before .before .before .before .before .before .before .pre in
     let s = c .before .before .before .loop in
     places-at _ _ _ _ (p .0) (s .j) (c .before .before .loop-test .taken) _ _ (s .inv .1) (c .wide .ensures) _ (p .2)
 
--- src/lib.rt:178:16
 sum-of-check-requires : tie.Need-sum-of-check-requires Inv-loop μ-loop
 sum-of-check-requires c κs =
     let p = c .before .before .before .before .before .before .before .before .before .pre in
     let s = c .before .before .before .before .before .loop in
     check-in _ _ _ _ (p .0) (s .j) (c .before .before .before .before .loop-test .taken) _ _ (s .inv .1) (c .before .before .wide .ensures) _ (p .1)
 
--- src/lib.rt:179:17
 returns : tie.Need-returns Inv-loop μ-loop
 returns c =
     let p = c .before .before .before .before .before .before .before .before .before .before .before .pre in
@@ -77,7 +60,6 @@ returns c =
     let l = sym (c .before .before .before .lost-in .ensures ∙ ap (λ l. length (lostPlaces (a .map .now) l)) is) ∙ c .before .before .if1 .taken in
     sym (s .inv .2 ∙ agree-not (a .s) (stateOf (a .s) (a .n) (a .block .now) (a .map .now) 0) (checks (a .t .now)) (s .j) (rw (check-count _ _ _ _ (p .0)) more) l z)
 
--- src/lib.rt:182:9
 add-at-2 : tie.Need-add-at-2 Inv-loop μ-loop
 add-at-2 c =
     let p = c .before .before .before .before .before .before .before .before .before .pre in
@@ -85,15 +67,12 @@ add-at-2 c =
     let f = check-fits (c .before .before .before .before .before .before .before .before .before .args .t .now) _ _ _ (p .0) (s .j) (c .before .before .before .before .loop-test .taken) _ _ (s .inv .1) (c .before .before .wide .ensures) in
     omega (arith, f, c .before .before .before .before .before .before .before .before .before .good)
 
--- src/lib.rt:183:9
 add-j : tie.Need-add-j Inv-loop μ-loop
 add-j c = omega arith
 
--- src/lib.rt:175:5
 loop-less : tie.Need-loop-less Inv-loop μ-loop
 loop-less c = omega arith
 
--- src/lib.rt:175:5
 loop-again : tie.Need-loop-again Inv-loop μ-loop
 loop-again c =
     let p = c .before .before .before .before .before .before .before .before .before .pre in
@@ -114,7 +93,6 @@ loop-again c =
           (c .if1 .came),
     )
 
--- src/lib.rt:169:1
 returns-2 : tie.Need-returns-2 Inv-loop μ-loop
 returns-2 c =
     let p = c .before .before .before .before .before .pre in

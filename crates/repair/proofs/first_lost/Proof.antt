@@ -1,18 +1,12 @@
+-- `repair::first_lost` meets its contract.
 use Rattle.repair.specs.Repair.{lostPlaces}
 use Rattle.repair.proofs.MapLaws.{place-below, lost-hit, lost-miss, lost-end}
-use Prim.Native.Nat.{ℕ, zero, suc, _+_, _-_, _*_, _/_, _%_, _^_, _≤_, _<_}
-use mathlib.Core.Path.{_≡_, refl, sym, ap, ap₂, _∙_, subst}
-use mathlib.Core.Bool.{Bool, true, false}
-use mathlib.Core.List.{List, [], _∷_, _++_}
-use mathlib.Core.Logic.{⊎-elim}
+use Prim.Native.Nat.{_+_, _-_, _≤_}
+use mathlib.Core.Path.{_≡_, sym, ap, _∙_}
 use native.Mathlib.Omega.{arith}
-use lib.ListN.{length, getD, set, take, drop, length-set}
-use borrow.Author.Needs.{needs}
+use lib.ListN.{length, getD, take, drop}
 use Rattle.repair.proofs.first_lost.Statement.{statement}
 use Rattle.repair.proofs.first_lost.Tie as tie
-use Rattle.repair.proofs.first_lost.Reads as reads
-use Rattle.repair.proofs.first_lost.Lts as lts
-use Rattle.table.proofs.wide.Reads as wide-reads
 
 abbrev Inv-loop : tie.InvT-loop
 Inv-loop t at weight map end i₀ i = (at ≤ i) × (i ≤ end) × (getD (lostPlaces map (take weight (drop at t))) 0 0 ≡ getD (lostPlaces map (take (end - i) (drop i t))) 0 0)
@@ -20,30 +14,24 @@ Inv-loop t at weight map end i₀ i = (at ≤ i) × (i ≤ end) × (getD (lostPl
 abbrev μ-loop : tie.MeasureT-loop
 μ-loop t at weight map end i₀ i = end - i
 
--- src/lib.rt:87:15
 add-end : tie.Need-add-end Inv-loop μ-loop
 add-end c = omega arith
 
--- src/lib.rt:89:5
 loop-holds : tie.Need-loop-holds Inv-loop μ-loop
 loop-holds c =
     let a = c .before .before .args in
     let z : a .at + a .weight - a .at ≡ a .weight = omega arith in
     (omega arith, omega arith, rw z)
 
--- src/lib.rt:90:22
 mul-wide : tie.Need-mul-wide Inv-loop μ-loop
 mul-wide c = omega arith
 
--- src/lib.rt:90:22
 shared-slice-read-wide : tie.Need-shared-slice-read-wide Inv-loop μ-loop
 shared-slice-read-wide c = omega arith
 
--- src/lib.rt:90:13
 wide-requires : tie.Need-wide-requires Inv-loop μ-loop
 wide-requires c κs = omega arith
 
--- src/lib.rt:91:12
 shared-slice-read-if1 : tie.Need-shared-slice-read-if1 Inv-loop μ-loop
 shared-slice-read-if1 c =
     let a = c .before .before .before .before .before .before .before .args in
@@ -51,7 +39,6 @@ shared-slice-read-if1 c =
     let h = place-below (a .t .now) (a .at) (a .weight) (length (a .map .now)) (s .i) (c .before .before .before .before .before .before .before .pre) (omega arith) (omega arith) in
     omega (arith, c .before .wide .ensures)
 
--- src/lib.rt:92:13
 returns : tie.Need-returns Inv-loop μ-loop
 returns c =
     let s = c .before .before .before .before .before .loop in
@@ -60,15 +47,12 @@ returns c =
     let p = c .before .before .wide .ensures in
     p ∙ sym (s .inv .2 ∙ ap (λ l. getD l 0 0) (lost-hit (a .map .now) (a .t .now) (s .i) (a .at + a .weight) (c .before .before .before .before .loop-test .taken) r (rw p at (c .if1 .taken))))
 
--- src/lib.rt:94:9
 add-i : tie.Need-add-i Inv-loop μ-loop
 add-i c = omega arith
 
--- src/lib.rt:89:5
 loop-less : tie.Need-loop-less Inv-loop μ-loop
 loop-less c = omega arith
 
--- src/lib.rt:89:5
 loop-again : tie.Need-loop-again Inv-loop μ-loop
 loop-again c =
     let s = c .before .before .before .before .before .loop in
@@ -77,7 +61,6 @@ loop-again c =
     let p = c .before .before .wide .ensures in
     (omega arith, omega arith, s .inv .2 ∙ ap (λ l. getD l 0 0) (lost-miss (a .map .now) (a .t .now) (s .i) (a .at + a .weight) (c .before .before .before .before .loop-test .taken) r (rw p at (c .if1 .left))))
 
--- src/lib.rt:83:1
 returns-2 : tie.Need-returns-2 Inv-loop μ-loop
 returns-2 c =
     let s = c .before .loop in

@@ -1,22 +1,15 @@
+-- `repair::look_at_checks` meets its contract.
 use Rattle.table.specs.Checks.{offset}
 use Rattle.table.specs.Packets.{packets}
 use Rattle.table.specs.Table.{checks}
 use Rattle.repair.specs.Verify.{failing, verdict}
-use Rattle.repair.proofs.TableUse.{has-weights, few-checks, check-count, check-is, check-fits, check-in, offset-none, offset-more, fail-hit, fail-miss, fail-end, sum-zero, sum-nonzero}
-use Prim.Native.Nat.{ℕ, zero, suc, _+_, _-_, _*_, _/_, _%_, _^_, _≤_, _<_}
-use mathlib.Core.Path.{_≡_, refl, sym, ap, ap₂, _∙_, subst}
-use mathlib.Core.Bool.{Bool, true, false}
-use mathlib.Core.List.{List, [], _∷_, _++_}
-use mathlib.Core.Logic.{⊎-elim}
+use Rattle.repair.proofs.TableUse.{has-weights, check-count, check-is, check-fits, check-in, offset-none, offset-more, fail-hit, fail-miss, fail-end, sum-zero, sum-nonzero}
+use Prim.Native.Nat.{_+_, _-_, _≤_}
+use mathlib.Core.Path.{_≡_, refl, sym, ap, _∙_}
 use native.Mathlib.Omega.{arith}
-use lib.ListN.{length, getD, set, take, drop, length-set}
-use borrow.Author.Needs.{needs}
+use lib.ListN.{drop}
 use Rattle.repair.proofs.look_at_checks.Statement.{statement}
 use Rattle.repair.proofs.look_at_checks.Tie as tie
-use Rattle.repair.proofs.look_at_checks.Reads as reads
-use Rattle.repair.proofs.look_at_checks.Lts as lts
-use Rattle.table.proofs.sum_of_check.Reads as sum-of-check-reads
-use Rattle.table.proofs.wide.Reads as wide-reads
 
 abbrev Inv-loop : tie.InvT-loop
 Inv-loop t m n s block at₀ j₀ at j = (j ≤ m) × (at ≡ 5 + m + offset t j) × (failing s (packets s n block) 0 (checks t) ≡ failing s (packets s n block) j (drop j (checks t)))
@@ -24,38 +17,30 @@ Inv-loop t m n s block at₀ j₀ at j = (j ≤ m) × (at ≡ 5 + m + offset t j
 abbrev μ-loop : tie.MeasureT-loop
 μ-loop t m n s block at₀ j₀ at j = m - j
 
--- src/lib.rt:29:18
 add-at : tie.Need-add-at Inv-loop μ-loop
 add-at c = omega (arith, has-weights _ _ _ _ (c .before .before .pre .0))
 
--- src/lib.rt:31:5
 loop-holds : tie.Need-loop-holds Inv-loop μ-loop
 loop-holds c = (omega arith, offset-none _ _, refl)
 
--- src/lib.rt:32:24
 add-wide : tie.Need-add-wide Inv-loop μ-loop
 add-wide c = omega (arith, has-weights _ _ _ _ (c .before .before .before .before .pre .0))
 
--- src/lib.rt:32:22
 mul-wide : tie.Need-mul-wide Inv-loop μ-loop
 mul-wide c = omega (arith, has-weights _ _ _ _ (c .before .before .before .before .pre .0))
 
--- src/lib.rt:32:22
 shared-slice-read-wide : tie.Need-shared-slice-read-wide Inv-loop μ-loop
 shared-slice-read-wide c = omega (arith, has-weights _ _ _ _ (c .before .before .before .before .before .pre .0))
 
--- src/lib.rt:32:13
 wide-requires : tie.Need-wide-requires Inv-loop μ-loop
 wide-requires c κs = omega arith
 
--- src/lib.rt:33:12
 sum-of-check-requires : tie.Need-sum-of-check-requires Inv-loop μ-loop
 sum-of-check-requires c κs =
     let p = c .before .before .before .before .before .before .pre in
     let s = c .before .before .before .loop in
     check-in _ _ _ _ (p .0) (s .j) (c .before .before .loop-test .taken) _ _ (s .inv .1) (c .wide .ensures) _ (p .1)
 
--- src/lib.rt:34:13
 returns : tie.Need-returns Inv-loop μ-loop
 returns c =
     let p = c .before .before .before .before .before .before .before .before .pre in
@@ -67,7 +52,6 @@ returns c =
     let z = sum-nonzero (a .t .now) (a .block .now) (a .n) (a .s) _ _ inside _ is _ (c .before .sum-of-check .ensures) (c .if1 .taken) in
     sym (ap verdict (s .inv .2 ∙ fail-hit (a .s) (packets (a .s) (a .n) (a .block .now)) (checks (a .t .now)) (s .j) (rw (check-count _ _ _ _ (p .0)) more) z))
 
--- src/lib.rt:36:9
 add-at-2 : tie.Need-add-at-2 Inv-loop μ-loop
 add-at-2 c =
     let p = c .before .before .before .before .before .before .before .before .pre in
@@ -75,15 +59,12 @@ add-at-2 c =
     let f = check-fits (c .before .before .before .before .before .before .before .before .args .t .now) _ _ _ (p .0) (s .j) (c .before .before .before .before .loop-test .taken) _ _ (s .inv .1) (c .before .before .wide .ensures) in
     omega (arith, f, c .before .before .before .before .before .before .before .before .good)
 
--- src/lib.rt:37:9
 add-j : tie.Need-add-j Inv-loop μ-loop
 add-j c = omega arith
 
--- src/lib.rt:31:5
 loop-less : tie.Need-loop-less Inv-loop μ-loop
 loop-less c = omega arith
 
--- src/lib.rt:31:5
 loop-again : tie.Need-loop-again Inv-loop μ-loop
 loop-again c =
     let p = c .before .before .before .before .before .before .before .before .pre in
@@ -98,7 +79,6 @@ loop-again c =
       s .inv .2 ∙ fail-miss (a .s) (packets (a .s) (a .n) (a .block .now)) (checks (a .t .now)) (s .j) (rw (check-count _ _ _ _ (p .0)) more) z,
     )
 
--- src/lib.rt:25:1
 returns-2 : tie.Need-returns-2 Inv-loop μ-loop
 returns-2 c =
     let p = c .before .before .before .before .pre in

@@ -1,18 +1,13 @@
+-- `repair::lost_in` meets its contract.
 use Rattle.repair.specs.Repair.{lostPlaces}
 use Rattle.repair.proofs.MapLaws.{place-below, lost-hit, lost-miss, lost-end}
-use Prim.Native.Nat.{ℕ, zero, suc, _+_, _-_, _*_, _/_, _%_, _^_, _≤_, _<_}
-use mathlib.Core.Path.{_≡_, refl, sym, ap, ap₂, _∙_, subst}
-use mathlib.Core.Bool.{Bool, true, false}
-use mathlib.Core.List.{List, [], _∷_, _++_}
+use Prim.Native.Nat.{_+_, _-_, _≤_}
+use mathlib.Core.Path.{_≡_, ap}
 use mathlib.Core.Logic.{⊎-elim}
 use native.Mathlib.Omega.{arith}
-use lib.ListN.{length, getD, set, take, drop, length-set}
-use borrow.Author.Needs.{needs}
+use lib.ListN.{length, take, drop}
 use Rattle.repair.proofs.lost_in.Statement.{statement}
 use Rattle.repair.proofs.lost_in.Tie as tie
-use Rattle.repair.proofs.lost_in.Reads as reads
-use Rattle.repair.proofs.lost_in.Lts as lts
-use Rattle.table.proofs.wide.Reads as wide-reads
 
 abbrev Inv-loop : tie.InvT-loop
 Inv-loop t at weight map end k₀ i₀ k i = (at ≤ i) × (i ≤ end) × (k + end ≤ i + weight) × (length (lostPlaces map (take weight (drop at t))) ≡ k + length (lostPlaces map (take (end - i) (drop i t))))
@@ -20,30 +15,24 @@ Inv-loop t at weight map end k₀ i₀ k i = (at ≤ i) × (i ≤ end) × (k + e
 abbrev μ-loop : tie.MeasureT-loop
 μ-loop t at weight map end k₀ i₀ k i = end - i
 
--- src/lib.rt:70:15
 add-end : tie.Need-add-end Inv-loop μ-loop
 add-end c = omega (arith, c .before .before .pre .room)
 
--- src/lib.rt:73:5
 loop-holds : tie.Need-loop-holds Inv-loop μ-loop
 loop-holds c =
     let a = c .before .before .args in
     let z : a .at + a .weight - a .at ≡ a .weight = omega arith in
     (omega arith, omega arith, omega arith, rw z (omega arith))
 
--- src/lib.rt:74:21
 mul-wide : tie.Need-mul-wide Inv-loop μ-loop
 mul-wide c = omega arith
 
--- src/lib.rt:74:21
 shared-slice-read-wide : tie.Need-shared-slice-read-wide Inv-loop μ-loop
 shared-slice-read-wide c = omega arith
 
--- src/lib.rt:74:16
 wide-requires : tie.Need-wide-requires Inv-loop μ-loop
 wide-requires c κs = omega arith
 
--- src/lib.rt:74:12
 shared-slice-read-if1 : tie.Need-shared-slice-read-if1 Inv-loop μ-loop
 shared-slice-read-if1 c =
     let a = c .before .before .before .before .before .before .before .args in
@@ -51,19 +40,15 @@ shared-slice-read-if1 c =
     let h = place-below (a .t .now) (a .at) (a .weight) (length (a .map .now)) (s .i) (c .before .before .before .before .before .before .before .pre) (omega arith) (omega arith) in
     omega (arith, c .before .wide .ensures)
 
--- src/lib.rt:75:13
 add-k : tie.Need-add-k Inv-loop μ-loop
 add-k c = omega arith
 
--- src/lib.rt:77:9
 add-i : tie.Need-add-i Inv-loop μ-loop
 add-i c = omega arith
 
--- src/lib.rt:73:5
 loop-less : tie.Need-loop-less Inv-loop μ-loop
 loop-less c = omega arith
 
--- src/lib.rt:73:5
 loop-again : tie.Need-loop-again Inv-loop μ-loop
 loop-again c =
     let s = c .before .before .before .before .before .loop in
@@ -76,7 +61,6 @@ loop-again c =
     (λ w. let e = ap length (lost-miss (a .map .now) (a .t .now) (s .i) (a .at + a .weight) more r (rw p at (w .0 .left))) in (omega arith, omega arith, omega (arith, w .1), omega (arith, w .1)))
     (c .if1 .came)
 
--- src/lib.rt:66:1
 returns : tie.Need-returns Inv-loop μ-loop
 returns c =
     let s = c .before .loop in

@@ -1,19 +1,14 @@
+-- `repair::over_one` meets its contract.
 use lib.Dec.{ltb}
 use borrow.Author.Tests.{lt-ltb, le-ltb}
 use Rattle.gf2.specs.Span.{anyOf}
 use Rattle.repair.proofs.MapLaws.{any-hit, any-miss, any-end}
-use Prim.Native.Nat.{ℕ, zero, suc, _+_, _-_, _*_, _/_, _%_, _^_, _≤_, _<_}
-use mathlib.Core.Path.{_≡_, refl, sym, ap, ap₂, _∙_, subst}
-use mathlib.Core.Bool.{Bool, true, false}
-use mathlib.Core.List.{List, [], _∷_, _++_}
-use mathlib.Core.Logic.{⊎-elim}
+use Prim.Native.Nat.{_-_, _≤_}
+use mathlib.Core.Path.{_≡_, refl, sym, _∙_}
 use native.Mathlib.Omega.{arith}
-use lib.ListN.{length, getD, set, take, drop, length-set}
-use borrow.Author.Needs.{needs}
+use lib.ListN.{length, drop}
 use Rattle.repair.proofs.over_one.Statement.{statement}
 use Rattle.repair.proofs.over_one.Tie as tie
-use Rattle.repair.proofs.over_one.Reads as reads
-use Rattle.repair.proofs.over_one.Lts as lts
 
 abbrev Inv-loop : tie.InvT-loop
 Inv-loop map p₀ p = (p ≤ length map) × (anyOf (ltb 1) map ≡ anyOf (ltb 1) (drop p map))
@@ -21,31 +16,24 @@ Inv-loop map p₀ p = (p ≤ length map) × (anyOf (ltb 1) map ≡ anyOf (ltb 1)
 abbrev μ-loop : tie.MeasureT-loop
 μ-loop map p₀ p = length map - p
 
--- src/lib.rt:27:5
 loop-holds : tie.Need-loop-holds Inv-loop μ-loop
 loop-holds c = (omega arith, refl)
 
--- src/lib.rt:28:12
 shared-slice-read-if1 : tie.Need-shared-slice-read-if1 Inv-loop μ-loop
 shared-slice-read-if1 c = omega arith
 
--- src/lib.rt:29:13
 returns : tie.Need-returns Inv-loop μ-loop
 returns c = let s = c .before .before .before .loop in sym (s .inv .1 ∙ any-hit (ltb 1) _ (s .p) (omega arith) (lt-ltb 1 _ (c .if1 .taken)))
 
--- src/lib.rt:31:9
 add-p : tie.Need-add-p Inv-loop μ-loop
 add-p c = omega arith
 
--- src/lib.rt:27:5
 loop-less : tie.Need-loop-less Inv-loop μ-loop
 loop-less c = omega arith
 
--- src/lib.rt:27:5
 loop-again : tie.Need-loop-again Inv-loop μ-loop
 loop-again c = let s = c .before .before .before .loop in (omega arith, s .inv .1 ∙ any-miss (ltb 1) _ (s .p) (omega arith) (le-ltb 1 _ (c .if1 .left)))
 
--- src/lib.rt:23:1
 returns-2 : tie.Need-returns-2 Inv-loop μ-loop
 returns-2 c = let s = c .before .loop in sym (s .inv .1 ∙ any-end (ltb 1) _ (s .p) (omega arith))
 

@@ -1,111 +1,81 @@
-use Rattle.table.specs.Table.{places, size, number, refusal}
+-- `repair::repair` meets its contract.
 use Rattle.repair.proofs.Answering.{answer-table, answer-block, answer-map, answer-byte, fitting}
 use Rattle.repair.proofs.TableUse.{table-of, words, block-small}
-use Prim.Native.Nat.{ℕ, zero, suc, _+_, _-_, _*_, _/_, _%_, _^_, _≤_, _<_}
-use mathlib.Core.Path.{_≡_, refl, sym, ap, ap₂, _∙_, subst}
-use mathlib.Core.Bool.{Bool, true, false}
-use mathlib.Core.List.{List, [], _∷_, _++_}
-use mathlib.Core.Logic.{⊎-elim}
+use Prim.Native.Nat.{_-_}
+use mathlib.Core.Path.{refl, sym, _∙_}
 use native.Mathlib.Omega.{arith}
-use lib.ListN.{length, getD, set, take, drop, length-set}
 use borrow.Author.Needs.{needs}
 use Rattle.repair.proofs.repair.Statement.{statement}
 use Rattle.repair.proofs.repair.Tie as tie
-use Rattle.repair.proofs.repair.Reads as reads
-use Rattle.repair.proofs.repair.Lts as lts
-use Rattle.repair.proofs.repair_packets.Reads as repair-packets-reads
-use Rattle.repair.proofs.over_one.Reads as over-one-reads
-use Rattle.repair.proofs.refused.Reads as refused-reads
-use Rattle.table.proofs.look_over.Reads as look-over-reads
-use Rattle.table.proofs.wide.Reads as wide-reads
 
--- src/lib.rt:288:9
 look-over-requires : tie.Need-look-over-requires
 look-over-requires c κs = search needs
 
--- src/lib.rt:290:9
 refused-requires : tie.Need-refused-requires
 refused-requires c κs = search needs
 
--- src/lib.rt:290:9
 returns : tie.Need-returns
 returns c =
     let a = c .before .before .before .before .before .before .args in
     let e = c .refused .ensures in
     answer-table (a .t .now) (a .block .now) (a .map .now) _ 0 0 (c .before .before .look-over .ensures) _ (e .1) (e .2) (e .3) (c .before .if1 .taken) (e .0)
 
--- src/lib.rt:292:18
 shared-slice-read-wide : tie.Need-shared-slice-read-wide
 shared-slice-read-wide c = omega (arith, words (c .before .before .before .before .before .before .args .t .now) _ (c .before .before .look-over .ensures) (c .before .if1 .left))
 
--- src/lib.rt:292:9
 wide-requires : tie.Need-wide-requires
 wide-requires c κs = search needs
 
--- src/lib.rt:293:18
 shared-slice-read-wide-2 : tie.Need-shared-slice-read-wide-2
 shared-slice-read-wide-2 c = omega (arith, words (c .before .before .before .before .before .before .before .before .args .t .now) _ (c .before .before .before .before .look-over .ensures) (c .before .before .before .if1 .left))
 
--- src/lib.rt:293:9
 wide-requires-2 : tie.Need-wide-requires-2
 wide-requires-2 c κs = search needs
 
--- src/lib.rt:294:23
 mul-if2 : tie.Need-mul-if2
 mul-if2 c =
     let k = table-of (c .before .before .before .before .before .before .before .before .before .args .t .now) _ _ _ _ (c .before .before .before .before .before .look-over .ensures) (c .before .before .before .before .if1 .left) refl (c .before .before .wide .ensures) (c .wide2 .ensures) in
     omega (arith, block-small (c .before .before .before .before .before .before .before .before .before .args .t .now) _ _ _ k)
 
--- src/lib.rt:295:9
 refused-requires-2 : tie.Need-refused-requires-2
 refused-requires-2 c κs = search needs
 
--- src/lib.rt:295:9
 returns-2 : tie.Need-returns-2
 returns-2 c =
     let a = c .before .before .before .before .before .before .before .before .before .before .before .args in
     let e = c .refused2 .ensures in
     answer-block (a .t .now) (a .block .now) (a .map .now) _ _ _ (c .before .before .before .before .before .before .before .look-over .ensures) _ (e .1) (e .2) (e .3) (c .before .before .before .before .before .before .if1 .left) (c .before .before .before .before .wide .ensures) (c .before .before .wide2 .ensures) (c .before .if2 .taken) (e .0)
 
--- src/lib.rt:298:9
 refused-requires-3 : tie.Need-refused-requires-3
 refused-requires-3 c κs = search needs
 
--- src/lib.rt:298:9
 returns-3 : tie.Need-returns-3
 returns-3 c =
     let a = c .before .before .before .before .before .before .before .before .before .before .before .before .args in
     let e = c .refused3 .ensures in
     answer-map (a .t .now) (a .block .now) (a .map .now) _ _ _ (c .before .before .before .before .before .before .before .before .look-over .ensures) _ (e .1) (e .2) (e .3) (c .before .before .before .before .before .before .before .if1 .left) (c .before .before .before .before .before .wide .ensures) (c .before .before .before .wide2 .ensures) (c .before .before .if2 .left) (c .before .if3 .taken) (e .0)
 
--- src/lib.rt:300:8
 over-one-requires : tie.Need-over-one-requires
 over-one-requires c κs = search needs
 
--- src/lib.rt:301:9
 refused-requires-4 : tie.Need-refused-requires-4
 refused-requires-4 c κs = search needs
 
--- src/lib.rt:301:9
 same-length : tie.Need-same-length
 same-length c = search needs
 
--- src/lib.rt:301:9
 returns-4 : tie.Need-returns-4
 returns-4 c =
     let a = c .before .before .before .before .before .before .before .before .before .before .before .before .before .before .before .args in
     let e = c .refused4 .ensures in
     answer-byte (a .t .now) (a .block .now) (a .map .now) _ _ _ (c .before .before .before .before .before .before .before .before .before .before .before .look-over .ensures) _ (e .1) (e .2) (e .3) (c .before .before .before .before .before .before .before .before .before .before .if1 .left) (c .before .before .before .before .before .before .before .before .wide .ensures) (c .before .before .before .before .before .before .wide2 .ensures) (c .before .before .before .before .before .if2 .left) (c .before .before .before .before .if3 .left) (sym (c .before .before .over-one .ensures) ∙ c .before .if4 .taken) (e .0)
 
--- src/lib.rt:303:18
 shared-slice-read-wide-3 : tie.Need-shared-slice-read-wide-3
 shared-slice-read-wide-3 c = omega (arith, words (c .before .before .before .before .before .before .before .before .before .before .before .before .before .before .before .args .t .now) _ (c .before .before .before .before .before .before .before .before .before .before .before .look-over .ensures) (c .before .before .before .before .before .before .before .before .before .before .if1 .left))
 
--- src/lib.rt:303:13
 wide-requires-3 : tie.Need-wide-requires-3
 wide-requires-3 c κs = search needs
 
--- src/lib.rt:303:5
 repair-packets-requires : tie.Need-repair-packets-requires
 repair-packets-requires c κs =
     let a = c .before .before .before .before .before .before .before .before .before .before .before .before .before .before .before .before .before .before .args in (
@@ -113,15 +83,12 @@ repair-packets-requires c κs =
       fitting (a .t .now) (a .block .now) (a .map .now) _ _ _ (c .before .before .before .before .before .before .before .before .before .before .before .before .before .before .look-over .ensures) (c .before .before .before .before .before .before .before .before .before .before .before .before .before .if1 .left) (c .before .before .before .before .before .before .before .before .before .before .before .wide .ensures) (c .before .before .before .before .before .before .before .before .before .wide2 .ensures) (c .before .before .before .before .before .before .before .before .if2 .left) (c .before .before .before .before .before .before .before .if3 .left) _ (c .before .before .before .before .before .over-one .ensures) (c .before .before .before .before .if4 .left),
     )
 
--- src/lib.rt:285:1
 same-length-2 : tie.Need-same-length-2
 same-length-2 c = search needs
 
--- src/lib.rt:285:1
 same-length-3 : tie.Need-same-length-3
 same-length-3 c = search needs
 
--- src/lib.rt:285:1
 returns-5 : tie.Need-returns-5
 returns-5 c = search needs
 

@@ -1,33 +1,24 @@
+-- `repair::restore_one` meets its contract.
 use Rattle.table.specs.Checks.{Places}
 use Rattle.table.specs.SumLaws.{places-in}
 use Rattle.repair.proofs.Turning.{lost-place-in}
-use Prim.Native.Nat.{ℕ, zero, suc, _+_, _-_, _*_, _/_, _%_, _^_, _≤_, _<_}
-use mathlib.Core.Path.{_≡_, refl, sym, ap, ap₂, _∙_, subst}
-use mathlib.Core.Bool.{Bool, true, false}
-use mathlib.Core.List.{List, [], _∷_, _++_}
-use mathlib.Core.Logic.{⊎-elim}
+use Prim.Native.Nat.{_-_}
+use mathlib.Core.Path.{sym, _∙_, subst}
 use native.Mathlib.Omega.{arith}
-use lib.ListN.{length, getD, set, take, drop, length-set}
+use lib.ListN.{take, drop}
 use borrow.Author.Needs.{needs}
 use Rattle.repair.proofs.restore_one.Statement.{statement}
 use Rattle.repair.proofs.restore_one.Tie as tie
-use Rattle.repair.proofs.restore_one.Reads as reads
-use Rattle.repair.proofs.restore_one.Lts as lts
-use Rattle.repair.proofs.first_lost.Reads as first-lost-reads
-use Rattle.table.proofs.restore.Reads as restore-reads
 
--- src/lib.rt:212:9
 first-lost-requires : tie.Need-first-lost-requires
 first-lost-requires c κs = let p = c .before .before .before .before .pre in subst (λ k. Places (c .before .before .before .before .args .t .now) (c .before .before .before .before .args .at) (c .before .before .before .before .args .weight) k) (sym (p .2)) (p .0)
 
--- src/lib.rt:213:5
 restore-requires : tie.Need-restore-requires
 restore-requires c κs =
     let p = c .before .before .before .before .before .before .pre in
     let a = c .before .before .before .before .before .before .args in
     (places-in _ _ _ _ _ _ (p .0) (p .1), lost-place-in (a .map .now) (take (a .weight) (drop (a .at) (a .t .now))) _ _ (p .2) (p .3) (c .before .first-lost .ensures))
 
--- src/lib.rt:214:5
 slice-write-map : tie.Need-slice-write-map
 slice-write-map c =
     let p = c .before .before .before .before .before .before .before .before .before .pre in
@@ -35,17 +26,14 @@ slice-write-map c =
     let h = lost-place-in (a .map .now) (take (a .weight) (drop (a .at) (a .t .now))) _ _ (p .2) (p .3) (c .before .before .before .before .first-lost .ensures) in
     omega arith
 
--- src/lib.rt:200:1
 same-length : tie.Need-same-length
 same-length c = search needs
 
--- src/lib.rt:200:1
 same-length-2 : tie.Need-same-length-2
 same-length-2 c = search needs
 
--- src/lib.rt:200:1
 returns : tie.Need-returns
-returns c = let e = c .before .before .before .before .first-lost .ensures in record { block-is = c .before .before .restore .ensures ∙ rw e; map-is = rw e }
+returns c = let e = c .before .before .before .before .first-lost .ensures in (e, record { block-is = c .before .before .restore .ensures ∙ rw e; map-is = rw e })
 
 pub restore-one-spec : {M : Type 1} → statement M
 restore-one-spec =

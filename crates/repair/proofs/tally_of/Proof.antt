@@ -1,17 +1,13 @@
+-- `repair::tally_of` meets its contract.
 use Rattle.repair.specs.Repair.{tally}
 use Rattle.repair.proofs.MapLaws.{tally-hit, tally-miss, tally-end}
-use Prim.Native.Nat.{ℕ, zero, suc, _+_, _-_, _*_, _/_, _%_, _^_, _≤_, _<_}
-use mathlib.Core.Path.{_≡_, refl, sym, ap, ap₂, _∙_, subst}
-use mathlib.Core.Bool.{Bool, true, false}
-use mathlib.Core.List.{List, [], _∷_, _++_}
+use Prim.Native.Nat.{_+_, _-_, _≤_}
+use mathlib.Core.Path.{_≡_}
 use mathlib.Core.Logic.{⊎-elim}
 use native.Mathlib.Omega.{arith}
-use lib.ListN.{length, getD, set, take, drop, length-set}
-use borrow.Author.Needs.{needs}
+use lib.ListN.{length, drop}
 use Rattle.repair.proofs.tally_of.Statement.{statement}
 use Rattle.repair.proofs.tally_of.Tie as tie
-use Rattle.repair.proofs.tally_of.Reads as reads
-use Rattle.repair.proofs.tally_of.Lts as lts
 
 abbrev Inv-loop : tie.InvT-loop
 Inv-loop map v k₀ p₀ k p = (p ≤ length map) × (k ≤ p) × (tally v map ≡ k + tally v (drop p map))
@@ -19,27 +15,21 @@ Inv-loop map v k₀ p₀ k p = (p ≤ length map) × (k ≤ p) × (tally v map �
 abbrev μ-loop : tie.MeasureT-loop
 μ-loop map v k₀ p₀ k p = length map - p
 
--- src/lib.rt:43:5
 loop-holds : tie.Need-loop-holds Inv-loop μ-loop
 loop-holds c = (omega arith, omega arith, omega arith)
 
--- src/lib.rt:44:12
 shared-slice-read-if1 : tie.Need-shared-slice-read-if1 Inv-loop μ-loop
 shared-slice-read-if1 c = omega arith
 
--- src/lib.rt:45:13
 add-k : tie.Need-add-k Inv-loop μ-loop
 add-k c = omega arith
 
--- src/lib.rt:47:9
 add-p : tie.Need-add-p Inv-loop μ-loop
 add-p c = omega arith
 
--- src/lib.rt:43:5
 loop-less : tie.Need-loop-less Inv-loop μ-loop
 loop-less c = omega arith
 
--- src/lib.rt:43:5
 loop-again : tie.Need-loop-again Inv-loop μ-loop
 loop-again c =
     let s = c .before .before .before .loop in
@@ -50,7 +40,6 @@ loop-again c =
     (λ w. let e = tally-miss (a .v) (a .map .now) (s .p) h (w .0 .left) in (omega arith, omega (arith, w .1), omega (arith, w .1)))
     (c .if1 .came)
 
--- src/lib.rt:37:1
 returns : tie.Need-returns Inv-loop μ-loop
 returns c = let s = c .before .loop in let e = tally-end (c .before .before .args .v) (c .before .before .args .map .now) (s .p) (c .loop-test .left) in omega arith
 

@@ -1,0 +1,83 @@
+-- `repair::restore_lost` meets its contract.
+use Rattle.gf2.specs.Lists.{getD-zeros}
+use Rattle.repair.proofs.Linking.{linked-of}
+use Rattle.repair.proofs.TableUse.{few-places, few-checks, few-words}
+use Prim.Native.Nat.{_-_}
+use native.Mathlib.Omega.{arith}
+use borrow.Author.Needs.{needs}
+use Rattle.repair.proofs.restore_lost.Statement.{statement}
+use Rattle.repair.proofs.restore_lost.Tie as tie
+
+slice-aggregate-count-all : tie.Need-slice-aggregate-count-all
+slice-aggregate-count-all c = search needs
+
+count-all-requires : tie.Need-count-all-requires
+count-all-requires c κs = let p = c .before .before .before .before .before .before .pre in let a = c .before .before .before .before .before .before .args in (p .0, p .1, p .3, few-checks (a .t .now) (a .m) (a .n) (a .s) (p .0))
+
+slice-aggregate-link-all : tie.Need-slice-aggregate-link-all
+slice-aggregate-link-all c = search needs
+
+slice-aggregate-link-all-2 : tie.Need-slice-aggregate-link-all-2
+slice-aggregate-link-all-2 c = search needs
+
+slice-aggregate-link-all-3 : tie.Need-slice-aggregate-link-all-3
+slice-aggregate-link-all-3 c = search needs
+
+link-all-requires : tie.Need-link-all-requires
+link-all-requires c κs =
+    let p = c .before .before .before .before .before .before .before .before .before .before .before .pre in
+    let a = c .before .before .before .before .before .before .before .before .before .before .before .args in
+    (p .0, p .1, few-places (a .t .now) (a .m) (a .n) (a .s) (p .0), few-words (a .t .now) (a .m) (a .n) (a .s) (p .0), few-words (a .t .now) (a .m) (a .n) (a .s) (p .0), omega arith, λ q. getD-zeros 1024 q)
+
+slice-aggregate-restore-all : tie.Need-slice-aggregate-restore-all
+slice-aggregate-restore-all c = search needs
+
+slice-aggregate-restore-all-2 : tie.Need-slice-aggregate-restore-all-2
+slice-aggregate-restore-all-2 c = search needs
+
+slice-aggregate-restore-all-3 : tie.Need-slice-aggregate-restore-all-3
+slice-aggregate-restore-all-3 c = search needs
+
+slice-aggregate-restore-all-4 : tie.Need-slice-aggregate-restore-all-4
+slice-aggregate-restore-all-4 c = search needs
+
+restore-all-requires : tie.Need-restore-all-requires
+restore-all-requires c κs =
+    let p = c .before .before .before .before .before .before .before .before .before .before .before .before .before .before .before .before .before .before .before .before .before .pre in
+    let a = c .before .before .before .before .before .before .before .before .before .before .before .before .before .before .before .before .before .before .before .before .before .args in
+    let e = c .before .before .before .before .before .before .before .before .before .link-all .ensures in (
+      p .0,
+      p .1,
+      linked-of (a .t .now) (a .m) (a .n) _ _ _ (omega (arith, e .0, few-places (a .t .now) (a .m) (a .n) (a .s) (p .0))) (omega (arith, e .1, e .2)) (omega (arith, e .1, few-words (a .t .now) (a .m) (a .n) (a .s) (p .0))) (e .3),
+      c .before .before .before .before .before .before .before .before .before .before .before .before .before .before .count-all .ensures,
+      p .2,
+      p .3,
+    )
+
+same-length : tie.Need-same-length
+same-length c = search needs
+
+same-length-2 : tie.Need-same-length-2
+same-length-2 c = search needs
+
+returns : tie.Need-returns
+returns c = c .before .before .before .before .before .restore-all .ensures
+
+pub restore-lost-spec : {M : Type 1} → statement M
+restore-lost-spec =
+    tie.close
+    (tie.spec
+    slice-aggregate-count-all
+    count-all-requires
+    slice-aggregate-link-all
+    slice-aggregate-link-all-2
+    slice-aggregate-link-all-3
+    link-all-requires
+    slice-aggregate-restore-all
+    slice-aggregate-restore-all-2
+    slice-aggregate-restore-all-3
+    slice-aggregate-restore-all-4
+    restore-all-requires
+    same-length
+    same-length-2
+    returns)
