@@ -1,0 +1,87 @@
+// encode_file TABLE SOURCE BLOCK: writes the block whose information is the source, padded with
+// zeros.
+use text::Read;
+ghost use mathlib.Core.Path.{_≡_};
+ghost use Prim.Native.Nat.{_≤_};
+ghost use Rattle.plan.specs.Layout.{planRefusal};
+
+// the most bytes of a block
+const MOST_BLOCK: usize = 32768;
+
+fn print_additions(additions: u32) {
+    let mut line = [0u8; 64];
+    let at = text::put_count(&mut line, 0, b"additions ", additions as u64);
+    let at = text::put(&mut line, at, b"\n");
+    io::write_all(libc::STDOUT_FILENO, &line[..at]);
+}
+
+// Reads the source, encodes it and writes the block.
+fn encode_source(plan: &[u32], information: &mut [u8], block: &mut [u8], scratch: &mut [u8]) {
+    let Read::Count(_) = text::read_argument(2, information) else {
+        return;
+    };
+    let encoded = encoder::encode(plan, information, block, scratch, usize::MAX);
+    if encoded.refusal != 0 {
+        text::print_refusal(encoded.refusal);
+        return;
+    }
+    if text::write_argument(3, block) {
+        print_additions(encoded.additions);
+    }
+}
+
+// Encodes with part bytes of information, the whole block's, and spare ones of scratch.
+fn encode_within(plan: &[u32], part: usize, whole: usize, spare: usize)
+    requires { ⌜ (part ≤ 32768) × (whole ≤ 32768) × (spare ≤ 32768) ⌝ }
+{
+    let mut information = [0u8; MOST_BLOCK];
+    let mut block = [0u8; MOST_BLOCK];
+    let mut scratch = [0u8; MOST_BLOCK];
+    encode_source(
+        plan,
+        &mut information[..part],
+        &mut block[..whole],
+        &mut scratch[..spare],
+    );
+}
+
+fn encode_by(plan: &[u32])
+    requires { ⌜ planRefusal (now plan) ≡ 0 ⌝ }
+{
+    let s = plan::size(plan);
+    let whole = plan::places(plan) * s;
+    if whole > MOST_BLOCK {
+        io::write_all(
+            libc::STDERR_FILENO,
+            b"the block has more than 32768 bytes\n",
+        );
+        return;
+    }
+    encode_within(plan, plan::info_count(plan) * s, whole, plan::gap(plan) * s);
+}
+
+fn encode_file(table: &[u16]) {
+    let mut plan = [0u32; planner::LEAST_PLAN];
+    let planned = own_plan::plan_of(table, &mut plan);
+    if planned.refusal != 0 {
+        text::print_refusal(planned.refusal);
+        return;
+    }
+    let length = planned.length as usize;
+    encode_by(&plan[..length]);
+}
+
+fn main() {
+    if os::arg_count() != 4 {
+        io::write_all(
+            libc::STDERR_FILENO,
+            b"usage: encode_file TABLE SOURCE BLOCK\n",
+        );
+        return;
+    }
+    let mut words = [0u16; text::MOST_WORDS];
+    let Read::Count(n) = text::read_table(text::open_argument(1), &mut words) else {
+        return;
+    };
+    encode_file(&words[..n]);
+}
