@@ -11,6 +11,7 @@ if [ $# -gt 0 ]; then
     bin=$(cd "$1" && pwd)
 else
     bin=$root/target/bin
+    mkdir -p "$root/target"
     (cd "$root" && rt check planlist encode_file repair_file verify_file >"$root/target/week.log" 2>&1) || {
         cat "$root/target/week.log"
         exit 1
