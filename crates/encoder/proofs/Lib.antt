@@ -2,3 +2,5 @@ pub mod CallLaws
 pub mod RunLaws
 pub mod SlotLaws
 pub mod StartLaws
+pub mod PartLaws
+pub mod GatherLaws

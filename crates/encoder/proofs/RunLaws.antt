@@ -18,7 +18,7 @@ use Rattle.encoder.specs.Slots.{Holds, StepIn, Stepped, Ran}
 use Rattle.encoder.proofs.SlotLaws.{step-in}
 
 -- ---- counts
-adds-snoc : (xs : List Step) (x : Step) → addSteps (xs ++ (x ∷ [])) ≡ addSteps xs + addSteps (x ∷ [])
+pub adds-snoc : (xs : List Step) (x : Step) → addSteps (xs ++ (x ∷ [])) ≡ addSteps xs + addSteps (x ∷ [])
 adds-snoc [] x = omega arith
 adds-snoc (Clear to ∷ xs) x = adds-snoc xs x
 adds-snoc (Add to from ∷ xs) x = let h = adds-snoc xs x in omega arith
@@ -37,11 +37,11 @@ step-length : (s : ℕ) (st : List (List ℕ)) (x : Step) → length (carryOut s
 step-length s st (Clear to) = length-set st to _
 step-length s st (Add to from) = length-set st to _
 
-steps-keep : (s : ℕ) (st : List (List ℕ)) (xs : List Step) → length (carryOutAll s st xs) ≡ length st
+pub steps-keep : (s : ℕ) (st : List (List ℕ)) (xs : List Step) → length (carryOutAll s st xs) ≡ length st
 steps-keep s st [] = refl
 steps-keep s st (x ∷ xs) = steps-keep s (carryOut s st x) xs ∙ step-length s st x
 
-steps-snoc : (s : ℕ) (st : List (List ℕ)) (xs : List Step) (x : Step) → carryOutAll s st (xs ++ (x ∷ [])) ≡ carryOut s (carryOutAll s st xs) x
+pub steps-snoc : (s : ℕ) (st : List (List ℕ)) (xs : List Step) (x : Step) → carryOutAll s st (xs ++ (x ∷ [])) ≡ carryOut s (carryOutAll s st xs) x
 steps-snoc s st [] x = refl
 steps-snoc s st (y ∷ xs) x = steps-snoc s (carryOut s st y) xs x
 
@@ -50,7 +50,7 @@ abbrev pub stepAt : List ℕ → ℕ → Step
 stepAt w i = getD (stepsOf w) i (Clear 0)
 
 -- one more
-take-more : (w : List ℕ) → Formed w → (i : ℕ) → i < stepCount w → take (i + 1) (stepsOf w) ≡ take i (stepsOf w) ++ (stepAt w i ∷ [])
+pub take-more : (w : List ℕ) → Formed w → (i : ℕ) → i < stepCount w → take (i + 1) (stepsOf w) ≡ take i (stepsOf w) ++ (stepAt w i ∷ [])
 take-more w f i h = ap (λ (k : ℕ). take k (stepsOf w)) (add-one i) ∙ take-suc (stepsOf w) i (Clear 0) (let e = steps-length w f in omega arith)
 
 -- ---- a plan's first steps

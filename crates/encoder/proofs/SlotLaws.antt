@@ -51,10 +51,10 @@ rooms b to from s h k = record {
     later l = ⊎-elim (λ m. inr (place-fits from to s m)) (λ (m : to ≤ from). let e : to ≡ from = omega arith in inl (rw e (omega arith))) (side from to)
 
 module _ (n s : ℕ) (st : List (List ℕ)) (b c : List ℕ) (h : Holds n s st b c) where
-  front-length : (to : ℕ) → to < n → to < length st → to < length (take n st)
+  pub front-length : (to : ℕ) → to < n → to < length st → to < length (take n st)
   front-length to l m = let e = length-take n st in omega arith
 
-  back-length : (to : ℕ) → n ≤ to → to < length st → to - n < length (drop n st)
+  pub back-length : (to : ℕ) → n ≤ to → to < length st → to - n < length (drop n st)
   back-length to l m = let e = length-drop n st in omega arith
 
   -- a slot of the block
@@ -84,10 +84,10 @@ module _ (n s : ℕ) (st : List (List ℕ)) (b c : List ℕ) (h : Holds n s st b
   sum-sized : (to from : ℕ) → to < length st → from < length st → length (add XorGroup (getD st to []) (getD st from [])) ≡ s
   sum-sized to from l m = length-add XorGroup (getD st to []) (getD st from []) s (all-getD (h .sized) to l) (all-getD (h .sized) from m)
 
-  front : (to : ℕ) → to < n → getD st to [] ≡ getD (take n st) to []
+  pub front : (to : ℕ) → to < n → getD st to [] ≡ getD (take n st) to []
   front to l = sym (getD-take n st to [] l)
 
-  back : (to : ℕ) → n ≤ to → getD st to [] ≡ getD (drop n st) (to - n) []
+  pub back : (to : ℕ) → n ≤ to → getD st to [] ≡ getD (drop n st) (to - n) []
   back to l = ap (λ (i : ℕ). getD st i []) {x = to} {y = n + (to - n)} (omega arith) ∙ sym (getD-drop n st (to - n) [])
 
   module _ (to from : ℕ) (l : to < length st) (m : from < length st) where

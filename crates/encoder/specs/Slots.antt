@@ -1,11 +1,13 @@
 -- Slots as bytes: the first n slots in a row are the block, the others the scratch.
 use mathlib.Core.Path.{_≡_}
-use mathlib.Core.Bool.{Bool, not, _||_}
+use mathlib.Core.Bool.{Bool, cond, not, _||_}
 use mathlib.Core.List.{List, [], _∷_}
-use Prim.Native.Nat.{ℕ, _+_, _*_, _-_, _<_, _≤_}
+use Prim.Native.Nat.{ℕ, _+_, _*_, _-_, _%_, _<_, _≤_}
 use lib.Dec.{eqb}
-use lib.ListN.{length, take, drop}
-use Rattle.table.specs.Packets.{Packets, packets, joined}
+use lib.ListN.{length, getD, take, drop, replicate}
+use Rattle.gf2.specs.Group.{XorGroup}
+use Rattle.gf2.specs.Vectors.{add}
+use Rattle.table.specs.Packets.{Packets, packets, joined, packetSum}
 use Rattle.plan.specs.declared.Step.{Step}
 use Rattle.plan.specs.declared.Step.the-variants.{Clear, Add}
 use Rattle.plan.specs.Layout.{planPlaces, planGap, infoCount, infoIn, slots, stepsOf, planRefusal}
@@ -22,6 +24,30 @@ pub record Holds (n s : ℕ) (st : List (List ℕ)) (block scratch : List ℕ) :
 pub record SlotIn (n s b c p : ℕ) : Type 0 where
   pub below : p < n → p * s + s ≤ b
   pub above : n ≤ p → (p - n) * s + s ≤ c
+
+-- the sources of some plan numbers
+abbrev pub sourcesOf : List ℕ → List ℕ
+sourcesOf [] = []
+sourcesOf (x ∷ xs) = x % 4096 ∷ sourcesOf xs
+
+-- the sources of count numbers of w from at on lie within, are below k, and are not to
+pub record SourcesIn (w : List ℕ) (at count n s b c : ℕ) : Type 0 where
+  pub room : at + count ≤ length w
+  pub each : (i : ℕ) → i < count → SlotIn n s b c (getD w (at + i) 0 % 4096)
+
+abbrev pub SourcesBelow : List ℕ → ℕ → ℕ → ℕ → Type 0
+SourcesBelow w at count k = (i : ℕ) → i < count → getD w (at + i) 0 % 4096 < k
+
+abbrev pub SourcesApart : List ℕ → ℕ → ℕ → ℕ → Type 0
+SourcesApart w at count to = (i : ℕ) → i < count → getD w (at + i) 0 % 4096 ≡ to → ⊥
+
+-- what a run of add steps starts from: zero after a clear
+abbrev pub baseOf : Bool → ℕ → List ℕ → List ℕ
+baseOf fresh s v = cond fresh (replicate s 0) v
+
+-- what it gives
+abbrev pub runSum : Bool → ℕ → List (List ℕ) → ℕ → List ℕ → List ℕ
+runSum fresh s st to fs = add XorGroup (baseOf fresh s (getD st to [])) (packetSum s st fs)
 
 -- the slots of a step do
 abbrev pub StepIn : ℕ → ℕ → ℕ → ℕ → Step → Type 0

@@ -1,17 +1,15 @@
 // The encoder.
-use plan::Decoded;
-use plan::Step;
 ghost use mathlib.Core.Path.{_≡_};
-ghost use mathlib.Core.List.{List};
-ghost use Prim.Native.Nat.{ℕ, _+_, _*_, _<_, _≤_, min};
-ghost use lib.ListN.{length, replicate};
-ghost use mathlib.Core.Option.{some};
+ghost use mathlib.Core.List.{List, []};
+ghost use mathlib.Core.Bool.{cond};
+ghost use lib.Dec.{ltb};
+ghost use Rattle.gf2.specs.Group.{XorGroup};
+ghost use Rattle.gf2.specs.Vectors.{add as addVectors};
+ghost use Rattle.table.specs.Packets.{packetSum, written};
+ghost use Prim.Native.Nat.{ℕ, _+_, _-_, _*_, _/_, _%_, _<_, _≤_, min};
+ghost use lib.ListN.{length, getD, set, take, drop, replicate};
 ghost use Rattle.plan.specs.Layout.{planPlaces, infoCount, stepCount, planRefusal};
-ghost use Rattle.plan.specs.Step.{unpack};
-ghost use Rattle.plan.specs.declared.Step.{Step as StepValue};
-ghost use Rattle.plan.specs.Steps.{carryOut};
-ghost use Rattle.plan.specs.declared.Step.the-variants.{Clear, Add};
-ghost use Rattle.encoder.specs.Slots.{Holds, SlotIn, StepIn, Stepped, Lent, Ran, withInformation, startOf, wrongLengths};
+ghost use Rattle.encoder.specs.Slots.{Holds, SlotIn, SourcesIn, SourcesBelow, SourcesApart, sourcesOf, baseOf, runSum, Lent, Ran, withInformation, startOf, wrongLengths};
 ghost use Rattle.encoder.specs.Answers.{answerOf};
 ghost use Rattle.encoder.specs.Encoding.{encodeAnswer, blockAfter, scratchAfter};
 
@@ -21,78 +19,295 @@ pub struct Encoded {
     pub additions: u32,
 }
 
-// Slot to becomes zero: a place of the block below n, scratch from n on.
-fn clear_slot(to: usize, n: usize, s: usize, block: &mut [u8], scratch: &mut [u8])
-    requires { ⌜ SlotIn n s (length (now block)) (length (now scratch)) to ⌝ }
-    ensures { λ _. ⌜ ((st : List (List ℕ)) → Holds n s st (now (block .entry)) (now (scratch .entry)) → to < length st → Holds n s (carryOut s st (Clear to)) (now (block .exit)) (now (scratch .exit))) ⌝ }
+// ---- a run of steps into one slot
+
+// The slot that the step of a number adds from.
+fn source(word: u32) -> usize
+    ensures { λ r. ⌜ r ≡ word % 4096 ⌝ }
 {
-    if to < n {
-        table::clear(block, to * s, s);
+    (word % 4096) as usize
+}
+
+// The slot that it writes.
+fn target(word: u32) -> usize
+    ensures { λ r. ⌜ r ≡ word / 4096 % 4096 ⌝ }
+{
+    (word / 4096 % 4096) as usize
+}
+
+// Past the last of the numbers from first on, up to end, that are add steps into slot to.
+fn run_end(plan: &[u32], first: usize, end: usize, to: u32) -> usize
+    requires { ⌜ (first ≤ end) × (end ≤ length (now plan)) × (to < 4096) ⌝ }
+    ensures { λ r. ⌜ (first ≤ r) × (r ≤ end) × ((i : ℕ) → first ≤ i → i < r → getD (now (plan .entry)) i 0 / 4096 ≡ 4096 + to) ⌝ }
+{
+    let head = 4096 + to;
+    let mut i = first;
+    while i < end {
+        if plan[i] / 4096 != head {
+            return i;
+        }
+        i += 1;
+    }
+    i
+}
+
+// The bytes of slot f from off on, as many as acc has, are added into acc.
+fn add_part(acc: &mut [u8], f: usize, off: usize, n: usize, s: usize, block: &[u8], scratch: &[u8])
+    requires { ⌜ SlotIn n s (length (now block)) (length (now scratch)) f × (off + length (now acc) ≤ s) ⌝ }
+    ensures { λ _. ⌜ ((st : List (List ℕ)) → Holds n s st (now (block .entry)) (now (scratch .entry)) → f < length st → now (acc .exit) ≡ addVectors XorGroup (now (acc .entry)) (take (length (now (acc .entry))) (drop off (getD st f [])))) ⌝ }
+{
+    let k = acc.len();
+    if f < n {
+        table::add_from(acc, 0, block, f * s + off, k);
     } else {
-        table::clear(scratch, (to - n) * s, s);
+        table::add_from(acc, 0, scratch, (f - n) * s + off, k);
     }
 }
 
-// Slot from is added into slot to.
-fn add_slot(to: usize, from: usize, n: usize, s: usize, block: &mut [u8], scratch: &mut [u8])
-    requires { ⌜ SlotIn n s (length (now block)) (length (now scratch)) to × SlotIn n s (length (now block)) (length (now scratch)) from ⌝ }
-    ensures { λ _. ⌜ ((st : List (List ℕ)) → Holds n s st (now (block .entry)) (now (scratch .entry)) → to < length st → from < length st → Holds n s (carryOut s st (Add to from)) (now (block .exit)) (now (scratch .exit))) ⌝ }
+// The same of the sources of count numbers from at on.
+fn add_sources(
+    acc: &mut [u8],
+    plan: &[u32],
+    at: usize,
+    count: usize,
+    off: usize,
+    n: usize,
+    s: usize,
+    block: &[u8],
+    scratch: &[u8],
+)
+    requires { ⌜ SourcesIn (now plan) at count n s (length (now block)) (length (now scratch)) × (off + length (now acc) ≤ s) ⌝ }
+    ensures { λ _. ⌜ ((st : List (List ℕ)) → Holds n s st (now (block .entry)) (now (scratch .entry)) → SourcesBelow (now (plan .entry)) at count (length st) → now (acc .exit) ≡ addVectors XorGroup (now (acc .entry)) (take (length (now (acc .entry))) (drop off (packetSum s st (sourcesOf (take count (drop at (now (plan .entry))))))))) ⌝ }
 {
+    let mut m = 0;
+    while m < count {
+        add_part(acc, source(plan[at + m]), off, n, s, block, scratch);
+        m += 1;
+    }
+}
+
+// acc becomes the bytes of slot to from off on.
+fn put_part(
+    acc: &[u8],
+    to: usize,
+    off: usize,
+    n: usize,
+    s: usize,
+    block: &mut [u8],
+    scratch: &mut [u8],
+)
+    requires { ⌜ SlotIn n s (length (now block)) (length (now scratch)) to × (off + length (now acc) ≤ s) ⌝ }
+    ensures { λ _. ⌜ ((st : List (List ℕ)) → Holds n s st (now (block .entry)) (now (scratch .entry)) → to < length st → Holds n s (set st to (written (getD st to []) off (now (acc .entry)))) (now (block .exit)) (now (scratch .exit))) ⌝ }
+{
+    let k = acc.len();
     if to < n {
-        if from < n {
-            table::add(block, to * s, from * s, s);
-        } else {
-            table::add_from(block, to * s, scratch, (from - n) * s, s);
-        }
+        table::copy(block, to * s + off, acc, 0, k);
     } else {
-        if from < n {
-            table::add_from(scratch, (to - n) * s, block, from * s, s);
-        } else {
-            table::add(scratch, (to - n) * s, (from - n) * s, s);
-        }
+        table::copy(scratch, (to - n) * s + off, acc, 0, k);
     }
 }
 
-// One step; 1 for an add step, 0 for a clear.
-fn carry_out(x: Step, n: usize, s: usize, block: &mut [u8], scratch: &mut [u8]) -> u32
-    requires { ⌜ StepIn n s (length (now block)) (length (now scratch)) x ⌝ }
-    ensures { λ r. ⌜ Stepped n s x r (now (block .entry)) (now (scratch .entry)) (now (block .exit)) (now (scratch .exit)) ⌝ }
+// The bytes of slot to that a run starts from: none after a clear.
+fn add_base(
+    acc: &mut [u8],
+    fresh: bool,
+    to: usize,
+    off: usize,
+    n: usize,
+    s: usize,
+    block: &[u8],
+    scratch: &[u8],
+)
+    requires { ⌜ SlotIn n s (length (now block)) (length (now scratch)) to × (off + length (now acc) ≤ s) ⌝ }
+    ensures { λ _. ⌜ ((st : List (List ℕ)) → Holds n s st (now (block .entry)) (now (scratch .entry)) → to < length st → now (acc .exit) ≡ addVectors XorGroup (now (acc .entry)) (take (length (now (acc .entry))) (drop off (baseOf fresh s (getD st to []))))) ⌝ }
 {
-    match x {
-        Step::Clear(to) => {
-            clear_slot(to, n, s, block, scratch);
-            0
-        }
-        Step::Add(to, from) => {
-            add_slot(to, from, n, s, block, scratch);
-            1
-        }
+    if !fresh {
+        add_part(acc, to, off, n, s, block, scratch);
     }
 }
 
-// The step of a plan number; a number that is no step does nothing.
-fn execute(word: u32, n: usize, s: usize, block: &mut [u8], scratch: &mut [u8]) -> u32
-    requires { ⌜ ((x : StepValue) → unpack word ≡ some x → StepIn n s (length (now block)) (length (now scratch)) x) ⌝ }
-    ensures { λ r. ⌜ ((x : StepValue) → unpack word ≡ some x → Stepped n s x r (now (block .entry)) (now (scratch .entry)) (now (block .exit)) (now (scratch .exit))) ⌝ }
+// The bytes of slot to from off on, as many as acc has, become those of the run's sum; acc is zero.
+fn run_part(
+    acc: &mut [u8],
+    plan: &[u32],
+    at: usize,
+    count: usize,
+    to: usize,
+    fresh: bool,
+    off: usize,
+    n: usize,
+    s: usize,
+    block: &mut [u8],
+    scratch: &mut [u8],
+)
+    requires { ⌜ SourcesIn (now plan) at count n s (length (now block)) (length (now scratch)) × SlotIn n s (length (now block)) (length (now scratch)) to × (off + length (now acc) ≤ s) × (now acc ≡ replicate (length (now acc)) 0) ⌝ }
+    ensures { λ _. ⌜ ((st : List (List ℕ)) → Holds n s st (now (block .entry)) (now (scratch .entry)) → to < length st → SourcesBelow (now (plan .entry)) at count (length st) → Holds n s (set st to (written (getD st to []) off (take (length (now (acc .entry))) (drop off (runSum fresh s st to (sourcesOf (take count (drop at (now (plan .entry)))))))))) (now (block .exit)) (now (scratch .exit))) ⌝ }
 {
-    match Step::unpack(word) {
-        Decoded::Valid(x) => carry_out(x, n, s, block, scratch),
-        Decoded::Invalid => 0,
-    }
+    add_base(acc, fresh, to, off, n, s, block, scratch);
+    add_sources(acc, plan, at, count, off, n, s, block, scratch);
+    put_part(acc, to, off, n, s, block, scratch);
 }
 
-// The plan's first steps, in order; the number of add steps among them.
+// The same for 128 bytes.
+fn run_big(
+    plan: &[u32],
+    at: usize,
+    count: usize,
+    to: usize,
+    fresh: bool,
+    off: usize,
+    n: usize,
+    s: usize,
+    block: &mut [u8],
+    scratch: &mut [u8],
+)
+    requires { ⌜ SourcesIn (now plan) at count n s (length (now block)) (length (now scratch)) × SlotIn n s (length (now block)) (length (now scratch)) to × (off + 128 ≤ s) ⌝ }
+    ensures { λ _. ⌜ ((st : List (List ℕ)) → Holds n s st (now (block .entry)) (now (scratch .entry)) → to < length st → SourcesBelow (now (plan .entry)) at count (length st) → Holds n s (set st to (written (getD st to []) off (take 128 (drop off (runSum fresh s st to (sourcesOf (take count (drop at (now (plan .entry)))))))))) (now (block .exit)) (now (scratch .exit))) ⌝ }
+{
+    let mut acc = [0u8; 128];
+    run_part(
+        &mut acc,
+        plan,
+        at,
+        count,
+        to,
+        fresh,
+        off,
+        n,
+        s,
+        block,
+        scratch,
+    );
+}
+
+// The same for 64 bytes.
+fn run_chunk(
+    plan: &[u32],
+    at: usize,
+    count: usize,
+    to: usize,
+    fresh: bool,
+    off: usize,
+    n: usize,
+    s: usize,
+    block: &mut [u8],
+    scratch: &mut [u8],
+)
+    requires { ⌜ SourcesIn (now plan) at count n s (length (now block)) (length (now scratch)) × SlotIn n s (length (now block)) (length (now scratch)) to × (off + 64 ≤ s) ⌝ }
+    ensures { λ _. ⌜ ((st : List (List ℕ)) → Holds n s st (now (block .entry)) (now (scratch .entry)) → to < length st → SourcesBelow (now (plan .entry)) at count (length st) → Holds n s (set st to (written (getD st to []) off (take 64 (drop off (runSum fresh s st to (sourcesOf (take count (drop at (now (plan .entry)))))))))) (now (block .exit)) (now (scratch .exit))) ⌝ }
+{
+    let mut acc = [0u8; 64];
+    run_part(
+        &mut acc,
+        plan,
+        at,
+        count,
+        to,
+        fresh,
+        off,
+        n,
+        s,
+        block,
+        scratch,
+    );
+}
+
+// The same for fewer than 64, the last.
+fn run_rest(
+    plan: &[u32],
+    at: usize,
+    count: usize,
+    to: usize,
+    fresh: bool,
+    off: usize,
+    n: usize,
+    s: usize,
+    block: &mut [u8],
+    scratch: &mut [u8],
+)
+    requires { ⌜ SourcesIn (now plan) at count n s (length (now block)) (length (now scratch)) × SlotIn n s (length (now block)) (length (now scratch)) to × (off ≤ s) × (s < off + 64) ⌝ }
+    ensures { λ _. ⌜ ((st : List (List ℕ)) → Holds n s st (now (block .entry)) (now (scratch .entry)) → to < length st → SourcesBelow (now (plan .entry)) at count (length st) → Holds n s (set st to (written (getD st to []) off (take (s - off) (drop off (runSum fresh s st to (sourcesOf (take count (drop at (now (plan .entry)))))))))) (now (block .exit)) (now (scratch .exit))) ⌝ }
+{
+    let mut acc = [0u8; 64];
+    let k = s - off;
+    run_part(
+        &mut acc[..k],
+        plan,
+        at,
+        count,
+        to,
+        fresh,
+        off,
+        n,
+        s,
+        block,
+        scratch,
+    );
+}
+
+// Slot to becomes what it was, or zero after a clear, with the sources of count numbers from at on added.
+fn add_run(
+    plan: &[u32],
+    at: usize,
+    count: usize,
+    to: usize,
+    fresh: bool,
+    n: usize,
+    s: usize,
+    block: &mut [u8],
+    scratch: &mut [u8],
+)
+    requires { ⌜ SourcesIn (now plan) at count n s (length (now block)) (length (now scratch)) × SlotIn n s (length (now block)) (length (now scratch)) to ⌝ }
+    ensures { λ _. ⌜ ((st : List (List ℕ)) → Holds n s st (now (block .entry)) (now (scratch .entry)) → to < length st → SourcesBelow (now (plan .entry)) at count (length st) → SourcesApart (now (plan .entry)) at count to → Holds n s (set st to (runSum fresh s st to (sourcesOf (take count (drop at (now (plan .entry))))))) (now (block .exit)) (now (scratch .exit))) ⌝ }
+{
+    let mut i = 0;
+    while 128 <= s - i {
+        run_big(plan, at, count, to, fresh, i, n, s, block, scratch);
+        i += 128;
+    }
+    while 64 <= s - i {
+        run_chunk(plan, at, count, to, fresh, i, n, s, block, scratch);
+        i += 64;
+    }
+    if i == s {
+        return;
+    }
+    run_rest(plan, at, count, to, fresh, i, n, s, block, scratch);
+}
+
+// A clear is taken with the add steps after it.
+fn is_clear(word: u32) -> bool
+    ensures { λ r. ⌜ r ≡ ltb word 16777216 ⌝ }
+{
+    word < 16777216
+}
+
+fn skipped(fresh: bool) -> usize
+    ensures { λ r. ⌜ r ≡ cond fresh 1 0 ⌝ }
+{
+    if fresh { 1 } else { 0 }
+}
+
+// The plan's first steps, run by run; the number of add steps among them.
 fn run(plan: &[u32], s: usize, steps: usize, block: &mut [u8], scratch: &mut [u8]) -> u32
     requires { ⌜ Lent (now plan) s (length (now block)) (length (now scratch)) × (steps ≤ stepCount (now plan)) ⌝ }
     ensures { λ r. ⌜ Ran (now (plan .entry)) s steps r (now (block .entry)) (now (scratch .entry)) (now (block .exit)) (now (scratch .exit)) ⌝ }
 {
     let n = plan::places(plan);
     let at = 7 + plan::info_count(plan);
+    let end = at + steps;
     let mut additions = 0;
-    let mut i = 0;
-    while i < steps {
-        additions += execute(plan[at + i], n, s, block, scratch);
-        i += 1;
+    let mut i = at;
+    while i < end {
+        let word = plan[i];
+        let to = target(word);
+        let fresh = is_clear(word);
+        let first = i + skipped(fresh);
+        let last = run_end(plan, i + 1, end, to as u32);
+        let count = last - first;
+        add_run(plan, first, count, to, fresh, n, s, block, scratch);
+        additions += count as u32;
+        i = last;
     }
     additions
 }

@@ -7,3 +7,4 @@ pub mod Ordering
 pub mod TableUse
 pub mod Turning
 pub mod Walking
+pub mod Spending

@@ -43,10 +43,10 @@ number-is lost (x ∷ cs) (suc r) a b c = rw (ne-eqb _ _ (b 0 (omega arith)), re
     (ap suc (number-is lost cs r (omega arith) (λ j h. b (suc j) (omega arith)) (λ h. c (omega arith))))
 
 module _ (t : List ℕ) (m n s : ℕ) (k : TableOf t m n s) where
-  at-check : (j : ℕ) → j < m → getD (checks t) j [] ≡ check t m j
+  pub at-check : (j : ℕ) → j < m → getD (checks t) j [] ≡ check t m j
   at-check j h = checks-at t (k .accepted) j (subst (λ x. j < x) (k .number-is) h) ∙ ap (λ x. check t x j) (sym (k .number-is))
 
-  distinct-check : (j : ℕ) → j < m → Distinct (check t m j)
+  pub distinct-check : (j : ℕ) → j < m → Distinct (check t m j)
   distinct-check j h = subst Distinct (at-check j h) (all-getD (accepted t (k .accepted) .distinct) j (subst (λ x. j < x) (sym (check-count t m n s k)) h))
 
   module _ (l count : List ℕ) (low : ℕ) (tr : Tracked t m l count low) (r : ℕ) (found : LowestOne count low m r) where

@@ -105,13 +105,13 @@ module _ (n s : ℕ) (cs : List (List ℕ)) (b₀ l₀ b l : List ℕ) (adds : �
   q-in = let z = lost-inside l _ lost-q in let e = g .places in omega arith
 
   -- the packet that is restored
-  v-long : length (packetSum s (packets s n b) (minus c (getD (lostPlaces l c) 0 0 ∷ []))) ≡ s
+  pub v-long : length (packetSum s (packets s n b) (minus c (getD (lostPlaces l c) 0 0 ∷ []))) ≡ s
   v-long = sum-view s (packets-sized s n b (g .bytes)) (all-filter (λ p. not (has p (getD (lostPlaces l c) 0 0 ∷ []))) (all-map (λ p k. subst (λ x. p < x) (sym (packets-length s n b)) k) low)) .0
 
   pub fewer-lost : suc (lostIn l′) ≡ lostIn l
   fewer-lost = rw (h .map-is) (restore-one l _ lost-q)
 
-  packets-now : packets s n b′ ≡ turn s c (stateOf s n b l 0) .block
+  pub packets-now : packets s n b′ ≡ turn s c (stateOf s n b l 0) .block
   packets-now = ap (packets s n) (h .block-is) ∙ packets-set s n b (g .bytes) _ _ q-in v-long
 
   state-now : stateOf s n b′ l′ (adds + (w - 1)) ≡ turn s c (stateOf s n b l adds)
@@ -170,3 +170,9 @@ module _ (t : List ℕ) (m n s : ℕ) (k : TableOf t m n s) (l : List ℕ) (j : 
 
         pub next-fewer : lostIn l′ < lostIn l
         next-fewer = let z = fewer-lost n s (checks t) b₀ l₀ b l adds g (take w (drop a t)) next-check next-low w next-length next-light b′ l′ h in omega arith
+
+        pub next-packets : packets s n b′ ≡ turn s (take w (drop a t)) (stateOf s n b l 0) .block
+        next-packets = packets-now n s (checks t) b₀ l₀ b l adds g (take w (drop a t)) next-check next-low w next-length next-light b′ l′ h
+
+        pub next-long : length (packetSum s (packets s n b) (minus (take w (drop a t)) (getD (lostPlaces l (take w (drop a t))) 0 0 ∷ []))) ≡ s
+        next-long = v-long n s (checks t) b₀ l₀ b l adds g (take w (drop a t)) next-check next-low w next-length next-light b′ l′ h

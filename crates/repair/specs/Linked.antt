@@ -5,10 +5,11 @@ use mathlib.Core.Bool.{Bool, true, false, cond}
 use mathlib.Core.List.{List, [], _∷_, _++_}
 use Prim.Native.Nat.{ℕ, zero, suc, _+_, _-_, _<_, _≤_}
 use lib.Dec.{eqb}
-use lib.ListN.{length, getD, take, drop}
+use lib.ListN.{length, getD, take, drop, replicate}
 use Rattle.gf2.specs.Lists.{Distinct}
 use Rattle.gf2.specs.Places.{has}
 use Rattle.table.specs.Checks.{check}
+use Rattle.table.specs.Packets.{packets, packetSum}
 use Rattle.repair.specs.Repair.{lostPlaces}
 
 -- a chain: 0 ends it; i + 1 names the check at i and goes on at next i, which is lower. All lie below x.
@@ -35,6 +36,11 @@ pub record Linked (t : List ℕ) (m n : ℕ) (head next owner : List ℕ) : Type
 pub record Counted (t : List ℕ) (m : ℕ) (lost count : List ℕ) : Type 0 where
   pub room : m ≤ length count
   pub each : (j : ℕ) → j < m → getD count j 0 ≡ length (lostPlaces lost (check t m j))
+
+-- every check that is marked 1 has no lost place, and its packets sum to zero
+pub record Spent (t : List ℕ) (m n s : ℕ) (b lost used : List ℕ) : Type 0 where
+  pub room : m ≤ length used
+  pub each : (j : ℕ) → j < m → getD used j 0 ≡ 1 → (length (lostPlaces lost (check t m j)) ≡ 0) × (packetSum s (packets s n b) (check t m j) ≡ replicate s 0)
 
 -- a chain whose checks have a lost place
 pub record Walk (next owner count : List ℕ) (i : ℕ) : Type 0 where

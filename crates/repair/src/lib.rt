@@ -1,7 +1,7 @@
 // The receiver: verification and repair.
 use table::wide;
 ghost use mathlib.Core.Path.{_≡_};
-ghost use mathlib.Core.Bool.{cond};
+ghost use mathlib.Core.Bool.{cond, true, false};
 ghost use mathlib.Core.List.{List, _∷_};
 ghost use Prim.Native.Nat.{ℕ, _+_, _*_, _≤_, _<_};
 ghost use lib.Dec.{ltb};
@@ -11,7 +11,7 @@ ghost use Rattle.gf2.specs.Span.{anyOf};
 ghost use Rattle.table.specs.Checks.{check, Places, Starts};
 ghost use Rattle.table.specs.Packets.{packets, joined};
 ghost use Rattle.table.specs.Table.{checks};
-ghost use Rattle.repair.specs.Linked.{Links, Linked, Counted, Walk, Walked, LowestOne, holders};
+ghost use Rattle.repair.specs.Linked.{Links, Linked, Counted, Spent, Walk, Walked, LowestOne, holders};
 ghost use Rattle.repair.specs.Repair.{lostPlaces, tally, zeroLost, consistent, restoring, Answers};
 ghost use Rattle.repair.specs.RepairLaws.{Fitting};
 ghost use Rattle.repair.specs.Turns.{TableOf, Holds, Restored, stateOf, turn, unmarked};
@@ -164,16 +164,35 @@ fn zero_lost(block: &mut [u8], map: &[u8], n: usize, s: usize)
     }
 }
 
-// every check without a lost place sums to zero
-fn agrees(t: &[u16], m: usize, n: usize, s: usize, block: &[u8], map: &[u8]) -> bool
-    requires { ⌜ TableOf (now t) m n s × (length (now block) ≡ n * s) × (length (now map) ≡ n) ⌝ }
+// whether a check with so many lost places is still to be summed: it has none, and restored none
+fn to_sum(count: u16, used: u8) -> bool
+    ensures { λ r. ⌜ (r ≡ true → count ≡ 0) × (r ≡ false → count ≡ 0 → used ≡ 1) ⌝ }
+{
+    if count == 0 {
+        return used != 1;
+    }
+    false
+}
+
+// every check without a lost place sums to zero; those that restored a place do
+fn agrees(
+    t: &[u16],
+    m: usize,
+    n: usize,
+    s: usize,
+    block: &[u8],
+    map: &[u8],
+    count: &[u16],
+    used: &[u8],
+) -> bool
+    requires { ⌜ TableOf (now t) m n s × (length (now block) ≡ n * s) × (length (now map) ≡ n) × Counted (now t) m (now map) (now count) × Spent (now t) m n s (now block) (now map) (now used) ⌝ }
     ensures { λ r. ⌜ r ≡ consistent s (checks (now (t .entry))) (stateOf s n (now (block .entry)) (now (map .entry)) 0) ⌝ }
 {
     let mut at = 5 + m;
     let mut j = 0;
     while j < m {
         let w = wide(t[4 + j]);
-        if lost_in(t, at, w, map) == 0 {
+        if to_sum(count[j], used[j]) {
             if table::sum_of_check(t, at, w, block, n, s) != s {
                 return false;
             }
@@ -320,9 +339,10 @@ fn restore_all(
     count: &mut [u16],
     block: &mut [u8],
     map: &mut [u8],
+    used: &mut [u8],
 ) -> usize
-    requires { ⌜ TableOf (now t) m n s × Starts (now t) m (now starts) × Linked (now t) m n (now head) (now next) (now owner) × Counted (now t) m (now map) (now count) × (length (now block) ≡ n * s) × (length (now map) ≡ n) ⌝ }
-    ensures { λ r. ⌜ Restored n s (checks (now (t .entry))) (now (block .entry)) (now (map .entry)) (now (block .exit)) (now (map .exit)) r ⌝ }
+    requires { ⌜ TableOf (now t) m n s × Starts (now t) m (now starts) × Linked (now t) m n (now head) (now next) (now owner) × Counted (now t) m (now map) (now count) × (length (now block) ≡ n * s) × (length (now map) ≡ n) × Spent (now t) m n s (now block) (now map) (now used) ⌝ }
+    ensures { λ r. ⌜ Restored n s (checks (now (t .entry))) (now (block .entry)) (now (map .entry)) (now (block .exit)) (now (map .exit)) r × Counted (now (t .entry)) m (now (map .exit)) (now (count .exit)) × Spent (now (t .entry)) m n s (now (block .exit)) (now (map .exit)) (now (used .exit)) ⌝ }
 {
     let mut adds = 0;
     let mut low = 0;
@@ -334,11 +354,18 @@ fn restore_all(
         let w = wide(t[4 + j]);
         let p = restore_one(t, wide(starts[j]), w, n, s, block, map);
         low = walk(next, owner, count, wide(head[p]), j);
+        used[j] = 1;
         adds += w - 1;
     }
 }
 
-// the same with counts and chains made first
+// the additions of all turns, and whether every check without a lost place then sums to zero
+struct Turned {
+    adds: usize,
+    agrees: bool,
+}
+
+// the same with counts and chains made first, and the look at the checks after it
 fn restore_lost(
     t: &[u16],
     m: usize,
@@ -347,17 +374,18 @@ fn restore_lost(
     starts: &[u16],
     block: &mut [u8],
     map: &mut [u8],
-) -> usize
+) -> Turned
     requires { ⌜ TableOf (now t) m n s × Starts (now t) m (now starts) × (length (now block) ≡ n * s) × (length (now map) ≡ n) ⌝ }
-    ensures { λ r. ⌜ Restored n s (checks (now (t .entry))) (now (block .entry)) (now (map .entry)) (now (block .exit)) (now (map .exit)) r ⌝ }
+    ensures { λ r. ⌜ Restored n s (checks (now (t .entry))) (now (block .entry)) (now (map .entry)) (now (block .exit)) (now (map .exit)) (r .adds) × (r .agrees ≡ consistent s (checks (now (t .entry))) (stateOf s n (now (block .exit)) (now (map .exit)) 0)) ⌝ }
 {
     let mut count = [0u16; 512];
     let mut head = [0u16; 1024];
     let mut next = [0u16; 6661];
     let mut owner = [0u16; 6661];
+    let mut used = [0u8; 512];
     count_all(t, m, n, s, starts, map, &mut count);
     link_all(t, m, n, s, starts, &mut head, &mut next, &mut owner);
-    restore_all(
+    let adds = restore_all(
         t,
         m,
         n,
@@ -369,7 +397,10 @@ fn restore_lost(
         &mut count,
         block,
         map,
-    )
+        &mut used,
+    );
+    let agrees = agrees(t, m, n, s, block, map, &count, &used);
+    Turned { adds, agrees }
 }
 
 // a refusal, counts 0
@@ -412,9 +443,9 @@ fn repair_packets(
     let mut starts = [0u16; 512];
     table::fill_starts(t, m, &mut starts);
     zero_lost(block, map, n, s);
-    let adds = restore_lost(t, m, n, s, &starts, block, map);
-    if agrees(t, m, n, s, block, map) {
-        return accepted(map, adds);
+    let done = restore_lost(t, m, n, s, &starts, block, map);
+    if done.agrees {
+        return accepted(map, done.adds);
     }
     unmark(map);
     zero_lost(block, map, n, s);

@@ -5,15 +5,16 @@ use Prim.Native.Nat.{ℕ, zero, _+_, _*_, _-_, _<_, _≤_}
 use native.Mathlib.Numerals.{add-one}
 use native.Mathlib.Omega.{arith}
 use lib.Bits.{bitOr, or-add-and, and-le-l, and-le-r}
-use lib.ListN.{length, getD, take, drop, replicate, length-append, length-drop, length-replicate}
-use lib.Seq.{take-all, take-at, length-take-le, take-suc, drop-drop, getD-drop}
+use lib.ListN.{length, getD, set, take, drop, replicate, length-set, length-append, length-drop, length-replicate}
+use lib.Seq.{take-all, take-at, length-take-le, take-suc, drop-drop, getD-drop, getD-set-same, getD-set-other}
+use borrow.Author.Count.{below-more}
 use Rattle.gf2.specs.Group.{XorGroup}
 use Rattle.gf2.specs.Vectors.{add, add-assoc, add-comm, add-zl}
 use Rattle.table.specs.BufferLaws.{part-length, place-fits, mixed-whole}
 use Rattle.table.specs.Checks.{CheckIn}
 use Rattle.table.specs.PacketLaws.{packet-at}
 use Rattle.table.specs.Packets.{packets, packetSum, mixed, lowestNonzero}
-use Rattle.table.specs.SumLaws.{lowest-in-first, lowest-in-rest, sum-length, part-of-part, part-sum, part-zeros, sum-snoc}
+use Rattle.table.specs.SumLaws.{lowest-below, lowest-is, lowest-in-first, lowest-in-rest, sum-length, part-of-part, part-sum, part-zeros, sum-snoc}
 
 -- an or that is zero
 pub or-left : (a b : ℕ) → bitOr a b ≡ 0 → a ≡ 0
@@ -22,6 +23,40 @@ or-left a b e = omega (arith, or-add-and a b, and-le-r a b)
 pub or-right : (a b : ℕ) → bitOr a b ≡ 0 → b ≡ 0
 or-right a b e = omega (arith, or-add-and a b, and-le-l a b)
 
+-- ---- or-ing
+-- the first i bytes of o are zero only where those of o₀ and a are; the others are o₀'s
+pub record Ored (o₀ a : List ℕ) (i : ℕ) (o : List ℕ) : Type 0 where
+  pub len : length o ≡ length o₀
+  pub both : (k : ℕ) → k < i → getD o k 0 ≡ 0 → (getD o₀ k 0 ≡ 0) × (getD a k 0 ≡ 0)
+  pub rest : (k : ℕ) → i ≤ k → getD o k 0 ≡ getD o₀ k 0
+
+pub or-none : (o a : List ℕ) → Ored o a 0 o
+or-none o a = record { len = refl; both = λ k h e. absurd (omega arith); rest = λ k h. refl }
+
+pub or-turn : (o₀ a o : List ℕ) (i : ℕ) → i < length o → Ored o₀ a i o → Ored o₀ a (i + 1) (set o i (bitOr (getD o i 0) (getD a i 0)))
+or-turn o₀ a o i h p =
+    let v = bitOr (getD o i 0) (getD a i 0) in
+    record {
+      len = simp length-set (p .len);
+      both = below-more _ _ (λ k l e. p .both k l (sym (getD-set-other o i k v 0 (omega arith)) ∙ e))
+          (λ e. let z : v ≡ 0 = sym (getD-set-same o i v 0 h) ∙ e in
+          (sym (p .rest i (omega arith)) ∙ or-left (getD o i 0) (getD a i 0) z, or-right (getD o i 0) (getD a i 0) z));
+      rest = λ k l. getD-set-other o i k v 0 (omega arith) ∙ p .rest k (omega arith);
+    }
+
+pub or-done : (o₀ a o : List ℕ) (i : ℕ) → length o₀ ≡ length a → i ≡ length o → Ored o₀ a i o → lowestNonzero o ≡ length a
+    → (lowestNonzero o₀ ≡ length a) × (lowestNonzero a ≡ length a)
+or-done o₀ a o i l e p z =
+    let all : (k : ℕ) → k < length a → (getD o₀ k 0 ≡ 0) × (getD a k 0 ≡ 0) = λ k h. p .both k (omega (arith, p .len)) (lowest-below o k (omega arith)) in (
+      lowest-is o₀ (length a) (omega arith) (λ k h. all k h .0) (λ h. absurd (omega arith)),
+      lowest-is a (length a) (omega arith) (λ k h. all k h .1) (λ h. absurd (omega arith)),
+    )
+
+pub or-piece : (x o₀ o a : List ℕ) → length a ≡ 64 → a ≡ x → (lowestNonzero o ≡ length a → (lowestNonzero o₀ ≡ length a) × (lowestNonzero a ≡ length a))
+    → lowestNonzero o ≡ 64 → (lowestNonzero o₀ ≡ 64) × (lowestNonzero x ≡ 64)
+or-piece x o₀ o a l e h z = let r = h (z ∙ sym l) in (r .0 ∙ l, ap lowestNonzero (sym e) ∙ r .1 ∙ l)
+
+-- ---- gathering
 -- k bytes from off on of the sum over the first m places
 abbrev pub piece : List ℕ → ℕ → List ℕ → ℕ → ℕ → ℕ → ℕ → ℕ → List ℕ
 piece t at b n s off k m = take k (drop off (packetSum s (packets s n b) (take m (drop at t))))
@@ -43,7 +78,7 @@ module _ (t : List ℕ) (at weight : ℕ) (b : List ℕ) (n s off : ℕ) (ok : C
   place-room k m q fits h e = let l : q < n = rw e (ok .below m h) in omega (arith, place-fits q n s l, ok .bytes)
 
   -- they are a part of its packet
-  bytes-of : (k q : ℕ) → off + k ≤ s → q < n → take k (drop (q * s + off) b) ≡ take k (drop off (getD (packets s n b) q []))
+  pub bytes-of : (k q : ℕ) → off + k ≤ s → q < n → take k (drop (q * s + off) b) ≡ take k (drop off (getD (packets s n b) q []))
   bytes-of k q fits l =
       ap (take k) (sym (drop-drop off (q * s) b)) ∙ sym (part-of-part off k s (drop (q * s) b) fits)
       ∙ ap (λ p. take k (drop off p)) (sym (packet-at s n b q l))

@@ -3,9 +3,8 @@ use mathlib.Core.Path.{_≡_}
 use mathlib.Core.List.{List, [], _∷_, _++_}
 use mathlib.Core.Logic.{_⊎_}
 use Prim.Native.Nat.{ℕ, zero, suc, _+_, _*_, _≤_}
-use lib.ListN.{length, getD, set, take, drop, replicate}
+use lib.ListN.{length, getD, take, drop, replicate}
 use Rattle.gf2.specs.Group.{XorGroup}
-use Rattle.gf2.specs.Places.{minus}
 use Rattle.gf2.specs.Vectors.{add}
 use Rattle.gf2.specs.Width.{All}
 
@@ -31,10 +30,6 @@ packetSum s b (p ∷ c) = add XorGroup (getD b p []) (packetSum s b c)
 -- "A block is a codeword if, for each check, the bytewise exclusive-or of its packets is all zero bytes"
 abbrev pub Codeword : ℕ → List (List ℕ) → List (List ℕ) → Type 0
 Codeword s cs b = All (λ c. packetSum s b c ≡ replicate s 0) cs
-
--- a block of n packets with the packets of the places of c other than p added into the packet at p
-abbrev pub withOthers : List ℕ → ℕ → ℕ → List ℕ → ℕ → List ℕ
-withOthers b n s c p = let ps = packets s n b in joined (set ps p (add XorGroup (getD ps p []) (packetSum s ps (minus c (p ∷ [])))))
 
 -- ---- bytes of a buffer
 -- b with x written from at on

@@ -240,6 +240,7 @@ pub fn packet_call<'a>(n: usize, s: usize, place: usize, block: &'a [u8]) -> Pac
 
 // ---- packets
 ghost use mathlib.Core.List.{[], _∷_};
+ghost use mathlib.Core.Bool.{true};
 ghost use mathlib.Core.Path.{_≡_};
 ghost use Prim.Native.Nat.{ℕ, _+_, _*_, _≤_, _<_};
 ghost use lib.ListN.{length, getD, set, take, drop, replicate};
@@ -247,7 +248,7 @@ ghost use Rattle.gf2.specs.Group.{XorGroup};
 ghost use Rattle.gf2.specs.Places.{minus};
 ghost use Rattle.gf2.specs.Vectors.{add as addVectors};
 ghost use Rattle.table.specs.Checks.{CheckIn};
-ghost use Rattle.table.specs.Packets.{Room, packets, joined, packetSum, written, mixed, lowestNonzero, withOthers};
+ghost use Rattle.table.specs.Packets.{Room, packets, joined, packetSum, written, mixed, lowestNonzero};
 
 // s zeros are written at at.
 pub fn clear(b: &mut [u8], at: usize, s: usize)
@@ -441,11 +442,62 @@ fn lowest_in_rest(
     lowest_of(&acc[..k])
 }
 
+// a is or-ed into o: zero after that only where both were.
+fn or_into(o: &mut [u8], a: &[u8])
+    requires { ⌜ length (now o) ≡ length (now a) ⌝ }
+    ensures { λ _. ⌜ (lowestNonzero (now (o .exit)) ≡ length (now (a .entry)) → (lowestNonzero (now (o .entry)) ≡ length (now (a .entry))) × (lowestNonzero (now (a .entry)) ≡ length (now (a .entry)))) ⌝ }
+{
+    let mut i = 0;
+    while i < o.len() {
+        o[i] = o[i] | a[i];
+        i += 1;
+    }
+}
+
+// 64 bytes of a check's sum, from off on, are or-ed into o.
+fn or_chunk(
+    o: &mut [u8],
+    t: &[u16],
+    at: usize,
+    weight: usize,
+    block: &[u8],
+    n: usize,
+    s: usize,
+    off: usize,
+)
+    requires { ⌜ CheckIn (now t) at weight (now block) n s × ((off + 64 ≤ s) × (length (now o) ≡ 64)) ⌝ }
+    ensures { λ _. ⌜ (lowestNonzero (now (o .exit)) ≡ 64 → (lowestNonzero (now (o .entry)) ≡ 64) × (lowestNonzero (take 64 (drop off (packetSum s (packets s n (now (block .entry))) (take weight (drop at (now (t .entry))))))) ≡ 64)) ⌝ }
+{
+    let mut acc = [0u8; 64];
+    gather(&mut acc, t, at, weight, block, n, s, off);
+    or_into(o, &acc);
+}
+
+// Whether the sum of a check's packets is zero, as far as one test of all pieces together tells.
+fn vanishes(t: &[u16], at: usize, weight: usize, block: &[u8], n: usize, s: usize) -> bool
+    requires { ⌜ CheckIn (now t) at weight (now block) n s ⌝ }
+    ensures { λ r. ⌜ (r ≡ true → lowestNonzero (packetSum s (packets s n (now (block .entry))) (take weight (drop at (now (t .entry))))) ≡ s) ⌝ }
+{
+    let mut o = [0u8; 64];
+    let mut i = 0;
+    while 64 <= s - i {
+        or_chunk(&mut o, t, at, weight, block, n, s, i);
+        i += 64;
+    }
+    if or_of(&o) == 0 {
+        return lowest_in_rest(t, at, weight, block, n, s, i) == s - i;
+    }
+    false
+}
+
 // The lowest nonzero byte of the sum of a check's packets, s where there is none. Nothing is stored.
 pub fn sum_of_check(t: &[u16], at: usize, weight: usize, block: &[u8], n: usize, s: usize) -> usize
     requires { ⌜ CheckIn (now t) at weight (now block) n s ⌝ }
     ensures { λ r. ⌜ r ≡ lowestNonzero (packetSum s (packets s n (now (block .entry))) (take weight (drop at (now (t .entry))))) ⌝ }
 {
+    if vanishes(t, at, weight, block, n, s) {
+        return s;
+    }
     let mut i = 0;
     while 64 <= s - i {
         let r = lowest_in_chunk(t, at, weight, block, n, s, i);
@@ -457,19 +509,69 @@ pub fn sum_of_check(t: &[u16], at: usize, weight: usize, block: &[u8], n: usize,
     i + lowest_in_rest(t, at, weight, block, n, s, i)
 }
 
-// The packets of a check's other places are added into the packet at place p.
-fn add_others(t: &[u16], at: usize, weight: usize, block: &mut [u8], n: usize, s: usize, p: usize)
-    requires { ⌜ CheckIn (now t) at weight (now block) n s × (p < n) ⌝ }
-    ensures { λ _. ⌜ now (block .exit) ≡ withOthers (now (block .entry)) n s (take weight (drop at (now (t .entry)))) p ⌝ }
+// The bytes of a check's packets at places other than p, from off on, as many as acc has, are added into acc.
+fn gather_others(
+    acc: &mut [u8],
+    t: &[u16],
+    at: usize,
+    weight: usize,
+    block: &[u8],
+    n: usize,
+    s: usize,
+    p: usize,
+    off: usize,
+)
+    requires { ⌜ CheckIn (now t) at weight (now block) n s × (off + length (now acc) ≤ s) ⌝ }
+    ensures { λ _. ⌜ now (acc .exit) ≡ addVectors XorGroup (now (acc .entry)) (take (length (now (acc .entry))) (drop off (packetSum s (packets s n (now (block .entry))) (minus (take weight (drop at (now (t .entry)))) (p ∷ []))))) ⌝ }
 {
+    let k = acc.len();
     let mut m = 0;
     while m < weight {
         let q = place_of(t[at + m]);
         if q != p {
-            add(block, p * s, q * s, s);
+            add_from(acc, 0, block, q * s + off, k);
         }
         m += 1;
     }
+}
+
+// 64 bytes of the packet at place p, from off on, become those of the sum of the others.
+fn restore_chunk(
+    t: &[u16],
+    at: usize,
+    weight: usize,
+    block: &mut [u8],
+    n: usize,
+    s: usize,
+    p: usize,
+    off: usize,
+)
+    requires { ⌜ CheckIn (now t) at weight (now block) n s × ((p < n) × (off + 64 ≤ s)) ⌝ }
+    ensures { λ _. ⌜ now (block .exit) ≡ written (now (block .entry)) (p * s + off) (take 64 (drop off (packetSum s (packets s n (now (block .entry))) (minus (take weight (drop at (now (t .entry)))) (p ∷ []))))) ⌝ }
+{
+    let mut acc = [0u8; 64];
+    gather_others(&mut acc, t, at, weight, block, n, s, p, off);
+    store(block, p * s + off, &acc);
+}
+
+// The same for fewer than 64, the last.
+fn restore_rest(
+    t: &[u16],
+    at: usize,
+    weight: usize,
+    block: &mut [u8],
+    n: usize,
+    s: usize,
+    p: usize,
+    off: usize,
+)
+    requires { ⌜ CheckIn (now t) at weight (now block) n s × ((p < n) × ((off ≤ s) × (s < off + 64))) ⌝ }
+    ensures { λ _. ⌜ now (block .exit) ≡ written (now (block .entry)) (p * s + off) (drop off (packetSum s (packets s n (now (block .entry))) (minus (take weight (drop at (now (t .entry)))) (p ∷ [])))) ⌝ }
+{
+    let mut acc = [0u8; 64];
+    let k = s - off;
+    gather_others(&mut acc[..k], t, at, weight, block, n, s, p, off);
+    store(block, p * s + off, &acc[..k]);
 }
 
 // The packet at place p becomes the sum of the packets of the check's other places.
@@ -477,6 +579,10 @@ pub fn restore(t: &[u16], at: usize, weight: usize, block: &mut [u8], n: usize, 
     requires { ⌜ CheckIn (now t) at weight (now block) n s × (p < n) ⌝ }
     ensures { λ _. ⌜ now (block .exit) ≡ joined (set (packets s n (now (block .entry))) p (packetSum s (packets s n (now (block .entry))) (minus (take weight (drop at (now (t .entry)))) (p ∷ [])))) ⌝ }
 {
-    clear(block, p * s, s);
-    add_others(t, at, weight, block, n, s, p);
+    let mut i = 0;
+    while 64 <= s - i {
+        restore_chunk(t, at, weight, block, n, s, p, i);
+        i += 64;
+    }
+    restore_rest(t, at, weight, block, n, s, p, i);
 }

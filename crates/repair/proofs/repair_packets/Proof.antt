@@ -33,21 +33,13 @@ restore-lost-requires c κs =
     let places = fit-places (a .t .now) (a .m) (a .n) (a .s) (a .block .now) (a .map .now) (p .0) (p .1) in
     (p .0, c .before .before .before .before .before .before .before .before .before .fill-starts .ensures, c .before .before .before .before .block .given ∙ bytes, places)
 
-agrees-requires : tie.Need-agrees-requires
-agrees-requires c κs =
+accepted-requires : tie.Need-accepted-requires
+accepted-requires c κs =
     let a = c .before .before .before .before .before .before .before .before .before .before .before .before .before .before .before .before .before .before .before .before .before .args in
     let p = c .before .before .before .before .before .before .before .before .before .before .before .before .before .before .before .before .before .before .before .before .before .pre in
     let bytes = fit-bytes (a .t .now) (a .m) (a .n) (a .s) (a .block .now) (a .map .now) (p .0) (p .1) in
     let places = fit-places (a .t .now) (a .m) (a .n) (a .s) (a .block .now) (a .map .now) (p .0) (p .1) in
-    (p .0, c .before .before .before .before .before .block2 .given ∙ c .before .before .before .before .before .before .before .before .before .before .before .block .given ∙ bytes, c .before .before .before .map .given ∙ places)
-
-accepted-requires : tie.Need-accepted-requires
-accepted-requires c κs =
-    let a = c .before .before .before .before .before .before .before .before .before .before .before .before .before .before .before .before .before .before .before .before .before .before .before .before .args in
-    let p = c .before .before .before .before .before .before .before .before .before .before .before .before .before .before .before .before .before .before .before .before .before .before .before .before .pre in
-    let bytes = fit-bytes (a .t .now) (a .m) (a .n) (a .s) (a .block .now) (a .map .now) (p .0) (p .1) in
-    let places = fit-places (a .t .now) (a .m) (a .n) (a .s) (a .block .now) (a .map .now) (p .0) (p .1) in
-    (omega (arith, c .before .before .before .before .before .before .map .given, places, few-places (a .t .now) _ _ _ (p .0)), c .before .before .before .before .before .before .before .before .before .restore-lost .ensures .few)
+    (omega (arith, c .before .before .before .map .given, places, few-places (a .t .now) _ _ _ (p .0)), c .before .before .before .before .before .before .restore-lost .ensures .0 .few)
 
 same-length : tie.Need-same-length
 same-length c = search needs
@@ -57,21 +49,21 @@ same-length-2 c = search needs
 
 returns : tie.Need-returns
 returns c =
-    let a = c .before .before .before .before .before .before .before .before .before .before .before .before .before .before .before .before .before .before .before .before .before .before .before .before .before .args in
-    let p = c .before .before .before .before .before .before .before .before .before .before .before .before .before .before .before .before .before .before .before .before .before .before .before .before .before .pre in
+    let a = c .before .before .before .before .before .before .before .before .before .before .before .before .before .before .before .before .before .before .before .before .before .before .args in
+    let p = c .before .before .before .before .before .before .before .before .before .before .before .before .before .before .before .before .before .before .before .before .before .before .pre in
     let e = c .accepted .ensures in
-    answer-accepted (a .t .now) (a .m) (a .n) (a .s) (p .0) (a .block .now) (a .map .now) (p .1) _ (c .before .before .before .before .before .before .before .before .before .before .before .before .before .before .before .before .zero-lost .ensures) _ _ _ (c .before .before .before .before .before .before .before .before .before .before .restore-lost .ensures) _ (c .before .before .before .agrees .ensures) (c .before .before .if1 .taken) _ (e .0) (e .1) (e .2) (e .3)
+    answer-accepted (a .t .now) (a .m) (a .n) (a .s) (p .0) (a .block .now) (a .map .now) (p .1) _ (c .before .before .before .before .before .before .before .before .before .before .before .before .before .zero-lost .ensures) _ _ _ (c .before .before .before .before .before .before .before .restore-lost .ensures .0) _ (c .before .before .before .before .before .before .before .restore-lost .ensures .1) (c .before .before .if1 .taken) _ (e .0) (e .1) (e .2) (e .3)
 
 unmark-requires : tie.Need-unmark-requires
 unmark-requires c κs = search needs
 
 zero-lost-requires-2 : tie.Need-zero-lost-requires-2
 zero-lost-requires-2 c κs =
-    let a = c .before .before .before .before .before .before .before .before .before .before .before .before .before .before .before .before .before .before .before .before .before .before .before .before .before .before .before .before .before .args in
-    let p = c .before .before .before .before .before .before .before .before .before .before .before .before .before .before .before .before .before .before .before .before .before .before .before .before .before .before .before .before .before .pre in
+    let a = c .before .before .before .before .before .before .before .before .before .before .before .before .before .before .before .before .before .before .before .before .before .before .before .before .before .before .args in
+    let p = c .before .before .before .before .before .before .before .before .before .before .before .before .before .before .before .before .before .before .before .before .before .before .before .before .before .before .pre in
     let bytes = fit-bytes (a .t .now) (a .m) (a .n) (a .s) (a .block .now) (a .map .now) (p .0) (p .1) in
     let places = fit-places (a .t .now) (a .m) (a .n) (a .s) (a .block .now) (a .map .now) (p .0) (p .1) in
-    (c .before .before .before .before .before .before .before .before .before .before .before .before .before .block2 .given ∙ c .before .before .before .before .before .before .before .before .before .before .before .before .before .before .before .before .before .before .before .block .given ∙ bytes, c .before .before .before .map2 .given ∙ c .before .before .before .before .before .before .before .before .before .before .before .map .given ∙ places)
+    (c .before .before .before .before .before .before .before .before .before .before .block2 .given ∙ c .before .before .before .before .before .before .before .before .before .before .before .before .before .before .before .before .block .given ∙ bytes, c .before .before .before .map2 .given ∙ c .before .before .before .before .before .before .before .before .map .given ∙ places)
 
 refused-requires : tie.Need-refused-requires
 refused-requires c κs = search needs
@@ -84,10 +76,10 @@ same-length-4 c = search needs
 
 returns-2 : tie.Need-returns-2
 returns-2 c =
-    let a = c .before .before .before .before .before .before .before .before .before .before .before .before .before .before .before .before .before .before .before .before .before .before .before .before .before .before .before .before .before .before .before .before .before .args in
-    let p = c .before .before .before .before .before .before .before .before .before .before .before .before .before .before .before .before .before .before .before .before .before .before .before .before .before .before .before .before .before .before .before .before .before .pre in
+    let a = c .before .before .before .before .before .before .before .before .before .before .before .before .before .before .before .before .before .before .before .before .before .before .before .before .before .before .before .before .before .before .args in
+    let p = c .before .before .before .before .before .before .before .before .before .before .before .before .before .before .before .before .before .before .before .before .before .before .before .before .before .before .before .before .before .before .pre in
     let e = c .refused .ensures in
-    answer-contradicted (a .t .now) (a .m) (a .n) (a .s) (p .0) (a .block .now) (a .map .now) (p .1) _ (c .before .before .before .before .before .before .before .before .before .before .before .before .before .before .before .before .before .before .before .before .before .before .before .before .zero-lost .ensures) _ _ _ (c .before .before .before .before .before .before .before .before .before .before .before .before .before .before .before .before .before .before .restore-lost .ensures) _ (c .before .before .before .before .before .before .before .before .before .before .before .agrees .ensures) (c .before .before .before .before .before .before .before .before .before .before .if1 .left) _ _ (c .before .before .before .before .before .before .before .before .unmark .ensures) (c .before .before .before .zero-lost2 .ensures) _ (e .0) (e .1) (e .2) (e .3)
+    answer-contradicted (a .t .now) (a .m) (a .n) (a .s) (p .0) (a .block .now) (a .map .now) (p .1) _ (c .before .before .before .before .before .before .before .before .before .before .before .before .before .before .before .before .before .before .before .before .before .zero-lost .ensures) _ _ _ (c .before .before .before .before .before .before .before .before .before .before .before .before .before .before .before .restore-lost .ensures .0) _ (c .before .before .before .before .before .before .before .before .before .before .before .before .before .before .before .restore-lost .ensures .1) (c .before .before .before .before .before .before .before .before .before .before .if1 .left) _ _ (c .before .before .before .before .before .before .before .before .unmark .ensures) (c .before .before .before .zero-lost2 .ensures) _ (e .0) (e .1) (e .2) (e .3)
 
 pub repair-packets-spec : {M : Type 1} → statement M
 repair-packets-spec =
@@ -98,7 +90,6 @@ repair-packets-spec =
     zero-lost-requires
     slice-aggregate-restore-lost
     restore-lost-requires
-    agrees-requires
     accepted-requires
     same-length
     same-length-2

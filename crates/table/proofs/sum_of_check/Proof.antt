@@ -1,6 +1,6 @@
--- `table::sum_of_check` meets its contract: the bytes of the sum passed are zero.
+-- `table::sum_of_check` meets its contract: by one test of all pieces, or else the bytes of the sum passed are zero.
 use Prim.Native.Nat.{_+_, _-_, _≤_}
-use mathlib.Core.Path.{_≡_}
+use mathlib.Core.Path.{_≡_, sym}
 use native.Mathlib.Omega.{arith}
 use lib.ListN.{take, drop}
 use Rattle.table.specs.Packets.{lowestNonzero, packets, packetSum}
@@ -15,6 +15,12 @@ Inv-loop t at weight block n s i₀ i = (i ≤ s) × (lowestNonzero (packetSum s
 abbrev μ-loop : tie.MeasureT-loop
 μ-loop t at weight block n s i₀ i = s - i
 
+vanishes-requires : tie.Need-vanishes-requires Inv-loop μ-loop
+vanishes-requires c κs = c .before .before .pre
+
+returns : tie.Need-returns Inv-loop μ-loop
+returns c = sym (c .before .vanishes .ensures (c .if1 .taken))
+
 loop-holds : tie.Need-loop-holds Inv-loop μ-loop
 loop-holds c = (omega arith, omega arith)
 
@@ -22,13 +28,13 @@ sub-loop : tie.Need-sub-loop Inv-loop μ-loop
 sub-loop c = omega arith
 
 lowest-in-chunk-requires : tie.Need-lowest-in-chunk-requires Inv-loop μ-loop
-lowest-in-chunk-requires c κs = (c .before .before .before .before .pre, omega arith)
+lowest-in-chunk-requires c κs = (c .before .before .before .before .before .before .pre, omega arith)
 
 add-result : tie.Need-add-result Inv-loop μ-loop
 add-result c = omega arith
 
-returns : tie.Need-returns Inv-loop μ-loop
-returns c = let a = c .before .before .before .before .before .before in found (packetSum (a .args .s) (packets (a .args .s) (a .args .n) (a .args .block .now)) (take (a .args .weight) (drop (a .args .at) (a .args .t .now)))) _ 64 (c .before .lowest-in-chunk .result) (omega (arith, sum-length _ _ _ _ _ _ (a .pre))) (c .before .before .before .loop .inv .1) (c .before .lowest-in-chunk .ensures) (omega arith)
+returns-2 : tie.Need-returns-2 Inv-loop μ-loop
+returns-2 c = let a = c .before .before .before .before .before .before .before .before in found (packetSum (a .args .s) (packets (a .args .s) (a .args .n) (a .args .block .now)) (take (a .args .weight) (drop (a .args .at) (a .args .t .now)))) _ 64 (c .before .lowest-in-chunk .result) (omega (arith, sum-length _ _ _ _ _ _ (a .pre))) (c .before .before .before .loop .inv .1) (c .before .lowest-in-chunk .ensures) (omega arith)
 
 add-i : tie.Need-add-i Inv-loop μ-loop
 add-i c = omega arith
@@ -37,16 +43,16 @@ loop-less : tie.Need-loop-less Inv-loop μ-loop
 loop-less c = omega arith
 
 loop-again : tie.Need-loop-again Inv-loop μ-loop
-loop-again c = let a = c .before .before .before .before .before .before in (omega arith, passed (packetSum (a .args .s) (packets (a .args .s) (a .args .n) (a .args .block .now)) (take (a .args .weight) (drop (a .args .at) (a .args .t .now)))) _ 64 (c .before .lowest-in-chunk .result) (omega (arith, sum-length _ _ _ _ _ _ (a .pre))) (c .before .before .before .loop .inv .1) (c .before .lowest-in-chunk .ensures) (omega arith))
+loop-again c = let a = c .before .before .before .before .before .before .before .before in (omega arith, passed (packetSum (a .args .s) (packets (a .args .s) (a .args .n) (a .args .block .now)) (take (a .args .weight) (drop (a .args .at) (a .args .t .now)))) _ 64 (c .before .lowest-in-chunk .result) (omega (arith, sum-length _ _ _ _ _ _ (a .pre))) (c .before .before .before .loop .inv .1) (c .before .lowest-in-chunk .ensures) (omega arith))
 
 lowest-in-rest-requires : tie.Need-lowest-in-rest-requires Inv-loop μ-loop
-lowest-in-rest-requires c κs = (c .before .before .before .before .pre, (omega arith, omega arith))
+lowest-in-rest-requires c κs = (c .before .before .before .before .before .before .pre, (omega arith, omega arith))
 
 add-result-2 : tie.Need-add-result-2 Inv-loop μ-loop
-add-result-2 c = let a = c .before .before .before .before .before in omega (arith, lowest-le (packetSum (a .args .s) (packets (a .args .s) (a .args .n) (a .args .block .now)) (take (a .args .weight) (drop (a .args .at) (a .args .t .now)))), sum-length _ _ _ _ _ _ (a .pre))
+add-result-2 c = let a = c .before .before .before .before .before .before .before in omega (arith, lowest-le (packetSum (a .args .s) (packets (a .args .s) (a .args .n) (a .args .block .now)) (take (a .args .weight) (drop (a .args .at) (a .args .t .now)))), sum-length _ _ _ _ _ _ (a .pre))
 
-returns-2 : tie.Need-returns-2 Inv-loop μ-loop
-returns-2 c = omega arith
+returns-3 : tie.Need-returns-3 Inv-loop μ-loop
+returns-3 c = omega arith
 
 pub sum-of-check-spec : {M : Type 1} → statement M
 sum-of-check-spec =
@@ -54,14 +60,16 @@ sum-of-check-spec =
     (tie.spec
     Inv-loop
     μ-loop
+    vanishes-requires
+    returns
     loop-holds
     sub-loop
     lowest-in-chunk-requires
     add-result
-    returns
+    returns-2
     add-i
     loop-less
     loop-again
     lowest-in-rest-requires
     add-result-2
-    returns-2)
+    returns-3)
