@@ -1,6 +1,6 @@
 -- The answers of the library for C, as the definitions' records.
 use Rattle.repair.specs.Repair.{Report}
-use Rattle.repair.specs.Verify.{Values}
+use Rattle.verify.specs.Verify.{Values}
 use Rattle.receiver.specs.declared.Repair.{Repair}
 use Rattle.receiver.specs.declared.Verification.{Verification}
 

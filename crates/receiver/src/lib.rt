@@ -2,10 +2,10 @@
 ghost use mathlib.Core.Path.{_≡_};
 ghost use lib.ListN.{length};
 ghost use Rattle.table.specs.PacketCall.{packetRefusal, partStart, partLength};
-ghost use Rattle.repair.specs.Verify.{verification, valuesOf};
+ghost use Rattle.verify.specs.Verify.{verification, valuesOf};
 ghost use Rattle.repair.specs.Repair.{repairReport, repairBlock, repairMap};
 ghost use Rattle.receiver.specs.Answers.{verified, repaired};
-use repair::Verified;
+use verify::Verified;
 
 // Where in the block a packet lies: 0 and 0 on refusal.
 #[repr(C)]
@@ -49,7 +49,7 @@ pub struct Verification {
 pub extern "C" fn bs_verify(table: &[u16], block: &[u8]) -> Verification
     ensures { λ r. ⌜ verified r ≡ valuesOf (verification (now (table .entry)) (now (block .entry))) ⌝ }
 {
-    match repair::verify(table, block) {
+    match verify::verify(table, block) {
         Verified::Refused(refusal) => Verification {
             refusal: refusal,
             codeword: 0,

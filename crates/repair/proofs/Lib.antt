@@ -1,10 +1,2 @@
 pub mod Answering
-pub mod BlockLaws
-pub mod Counting
-pub mod Linking
 pub mod MapLaws
-pub mod Ordering
-pub mod TableUse
-pub mod Turning
-pub mod Walking
-pub mod Spending

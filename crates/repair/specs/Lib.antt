@@ -1,12 +1,3 @@
-pub mod Largest
-pub mod Linked
 pub mod Repair
 pub mod RepairLaws
 pub mod RepairTheorems
-pub mod RestoringLaws
-pub mod Stopping
-pub mod Tally
-pub mod Turns
-pub mod Values
-pub mod Verify
-pub mod VerifyLaws

@@ -1,27 +1,21 @@
 -- The call of repair by cases: what is offered, when it is refused, and what block and map are afterwards.
-use mathlib.Core.Path.{_≡_, refl, sym, ap, ap₂, _∙_, subst}
-use mathlib.Core.Bool.{Bool, true, false, cond, true≢false, false≢true}
+use mathlib.Core.Path.{_≡_, refl, sym, ap, _∙_}
+use mathlib.Core.Bool.{Bool, true, false, cond}
 use mathlib.Core.List.{List, [], _∷_}
-use mathlib.Core.Logic.{_≢_, _⊎_}
-use Prim.Native.Nat.{ℕ, zero, suc, _+_, _-_, _*_, _<_, _≤_}
+use mathlib.Core.Logic.{_≢_}
+use Prim.Native.Nat.{ℕ, zero, suc, _*_, _<_, _≤_}
 use native.Mathlib.Omega.{arith}
 use borrow.Author.Tests.{ltb-false}
 use lib.Dec.{eqb, ltb}
-use lib.ListN.{length, getD, take, drop, replicate, length-replicate}
-use Rattle.gf2.specs.Bit.{eqb-true, eqb-false, eqb-self, eqb-comm}
-use Rattle.gf2.specs.Places.{filter, or-false-l, or-false-r}
+use lib.ListN.{length, getD}
+use Rattle.gf2.specs.Bit.{eqb-true, eqb-false, eqb-self}
+use Rattle.gf2.specs.Places.{or-false-l, or-false-r}
 use Rattle.gf2.specs.Span.{byBool, anyOf}
 use Rattle.gf2.specs.Width.{All, All.nil, All.cons}
-use Rattle.table.specs.Packets.{Packets, packets, joined}
-use Rattle.table.specs.PacketLaws.{packets-length, packets-sized, joined-packets, joined-length, packet-at}
-use Rattle.table.specs.PacketCall.{partAt}
+use Rattle.table.specs.Packets.{packets, joined}
 use Rattle.table.specs.Table.{places, size, checks, tooShort, beyondLimits, badLengths, badPlaces, refusal}
-use Rattle.table.specs.TableLaws.{Good, accepted}
-use Rattle.repair.specs.Repair.{State, restoring, zeroLost, repaired, consistent, tally, outcome, repairRefusal, repairBlock, repairMap}
-use Rattle.repair.specs.RestoringLaws.{restoring-length, restoring-sized}
-use Rattle.repair.specs.Stopping.{isLost, lostIn}
-use Rattle.repair.specs.Tally.{restoredIn}
-use Rattle.repair.specs.Values.{zeroLost-length, zeroLost-kept, zeroLost-zero}
+use Rattle.restore.specs.Restoring.{zeroLost, consistent, outcome}
+use Rattle.repair.specs.Repair.{repairRefusal, repairBlock, repairMap}
 
 -- a call that none of 1 to 7 refuses
 pub record Fitting (t b map : List ℕ) : Type 0 where
@@ -141,40 +135,6 @@ pub byte-at : {map : List ℕ} → All (λ x. x ≤ 1) map → (p : ℕ) → get
 byte-at nil p = omega arith
 byte-at (cons h a) zero = h
 byte-at (cons h a) (suc p) = byte-at a p
-
--- counted either way
-pub tally-lost : (l : List ℕ) → tally 1 l ≡ lostIn l
-tally-lost [] = refl
-tally-lost (x ∷ l) = byBool (eqb x 1)
-    (λ e. rw (eqb-comm 1 x, e, filter, lostIn) (ap suc (tally-lost l)))
-    (λ e. rw (eqb-comm 1 x, e, filter, lostIn) (tally-lost l))
-
-pub tally-restored : (l : List ℕ) → tally 2 l ≡ restoredIn l
-tally-restored [] = refl
-tally-restored (x ∷ l) = byBool (eqb x 2)
-    (λ e. rw (eqb-comm 2 x, e, filter, restoredIn) (ap suc (tally-restored l)))
-    (λ e. rw (eqb-comm 2 x, e, filter, restoredIn) (tally-restored l))
-
--- ---- the shape of zeroLost and of the outcome
-pub zeroLost-sized : (s : ℕ) (lost : List ℕ) {b : List (List ℕ)} → Packets s b → Packets s (zeroLost s lost b)
-zeroLost-sized s [] w = w
-zeroLost-sized s (l ∷ ls) nil = nil
-zeroLost-sized s (l ∷ ls) (cons {x = p} h a) = cons {x = cond (eqb l 1) (replicate s 0) p} (byBool (eqb l 1) (λ e. rw e (length-replicate s 0)) (λ e. rw e h)) (zeroLost-sized s ls a)
-
-module _ (t b map : List ℕ) (f : Fitting t b map) where
-  -- the packets that repair starts with
-  pub start-length : length (zeroLost (size t) map (packets (size t) (places t) b)) ≡ places t
-  start-length = zeroLost-length (size t) map (packets (size t) (places t) b) ∙ packets-length (size t) (places t) b
-
-  pub start-sized : Packets (size t) (zeroLost (size t) map (packets (size t) (places t) b))
-  start-sized = zeroLost-sized (size t) map (packets-sized (size t) (places t) b (f .block))
-
-  -- those that it ends with
-  pub outcome-length : length (outcome t b map .block) ≡ places t
-  outcome-length = restoring-length (places t) (size t) (checks t) _ ∙ start-length
-
-  pub outcome-sized : Packets (size t) (outcome t b map .block)
-  outcome-sized = restoring-sized (places t) (places t) (size t) (checks t) (accepted t (f .table) .low) _ start-length start-sized
 
 -- ---- block and map by the refusal
 pub block-accepted : (t b map : List ℕ) → repairRefusal t b map ≡ 0 → repairBlock t b map ≡ joined (outcome t b map .block)

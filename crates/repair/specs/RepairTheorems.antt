@@ -1,39 +1,30 @@
--- Demand 2 on repair and verification, over the definitions of the calls, for every table that is accepted, every block and every pattern of loss.
-use mathlib.Core.Path.{_≡_, refl, sym, ap, ap₂, _∙_, subst}
-use mathlib.Core.Bool.{Bool, true, false, cond, not, _||_, _&&_, true≢false, false≢true}
-use mathlib.Core.List.{List, [], _∷_}
+-- Demand 2 on repair, over the definitions of the call, for every table that is accepted, every block and every pattern of loss.
+use mathlib.Core.Path.{_≡_, refl, sym, ap, _∙_, subst}
+use mathlib.Core.Bool.{Bool, true, false, cond}
+use mathlib.Core.List.{List, []}
 use mathlib.Core.Logic.{_≢_, _⊎_, inl, inr}
-use mathlib.Core.Option.{Option, none, some}
-use Prim.Native.Nat.{ℕ, zero, suc, _+_, _-_, _*_, _<_, _≤_}
+use Prim.Native.Nat.{ℕ, _+_, _*_, _<_, _≤_}
 use native.Mathlib.Omega.{arith}
-use lib.Dec.{eqb, ltb}
-use lib.ListN.{length, getD, take, drop, replicate}
-use Rattle.gf2.specs.Bit.{eqb-true, eqb-false, eqb-self}
-use Rattle.gf2.specs.Lists.{allPass, sameList, all-zip}
-use Rattle.gf2.specs.Places.{filter}
-use Rattle.gf2.specs.Span.{byBool, anyOf}
+use lib.Dec.{eqb}
+use lib.ListN.{length, getD, replicate}
+use Rattle.gf2.specs.Bit.{eqb-true, eqb-false}
+use Rattle.gf2.specs.Span.{byBool}
 use Rattle.gf2.specs.Width.{All, All.nil, All.cons, all-map}
+use Rattle.table.specs.Codewords.{IsCodeword}
 use Rattle.table.specs.PacketCall.{partAt}
 use Rattle.table.specs.PacketLaws.{packets-length, packets-sized, joined-packets, joined-length, packet-at}
-use Rattle.table.specs.Packets.{Packets, packets, joined, packetSum, Codeword as SumsToZero}
-use Rattle.table.specs.Table.{places, size, checks, refusal}
-use Rattle.table.specs.TableLaws.{Good, accepted}
-use Rattle.repair.specs.Largest.{left-stopping, left-within, left-largest}
-use Rattle.repair.specs.Repair.{State, lostPlaces, zeroLost, consistent, tally, outcome, repairRefusal, Report, repairReport, repairBlock, repairMap}
-use Rattle.repair.specs.RepairLaws.{Fitting, fitting-refusal, accepted-fits, contradicted-fits, bytes-all, byte-at, tally-lost, tally-restored, start-length, start-sized, outcome-length, outcome-sized, block-accepted, block-contradicted, map-accepted, map-refused}
-use Rattle.repair.specs.RestoringLaws.{restoring-same, restoring-mark}
-use Rattle.repair.specs.Stopping.{isLost, Stopping, lostIn, no-lost}
-use Rattle.repair.specs.Tally.{restoredIn, restored-and-lost}
-use Rattle.repair.specs.Values.{received-kept, left-zero, restored, no-contradiction, zeroLost-kept, zeroLost-zero}
-use Rattle.repair.specs.Verify.{failing, verdict, verification}
-use Rattle.repair.specs.VerifyLaws.{zero-sound, verify-sound, verify-complete, verify-lowest, verification-is, verification-judged}
-use Rattle.repair.specs.declared.Verified.{Verified}
-use Rattle.repair.specs.declared.Verified.the-variants.{Refused, Codeword, Fails}
-
--- a block of n·s bytes whose packets sum to zero over every check
-pub record IsCodeword (t w : List ℕ) : Type 0 where
-  pub size-fits : length w ≡ places t * size t
-  pub sums : SumsToZero (size t) (checks t) (packets (size t) (places t) w)
+use Rattle.table.specs.Packets.{packets, joined, packetSum}
+use Rattle.table.specs.Table.{places, size, checks}
+use Rattle.table.specs.TableLaws.{accepted}
+use Rattle.restore.specs.Largest.{left-stopping, left-within, left-largest}
+use Rattle.restore.specs.Restoring.{lostPlaces, zeroLost, tally, outcome}
+use Rattle.restore.specs.OutcomeLaws.{tally-lost, tally-restored, start-length, start-sized, outcome-length, outcome-sized, sums-of, none-lost, part-joined}
+use Rattle.repair.specs.Repair.{repairRefusal, repairReport, repairBlock, repairMap}
+use Rattle.repair.specs.RepairLaws.{Fitting, fitting-refusal, accepted-fits, contradicted-fits, bytes-all, byte-at, block-accepted, block-contradicted, map-accepted, map-refused}
+use Rattle.restore.specs.RestoringLaws.{restoring-same, restoring-mark}
+use Rattle.restore.specs.Stopping.{isLost, Stopping, lostIn}
+use Rattle.restore.specs.Tally.{restoredIn, restored-and-lost}
+use Rattle.restore.specs.Values.{received-kept, left-zero, restored, no-contradiction, zeroLost-kept, zeroLost-zero}
 
 -- the same packet in b and w wherever the map says received
 abbrev pub Agree : List ℕ → List ℕ → List ℕ → List ℕ → Type 0
@@ -84,25 +75,6 @@ is-lost map p e = ap (λ x. eqb x 1) e
 lost-byte : {map : List ℕ} → All (λ x. x ≤ 1) map → (p : ℕ) → isLost map p ≡ false → getD map p 0 ≡ 0
 lost-byte {map} a p e = let k = byte-at a p in let z = eqb-false (getD map p 0) 1 e in omega arith
 
--- a check without a lost place that passes the test
-sums-of : (s : ℕ) (m : State) (cs : List (List ℕ)) → consistent s cs m ≡ true
-    → All (λ c. length (lostPlaces (m .lost) c) ≡ 0 → packetSum s (m .block) c ≡ replicate s 0) cs
-sums-of s m [] h = nil
-sums-of s m (c ∷ cs) h = byBool (eqb (length (lostPlaces (m .lost) c)) 0)
-    (λ e. byBool (sameList (packetSum s (m .block) c) (replicate s 0))
-    (λ z. cons (λ k. zero-sound s (m .block) c z) (sums-of s m cs (rw (e, z) at h)))
-    (λ z. absurd (false≢true (rw (e, z) at h))))
-    (λ e. cons (λ k. absurd (eqb-false (length (lostPlaces (m .lost) c)) 0 e k)) (sums-of s m cs (rw e at h)))
-
--- no lost place among none
-none-lost : (lost c : List ℕ) → lostIn lost ≡ 0 → length (lostPlaces lost c) ≡ 0
-none-lost lost [] h = refl
-none-lost lost (p ∷ c) h = rw (no-lost lost h p) (none-lost lost c h)
-
--- the packet of a place among packets in a row
-part-joined : (s n : ℕ) (ps : List (List ℕ)) → length ps ≡ n → Packets s ps → (p : ℕ) → p < n → partAt s p (joined ps) ≡ getD ps p []
-part-joined s n ps l w p h = sym (packet-at s n (joined ps) p h) ∙ ap (λ q. getD q p []) (ap (λ k. packets s k (joined ps)) (sym l) ∙ joined-packets s w)
-
 module _ (t b map : List ℕ) (ok : repairRefusal t b map ≡ 0) where
   fits : Fitting t b map
   fits = accepted-fits t b map ok .0
@@ -111,11 +83,11 @@ module _ (t b map : List ℕ) (ok : repairRefusal t b map ≡ 0) where
   map-is = map-accepted t b map ok
 
   part-is : (p : ℕ) → p < places t → partAt (size t) p (repairBlock t b map) ≡ getD (outcome t b map .block) p []
-  part-is p h = ap (partAt (size t) p) (block-accepted t b map ok) ∙ part-joined (size t) (places t) (outcome t b map .block) (outcome-length t b map fits) (outcome-sized t b map fits) p h
+  part-is p h = ap (partAt (size t) p) (block-accepted t b map ok) ∙ part-joined (size t) (places t) (outcome t b map .block) (outcome-length t b map (fits .table) (fits .block)) (outcome-sized t b map (fits .table) (fits .block)) p h
 
   packets-are : packets (size t) (places t) (repairBlock t b map) ≡ outcome t b map .block
-  packets-are = ap (packets (size t) (places t)) (block-accepted t b map ok) ∙ ap (λ k. packets (size t) k (joined (outcome t b map .block))) (sym (outcome-length t b map fits))
-      ∙ joined-packets (size t) (outcome-sized t b map fits)
+  packets-are = ap (packets (size t) (places t)) (block-accepted t b map ok) ∙ ap (λ k. packets (size t) k (joined (outcome t b map .block))) (sym (outcome-length t b map (fits .table) (fits .block)))
+      ∙ joined-packets (size t) (outcome-sized t b map (fits .table) (fits .block))
 
   -- the same of the outcome
   mark-kept : (p : ℕ) → getD map p 0 ≡ 0 → getD (outcome t b map .lost) p 0 ≡ 0
@@ -143,7 +115,7 @@ module _ (t b map : List ℕ) (ok : repairRefusal t b map ≡ 0) where
     sums = rw (map-is, packets-are) sums-checked;
     counts = rw ok (rw (tally-restored (outcome t b map .lost), tally-lost (outcome t b map .lost), tally-lost map) counts-add);
     whole = λ h. let z : lostIn (outcome t b map .lost) ≡ 0 = sym (tally-lost (outcome t b map .lost)) ∙ (rw ok at h) in record {
-      size-fits = ap length (block-accepted t b map ok) ∙ joined-length (size t) (outcome-sized t b map fits) ∙ ap (λ k. k * size t) (outcome-length t b map fits);
+      size-fits = ap length (block-accepted t b map ok) ∙ joined-length (size t) (outcome-sized t b map (fits .table) (fits .block)) ∙ ap (λ k. k * size t) (outcome-length t b map (fits .table) (fits .block));
       sums = rw packets-are (all-map (λ c k. k (none-lost (outcome t b map .lost) c z)) sums-checked);
     };
   }
@@ -182,43 +154,4 @@ contradicted-repair t b map h = record {
     fits = contradicted-fits t b map h .0
 
     part : (p : ℕ) → p < places t → partAt (size t) p (repairBlock t b map) ≡ getD (zeroLost (size t) map (packets (size t) (places t) b)) p []
-    part p k = ap (partAt (size t) p) (block-contradicted t b map h) ∙ part-joined (size t) (places t) _ (start-length t b map fits) (start-sized t b map fits) p k
-
--- ---- verification
--- "verification says that the block is a codeword": if and only if the table is accepted, the block is n·s bytes, and every check sums to zero
-pub passes-codeword : (t b : List ℕ) → verification t b ≡ Codeword → (refusal t ≡ 0) × IsCodeword t b
-passes-codeword t b h =
-    let r = verification-judged t b Codeword h (λ q e. let z : _≡_ {A = ℕ} 0 1 = cc in omega arith) in
-    (r .0, record { size-fits = r .1 .0; sums = verify-sound (size t) (packets (size t) (places t) b) 0 (checks t) (none-fails _ (r .1 .1)) })
-  where
-    none-fails : (v : Option ℕ) → verdict v ≡ Codeword → v ≡ none
-    none-fails none e = refl
-    none-fails (some k) e = cc
-
-pub codeword-passes : (t b : List ℕ) → refusal t ≡ 0 → IsCodeword t b → verification t b ≡ Codeword
-codeword-passes t b ok w = verification-is t b ok (w .size-fits) ∙ ap verdict (verify-complete (size t) (packets (size t) (places t) b) 0 (w .sums))
-
--- "or gives the lowest check that fails": that one does, and every lower one sums to zero
-pub record FailsAt (t b : List ℕ) (k : ℕ) : Type 0 where
-  pub table : refusal t ≡ 0
-  pub size-fits : length b ≡ places t * size t
-  pub inside : k < length (checks t)
-  pub fails : packetSum (size t) (packets (size t) (places t) b) (getD (checks t) k []) ≢ replicate (size t) 0
-  pub lower : SumsToZero (size t) (take k (checks t)) (packets (size t) (places t) b)
-
-pub fails-lowest : (t b : List ℕ) (k : ℕ) → verification t b ≡ Fails k → FailsAt t b k
-fails-lowest t b k h =
-    let r = verification-judged t b (Fails k) h (λ q e. let z : _≡_ {A = ℕ} 0 1 = cc in omega arith) in
-    let low = verify-lowest (size t) (packets (size t) (places t) b) 0 (checks t) k (one-fails _ (r .1 .1)) in
-    let j : low .0 ≡ k = let z = low .1 .0 in omega arith in
-    record {
-      table = r .0;
-      size-fits = r .1 .0;
-      inside = subst (λ x. x < length (checks t)) j (low .1 .1 .0);
-      fails = subst (λ x. packetSum (size t) (packets (size t) (places t) b) (getD (checks t) x []) ≢ replicate (size t) 0) j (low .1 .1 .1 .0);
-      lower = subst (λ x. SumsToZero (size t) (take x (checks t)) (packets (size t) (places t) b)) j (low .1 .1 .1 .1);
-    }
-  where
-    one-fails : (v : Option ℕ) → verdict v ≡ Fails k → v ≡ some k
-    one-fails none e = cc
-    one-fails (some j) e = cc
+    part p k = ap (partAt (size t) p) (block-contradicted t b map h) ∙ part-joined (size t) (places t) _ (start-length t b map (fits .table) (fits .block)) (start-sized t b map (fits .table) (fits .block)) p k

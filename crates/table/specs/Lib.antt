@@ -1,6 +1,7 @@
 pub mod BufferLaws
 pub mod Checks
 pub mod ChecksLaws
+pub mod Codewords
 pub mod LookOver
 pub mod PacketCall
 pub mod PacketLaws
@@ -8,3 +9,4 @@ pub mod Packets
 pub mod SumLaws
 pub mod Table
 pub mod TableLaws
+pub mod TableUse

@@ -9,12 +9,13 @@ use native.Mathlib.Omega.{arith}
 use lib.Dec.{eqb}
 use lib.ListN.{length, getD}
 use Rattle.gf2.specs.Bit.{eqb-true}
+use Rattle.table.specs.Codewords.{IsCodeword}
 use Rattle.table.specs.PacketCall.{partAt}
 use Rattle.table.specs.Table.{places, size, checks, refusal}
 use Rattle.repair.specs.Repair.{repairRefusal, repairBlock, repairMap}
-use Rattle.repair.specs.Stopping.{isLost, Stopping}
+use Rattle.restore.specs.Stopping.{isLost, Stopping}
 use Rattle.repair.specs.RepairLaws.{Fitting}
-use Rattle.repair.specs.RepairTheorems.{IsCodeword, Agree, Accepted, Repairing, accepted-repair, repairing}
+use Rattle.repair.specs.RepairTheorems.{Agree, Accepted, Repairing, accepted-repair, repairing}
 
 -- a stopping set among the lost places of the map
 pub record Within (t map : List ℕ) (S : ℕ → Bool) : Type 0 where

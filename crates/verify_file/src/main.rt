@@ -1,6 +1,6 @@
 // verify_file TABLE BLOCK: says whether the block is a codeword of the table.
-use repair::Verified;
 use text::Read;
+use verify::Verified;
 
 // the most bytes of a block
 const MOST_BLOCK: usize = 32768;
@@ -27,7 +27,7 @@ fn verify(table: &[u16]) {
     let Read::Count(n) = text::read_argument(2, &mut block) else {
         return;
     };
-    print_verdict(repair::verify(table, &block[..n]));
+    print_verdict(verify::verify(table, &block[..n]));
 }
 
 fn main() {

@@ -6,15 +6,15 @@ use mathlib.Core.Logic.{⊎-elim}
 use native.Mathlib.Omega.{arith}
 use lib.ListN.{length, getD, set, take, drop, length-set}
 use borrow.Author.Needs.{needs}
-use Rattle.repair.specs.Verify.{valuesOf, verification}
-use Rattle.repair.specs.declared.Verified.the-variants.{Fails}
-use Rattle.repair.specs.RepairTheorems.{FailsAt, fails-lowest}
+use Rattle.verify.specs.Verify.{valuesOf, verification}
+use Rattle.verify.specs.declared.Verified.the-variants.{Fails}
+use Rattle.verify.specs.VerifyTheorems.{FailsAt, fails-lowest}
 use Rattle.table.specs.TableLaws.{accepted}
 use Rattle.receiver.proofs.bs_verify.Statement.{statement}
 use Rattle.receiver.proofs.bs_verify.Tie as tie
 use Rattle.receiver.proofs.bs_verify.Reads as reads
 use Rattle.receiver.proofs.bs_verify.Lts as lts
-use Rattle.repair.proofs.verify.Reads as verify-reads
+use Rattle.verify.proofs.verify.Reads as verify-reads
 
 -- src/lib.rt:51:11
 -- a check's number is below 512

@@ -1,6 +1,6 @@
 -- `repair::repair` meets its contract.
 use Rattle.repair.proofs.Answering.{answer-table, answer-block, answer-map, answer-byte, fitting}
-use Rattle.repair.proofs.TableUse.{table-of, words, block-small}
+use Rattle.table.specs.TableUse.{table-of, words, block-small}
 use Prim.Native.Nat.{_-_}
 use mathlib.Core.Path.{refl, sym, _∙_}
 use native.Mathlib.Omega.{arith}

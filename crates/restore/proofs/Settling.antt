@@ -1,0 +1,107 @@
+-- What the core tells and leaves, from what its parts leave.
+use mathlib.Core.Path.{_≡_, sym, ap, ap₂, _∙_, subst}
+use mathlib.Core.Bool.{Bool, true, false}
+use mathlib.Core.List.{List, []}
+use Prim.Native.Nat.{ℕ, _+_, _-_, _*_, _<_, _≤_}
+use native.Mathlib.Omega.{arith}
+use lib.ListN.{length, getD, take, drop}
+use lib.Seq.{ext-getD}
+use Rattle.gf2.specs.Span.{byBool}
+use Rattle.table.specs.BufferLaws.{written-bytes, written-whole, part-length, getD-part}
+use Rattle.table.specs.PacketLaws.{packets-length, joined-packets}
+use Rattle.table.specs.Packets.{packets, joined, written}
+use Rattle.table.specs.Table.{places, size, checks}
+use Rattle.table.specs.TableUse.{TableOf}
+use Rattle.restore.specs.OutcomeLaws.{start-length, start-sized, outcome-length, outcome-sized, tally-fewer}
+use Rattle.restore.specs.Restoring.{zeroLost, restoring, consistent, tally, outcome, agreeing, Mends}
+use Rattle.restore.specs.Stopping.{isLost}
+use Rattle.restore.specs.Turns.{Restored, stateOf}
+use Rattle.restore.specs.Values.{received-kept, zeroLost-length, zeroLost-kept, zeroLost-zero}
+use Rattle.restore.specs.declared.Mended.{Mended}
+
+-- ---- zeroing again gives the start again
+zero-same : (s : ℕ) (lost : List ℕ) (a b : List (List ℕ)) → length a ≡ length b → ((p : ℕ) → isLost lost p ≡ false → getD a p [] ≡ getD b p []) → zeroLost s lost a ≡ zeroLost s lost b
+zero-same s lost a b long same = ext-getD [] _ _ (zeroLost-length s lost a ∙ long ∙ sym (zeroLost-length s lost b)) (λ p h. byBool (isLost lost p)
+    (λ e. let k : p < length a = subst (λ x. p < x) (zeroLost-length s lost a) h in
+    zeroLost-zero s lost a p k e ∙ sym (zeroLost-zero s lost b p (subst (λ x. p < x) long k) e))
+    (λ e. zeroLost-kept s lost a p e ∙ same p e ∙ sym (zeroLost-kept s lost b p e)))
+
+-- ---- a map that is saved and put back
+pub saved-room : (z l sv : List ℕ) (n : ℕ) → n ≤ length z → length l ≡ n → sv ≡ written z 0 (take n (drop 0 l)) → n ≤ length sv
+saved-room z l sv n room ll e =
+    let w = written-bytes z 0 (take n (drop 0 l)) n (part-length l 0 n (omega arith)) (omega arith) in
+    subst (λ x. n ≤ length x) (sym e) (omega (arith, w .len))
+
+pub put-back : (z l l₂ sv l₃ : List ℕ) (n : ℕ) → n ≤ length z → length l ≡ n → length l₂ ≡ n → sv ≡ written z 0 (take n (drop 0 l)) → l₃ ≡ written l₂ 0 (take n (drop 0 sv)) → l₃ ≡ l
+put-back z l l₂ sv l₃ n room ll l2 e g =
+    let long : length (take n (drop 0 l)) ≡ n = part-length l 0 n (omega arith) in
+    let w = written-bytes z 0 (take n (drop 0 l)) n long (omega arith) in
+    let size = saved-room z l sv n room ll e in
+    let part : length (take n (drop 0 sv)) ≡ n = part-length sv 0 n (omega arith) in
+    g ∙ written-whole l₂ (take n (drop 0 sv)) (part ∙ sym l2) ∙ ext-getD 0 (take n (drop 0 sv)) l (part ∙ sym ll)
+    (λ i h. let k : i < n = subst (λ x. i < x) part h in
+    getD-part sv 0 n i k ∙ ap (λ x. getD x (0 + i) 0) e ∙ w .inside i k ∙ getD-part l 0 n i k ∙ ap (λ (x : ℕ). getD l x 0) (omega arith))
+
+-- ---- the core
+module _ (t : List ℕ) (m n s : ℕ) (k : TableOf t m n s) (b l : List ℕ) (lb : length b ≡ n * s) (ll : length l ≡ n) (b₁ : List ℕ) (zeroed : b₁ ≡ joined (zeroLost s l (packets s n b)))
+    (b₂ l₂ : List ℕ) (adds : ℕ) (done : Restored n s (checks t) b₁ l b₂ l₂ adds) where
+  fits : length b ≡ places t * size t
+  fits = lb ∙ ap₂ _*_ (k .places-are) (k .size-is)
+
+  -- with the sizes as the definitions have them
+  zeroed-then : b₁ ≡ joined (zeroLost (size t) l (packets (size t) (places t) b))
+  zeroed-then = zeroed ∙ ap₂ (λ x y. joined (zeroLost y l (packets y x b))) (k .places-are) (k .size-is)
+
+  packets-then : packets (size t) (places t) b₁ ≡ zeroLost (size t) l (packets (size t) (places t) b)
+  packets-then = ap (packets (size t) (places t)) zeroed-then ∙ ap (λ x. packets (size t) x (joined (zeroLost (size t) l (packets (size t) (places t) b)))) (sym (start-length t b l (k .accepted) fits))
+      ∙ joined-packets (size t) (start-sized t b l (k .accepted) fits)
+
+  state-then : restoring n s (checks t) (stateOf s n b₁ l 0) ≡ outcome t b l
+  state-then = ap₂ (λ x y. restoring x y (checks t) (stateOf y x b₁ l 0)) (k .places-are) (k .size-is)
+      ∙ ap (λ ps. restoring (places t) (size t) (checks t) (record { block = ps; lost = l; adds = 0 })) packets-then
+
+  -- what is there after all turns
+  block-then : b₂ ≡ joined (outcome t b l .block)
+  block-then = done .holds .block-is ∙ ap (λ st. joined (st .block)) state-then
+
+  map-then : l₂ ≡ outcome t b l .lost
+  map-then = done .holds .map-is ∙ ap (λ st. st .lost) state-then
+
+  packets-after : packets s n b₂ ≡ outcome t b l .block
+  packets-after = ap₂ (λ x y. packets y x b₂) (k .places-are) (k .size-is) ∙ ap (packets (size t) (places t)) block-then
+      ∙ ap (λ x. packets (size t) x (joined (outcome t b l .block))) (sym (outcome-length t b l (k .accepted) fits)) ∙ joined-packets (size t) (outcome-sized t b l (k .accepted) fits)
+
+  look-then : consistent s (checks t) (stateOf s n b₂ l₂ 0) ≡ agreeing t b l
+  look-then = ap₂ (λ ps x. consistent s (checks t) (record { block = ps; lost = x; adds = 0 })) packets-after map-then
+      ∙ ap (λ x. consistent x (checks t) (outcome t b l)) (k .size-is)
+
+  -- the map has no more lost places than before
+  pub fewer : tally 1 l₂ ≤ tally 1 l
+  fewer = rw map-then (tally-fewer t b l)
+
+  module _ (look : Bool) (looked : look ≡ consistent s (checks t) (stateOf s n b₂ l₂ 0)) where
+    -- no contradiction
+    pub settled : look ≡ true → (r : Mended) → r .agrees ≡ true → r .restored ≡ tally 1 l - tally 1 l₂ → r .lost ≡ tally 1 l₂ → r .additions ≡ adds → Mends t b l r b₂ l₂
+    settled pass r e1 e2 e3 e4 =
+        let ok : agreeing t b l ≡ true = sym (looked ∙ look-then) ∙ pass in
+        let a : adds ≡ outcome t b l .adds = done .adds-are ∙ ap (λ st. st .adds) state-then in
+        record {
+          report = rw (ok, e1, e2, e3, e4, map-then, a);
+          block-is = rw ok block-then;
+          map-is = rw ok map-then;
+        }
+
+    -- a contradiction: the map is put back and lost places zeroed again
+    pub unsettled : look ≡ false → (l₃ b₃ : List ℕ) → l₃ ≡ l → b₃ ≡ joined (zeroLost s l₃ (packets s n b₂))
+        → (r : Mended) → r .agrees ≡ false → r .restored ≡ 0 → r .lost ≡ 0 → r .additions ≡ 0 → Mends t b l r b₃ l₃
+    unsettled fail l₃ b₃ back g r e1 e2 e3 e4 =
+        let bad : agreeing t b l ≡ false = sym (looked ∙ look-then) ∙ fail in
+        let again : zeroLost s l₃ (packets s n b₂) ≡ zeroLost (size t) l (packets (size t) (places t) b) =
+        ap₂ (λ x y. zeroLost x y (packets s n b₂)) (k .size-is) back ∙ ap (zeroLost (size t) l) packets-after
+        ∙ zero-same (size t) l (outcome t b l .block) (packets (size t) (places t) b) (outcome-length t b l (k .accepted) fits ∙ sym (packets-length (size t) (places t) b))
+        (received-kept (places t) (size t) (checks t) (packets (size t) (places t) b) l) in
+        record {
+          report = rw (bad, e1, e2, e3, e4);
+          block-is = rw bad (g ∙ ap joined again);
+          map-is = rw bad back;
+        }

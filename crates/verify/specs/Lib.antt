@@ -1,0 +1,3 @@
+pub mod Verify
+pub mod VerifyLaws
+pub mod VerifyTheorems

@@ -1,0 +1,51 @@
+// The receiver: verification.
+use table::wide;
+ghost use mathlib.Core.Path.{_≡_};
+ghost use Prim.Native.Nat.{_*_};
+ghost use lib.ListN.{length};
+ghost use Rattle.table.specs.Packets.{packets};
+ghost use Rattle.table.specs.Table.{checks};
+ghost use Rattle.table.specs.TableUse.{TableOf};
+ghost use Rattle.verify.specs.Verify.{failing, verdict, verification};
+
+// What verification says: a refusal, a codeword, or the lowest check that fails.
+pub enum Verified {
+    Refused(u32),
+    Codeword,
+    Fails(usize),
+}
+
+// what the m checks say of the block
+fn look_at_checks(t: &[u16], m: usize, n: usize, s: usize, block: &[u8]) -> Verified
+    requires { ⌜ TableOf (now t) m n s × (length (now block) ≡ n * s) ⌝ }
+    ensures { λ r. ⌜ r ≡ verdict (failing s (packets s n (now (block .entry))) 0 (checks (now (t .entry)))) ⌝ }
+{
+    let mut at = 5 + m;
+    let mut j = 0;
+    while j < m {
+        let w = wide(t[4 + j]);
+        let low = table::sum_of_check(t, at, w, block, n, s);
+        if low != s {
+            return Verified::Fails(j);
+        }
+        at += w;
+        j += 1;
+    }
+    Verified::Codeword
+}
+
+// Whether the block is a codeword, or the lowest check that fails.
+pub fn verify(t: &[u16], block: &[u8]) -> Verified
+    ensures { λ r. ⌜ r ≡ verification (now (t .entry)) (now (block .entry)) ⌝ }
+{
+    let refusal = table::look_over(t);
+    if refusal != 0 {
+        return Verified::Refused(refusal);
+    }
+    let n = wide(t[1]);
+    let s = wide(t[2]);
+    if block.len() != n * s {
+        return Verified::Refused(5);
+    }
+    look_at_checks(t, wide(t[3]), n, s, block)
+}
