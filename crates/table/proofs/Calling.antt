@@ -10,7 +10,7 @@ use lib.Dec.{eqb, leb}
 use lib.ListN.{length}
 use Rattle.gf2.specs.Places.{or-false-r}
 use Rattle.gf2.specs.Span.{or-l, or-r}
-use Rattle.table.specs.PacketCall.{packetRefusal, partAt, packetPart}
+use Rattle.table.specs.PacketCall.{packetRefusal, partAt, packetPart, partStart}
 use Rattle.table.specs.Table.{outside}
 
 -- no product is formed above this
@@ -70,3 +70,15 @@ part-empty n s place b h = go (packetRefusal n s place (length b)) (partAt s pla
   where
     go : (k : ℕ) (p : List ℕ) → (k ≡ 0 → ⊥) → [] ≡ cond (eqb k 0) p []
     go k p e = rw (ne-eqb k 0 e)
+
+pub start-given : (n s place len o : ℕ) → packetRefusal n s place len ≡ 0 → place * s + o ≡ partStart n s place len + o
+start-given n s place len o h = go (packetRefusal n s place len) h
+  where
+    go : (k : ℕ) → k ≡ 0 → place * s + o ≡ cond (eqb k 0) (place * s) 0 + o
+    go k e = rw (eq-eqb k 0 e)
+
+pub start-empty : (n s place len o : ℕ) → (packetRefusal n s place len ≡ 0 → ⊥) → o ≡ partStart n s place len + o
+start-empty n s place len o h = go (packetRefusal n s place len) h
+  where
+    go : (k : ℕ) → (k ≡ 0 → ⊥) → o ≡ cond (eqb k 0) (place * s) 0 + o
+    go k e = rw (ne-eqb k 0 e) (omega arith)

@@ -2,10 +2,11 @@
 ghost use mathlib.Core.Path.{_≡_};
 ghost use Prim.Native.Nat.{_+_, _*_, _≤_};
 ghost use lib.ListN.{length, take, drop};
+ghost use denote.Ref.{ptr};
 ghost use Rattle.gf2.specs.Lists.{allPass};
 ghost use Rattle.table.specs.Checks.{Starts};
 ghost use Rattle.table.specs.LookOver.{weighed};
-ghost use Rattle.table.specs.PacketCall.{packetRefusal, partAt, packetPart};
+ghost use Rattle.table.specs.PacketCall.{packetRefusal, partAt, packetPart, partStart};
 ghost use Rattle.table.specs.Table.{number, weights, total, cutUp, rising, beyondLimits, badLengths, badPlaces, refusal};
 ghost use Rattle.table.specs.Table.{outside as isOutside};
 
@@ -200,7 +201,7 @@ pub fn packet_refusal(n: usize, s: usize, place: usize, len: usize) -> u32
 // the packet at a place
 pub fn part(block: &[u8], place: usize, s: usize) -> &[u8]
     requires { ⌜ place * s + s ≤ length (now block) ⌝ }
-    ensures { λ r. ⌜ now r ≡ partAt s place (now (block .entry)) ⌝ }
+    ensures { λ r. ⌜ (now r ≡ partAt s place (now (block .entry))) × (ptr r ≡ (ptr (block .entry) .0, place * s + ptr (block .entry) .1)) ⌝ }
 {
     let start = place * s;
     let end = start + s;
@@ -209,7 +210,7 @@ pub fn part(block: &[u8], place: usize, s: usize) -> &[u8]
 
 // the packet at a place, or the empty part
 pub fn packet_part(n: usize, s: usize, place: usize, block: &[u8]) -> &[u8]
-    ensures { λ r. ⌜ now r ≡ packetPart n s place (now (block .entry)) ⌝ }
+    ensures { λ r. ⌜ (now r ≡ packetPart n s place (now (block .entry))) × (ptr r ≡ (ptr (block .entry) .0, partStart n s place (length (now (block .entry))) + ptr (block .entry) .1)) ⌝ }
 {
     if packet_refusal(n, s, place, block.len()) == 0 {
         return part(block, place, s);
@@ -231,7 +232,7 @@ pub struct Packet<'a> {
 }
 
 pub fn packet_call<'a>(n: usize, s: usize, place: usize, block: &'a [u8]) -> Packet<'a>
-    ensures { λ r. ⌜ (r .refusal ≡ packetRefusal n s place (length (now (block .entry)))) × (now (r .part) ≡ packetPart n s place (now (block .entry))) ⌝ }
+    ensures { λ r. ⌜ (r .refusal ≡ packetRefusal n s place (length (now (block .entry)))) × (now (r .part) ≡ packetPart n s place (now (block .entry))) × (ptr (r .part) ≡ (ptr (block .entry) .0, partStart n s place (length (now (block .entry))) + ptr (block .entry) .1)) ⌝ }
 {
     let part = packet_part(n, s, place, block);
     let refusal = packet_number(n, s, place, block);

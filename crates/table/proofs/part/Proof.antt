@@ -1,4 +1,5 @@
 -- `part` meets its contract.
+use mathlib.Core.Path.{refl}
 use native.Mathlib.Nat.{add-sub-cancel-left}
 use borrow.Author.Needs.{needs}
 use Rattle.table.proofs.part.Statement.{statement}
@@ -20,7 +21,7 @@ part-result-end : tie.Need-part-result-end
 part-result-end c = search needs
 
 returns : tie.Need-returns
-returns c = simp add-sub-cancel-left
+returns c = (simp add-sub-cancel-left, refl)
 
 pub part-spec : {M : Type 1} → statement M
 part-spec =
