@@ -12,15 +12,19 @@ part-requires : tie.Need-part-requires
 part-requires c κs = packet-room (c .before .before .before .args .n) (c .before .before .before .args .s) (c .before .before .before .args .place) _ (sym (c .before .packet-refusal .ensures) ∙ c .if1 .taken)
 
 returns : tie.Need-returns
-returns c = (c .part .ensures .0 ∙ part-given (c .before .before .before .before .args .n) (c .before .before .before .before .args .s) (c .before .before .before .before .args .place) (c .before .before .before .before .args .block .now) (sym (c .before .before .packet-refusal .ensures) ∙ c .before .if1 .taken),
-    c .part .ensures .1 ∙ ap (λ x. (c .before .before .before .before .args .block .ptr .0, x)) (start-given (c .before .before .before .before .args .n) (c .before .before .before .before .args .s) (c .before .before .before .before .args .place) _ _ (sym (c .before .before .packet-refusal .ensures) ∙ c .before .if1 .taken)))
+returns c = (
+  c .part .ensures .0 ∙ part-given (c .before .before .before .before .args .n) (c .before .before .before .before .args .s) (c .before .before .before .before .args .place) (c .before .before .before .before .args .block .now) (sym (c .before .before .packet-refusal .ensures) ∙ c .before .if1 .taken),
+  c .part .ensures .1 ∙ ap (λ x. (c .before .before .before .before .args .block .ptr .0, x)) (start-given (c .before .before .before .before .args .n) (c .before .before .before .before .args .s) (c .before .before .before .before .args .place) _ _ (sym (c .before .before .packet-refusal .ensures) ∙ c .before .if1 .taken)),
+)
 
 slice-aggregate-result : tie.Need-slice-aggregate-result
 slice-aggregate-result c = search needs
 
 returns-2 : tie.Need-returns-2
-returns-2 c = (part-empty (c .before .before .before .before .args .n) (c .before .before .before .before .args .s) (c .before .before .before .before .args .place) (c .before .before .before .before .args .block .now) (λ z. c .before .if1 .left (c .before .before .packet-refusal .ensures ∙ z)),
-    ap (λ x. (c .before .before .before .before .args .block .ptr .0, x)) (start-empty (c .before .before .before .before .args .n) (c .before .before .before .before .args .s) (c .before .before .before .before .args .place) _ _ (λ z. c .before .if1 .left (c .before .before .packet-refusal .ensures ∙ z))))
+returns-2 c = (
+  part-empty (c .before .before .before .before .args .n) (c .before .before .before .before .args .s) (c .before .before .before .before .args .place) (c .before .before .before .before .args .block .now) (λ z. c .before .if1 .left (c .before .before .packet-refusal .ensures ∙ z)),
+  ap (λ x. (c .before .before .before .before .args .block .ptr .0, x)) (start-empty (c .before .before .before .before .args .n) (c .before .before .before .before .args .s) (c .before .before .before .before .args .place) _ _ (λ z. c .before .if1 .left (c .before .before .packet-refusal .ensures ∙ z))),
+)
 
 pub packet-part-spec : {M : Type 1} → statement M
 packet-part-spec =
