@@ -4,94 +4,55 @@ use mathlib.Core.Bool.{not, false}
 use mathlib.Core.List.{List, [], _∷_, _++_}
 use Prim.Native.Nat.{ℕ, _+_, _*_, _-_, _<_, _≤_}
 use native.Mathlib.Omega.{arith}
-use lib.ListN.{length, getD, set, take, drop, replicate, length-set, length-drop, length-replicate}
+use lib.ListN.{length, getD, set, take, drop, replicate, length-set, length-drop}
 use lib.Seq.{take-all}
 use Rattle.gf2.specs.Bit.{eqb-self}
 use Rattle.gf2.specs.Group.{XorGroup}
 use Rattle.gf2.specs.Lists.{all-set}
 use Rattle.gf2.specs.Places.{has, minus, has-filter}
-use Rattle.gf2.specs.Vectors.{add, add-assoc, add-comm, add-zl}
-use Rattle.table.specs.BufferLaws.{Patched, patched-same, written-bytes, part-length, getD-part, place-fits, mixed-whole, set-written}
+use Rattle.gf2.specs.Vectors.{add}
+use Rattle.table.specs.BufferLaws.{Patched, patched-same, written-bytes, part-length, getD-part, place-fits, set-written}
 use Rattle.table.specs.Checks.{CheckIn}
 use Rattle.table.specs.PacketLaws.{packets-length, packets-sized, packets-joined, joined-packets}
 use Rattle.table.specs.Packets.{Packets, packets, joined, packetSum, written, mixed}
-use Rattle.table.specs.SumLaws.{part-sum, part-zeros}
+use Rattle.table.specs.GatherLaws.{Gathered, gathered-as, from-zeros, last-part}
 use Rattle.table.proofs.Buffers.{more}
-use Rattle.table.proofs.Others.{sum-elsewhere, minus-same, one-more, next, others-length}
-use Rattle.table.proofs.Sums.{bytes-of, place-room, back-first}
+use Rattle.table.proofs.Others.{sum-elsewhere, minus-same, minus-other, others-length}
+use Rattle.table.proofs.Sums.{one-more, place-more}
 
 module _ (t : List ℕ) (at weight : ℕ) (b : List ℕ) (n s p : ℕ) (ok : CheckIn t at weight b n s) where
   -- the sum over the other ones of the first m places
   abbrev pub sumOf : ℕ → List ℕ
   sumOf m = packetSum s (packets s n b) (minus (take m (drop at t)) (p ∷ []))
 
-  -- k of its bytes from off on
-  abbrev pub part : ℕ → ℕ → ℕ → List ℕ
-  part off k m = take k (drop off (sumOf m))
-
-  -- a is a₀ with that added
-  pub record Added (off m : ℕ) (a₀ a : List ℕ) : Type 0 where
-    pub len : length a ≡ length a₀
-    pub is : a ≡ add XorGroup a₀ (part off (length a₀) m)
-
-  pub no-place : (off : ℕ) (a₀ : List ℕ) → off + length a₀ ≤ s → Added off 0 a₀ a₀
-  no-place off a₀ fits = record {
-    len = refl;
-    is = sym (ap (add XorGroup a₀) (part-zeros off (length a₀) s fits) ∙ add-comm XorGroup a₀ (replicate (length a₀) 0) ∙ add-zl XorGroup a₀ (length a₀) refl);
-  }
-
-  pub moved : (off m : ℕ) (a₀ a r : List ℕ) → a ≡ r → Added off m a₀ r → Added off m a₀ a
-  moved off m a₀ a r e g = record { len = ap length e ∙ g .len; is = e ∙ g .is }
+  sum-long : length (sumOf weight) ≡ s
+  sum-long = others-length t at weight b n s p ok weight (omega arith)
 
   -- p itself
-  pub place-same : (off : ℕ) (a₀ a : List ℕ) (m q : ℕ) → m < weight → q ≡ getD t (at + m) 0 → q ≡ p → Added off m a₀ a → Added off (m + 1) a₀ a
-  place-same off a₀ a m q h i same g =
-      let gone : sumOf (m + 1) ≡ sumOf m =
-      ap (λ c. packetSum s (packets s n b) (minus c (p ∷ []))) (one-more t at weight b n s p ok m h ∙ ap (λ v. take m (drop at t) ++ (v ∷ [])) (sym i ∙ same))
-      ∙ ap (packetSum s (packets s n b)) (minus-same (take m (drop at t)) p) in
-      record { len = g .len; is = g .is ∙ ap (λ x. add XorGroup a₀ (take (length a₀) (drop off x))) (sym gone) }
+  pub place-same : (off : ℕ) (a₀ a a′ : List ℕ) (m q : ℕ) → m < weight → q ≡ getD t (at + m) 0 → q ≡ p → Gathered s (packets s n b) off (minus (take m (drop at t)) (p ∷ [])) a₀ a
+      → a′ ≡ a → Gathered s (packets s n b) off (minus (take (m + 1) (drop at t)) (p ∷ [])) a₀ a′
+  place-same off a₀ a a′ m q h i same g e = gathered-as s (packets s n b) off (sym
+      (ap (λ c. minus c (p ∷ [])) (one-more t at weight b n s off ok m h ∙ ap (λ v. take m (drop at t) ++ (v ∷ [])) (sym i ∙ same)) ∙ minus-same (take m (drop at t)) p)) e g
 
   -- another place
-  pub place-other : (off : ℕ) (a₀ a r : List ℕ) (m q : ℕ) → off + length a₀ ≤ s → m < weight → q ≡ getD t (at + m) 0 → (q ≡ p → ⊥) → Added off m a₀ a
-      → r ≡ mixed a 0 (take (length a₀) (drop (q * s + off) b)) → length r ≡ length a → Added off (m + 1) a₀ r
-  place-other off a₀ a r m q fits h e other g f l =
-      let k = length a₀ in
-      let x = take k (drop (q * s + off) b) in
-      let in-n : q < n = rw e (ok .below m h) in
-      let long : length x ≡ length a = part-length b (q * s + off) k (place-room t at weight b n s off ok k m q fits h e) ∙ sym (g .len) in
-      let step : part off k (m + 1) ≡ add XorGroup (part off k m) x =
-      ap (λ y. take k (drop off y)) (next t at weight b n s p ok m q h e other)
-      ∙ part-sum off k (sumOf m) (getD (packets s n b) q [])
-      ∙ ap (add XorGroup (part off k m)) (sym (bytes-of t at weight b n s off ok k q fits in-n)) in
-      record {
-        len = l ∙ g .len;
-        is = f ∙ mixed-whole a x long ∙ ap (λ y. add XorGroup y x) (g .is) ∙ add-assoc XorGroup a₀ (part off k m) x ∙ ap (add XorGroup a₀) (sym step);
-      }
+  pub place-other : (off : ℕ) (a₀ a r r′ : List ℕ) (m q : ℕ) → off + length a₀ ≤ s → m < weight → q ≡ getD t (at + m) 0 → (q ≡ p → ⊥)
+      → Gathered s (packets s n b) off (minus (take m (drop at t)) (p ∷ [])) a₀ a → r ≡ mixed a 0 (take (length a₀) (drop (q * s + off) b)) → r′ ≡ r
+      → Gathered s (packets s n b) off (minus (take (m + 1) (drop at t)) (p ∷ [])) a₀ r′
+  place-other off a₀ a r r′ m q fits h e other g f same = gathered-as s (packets s n b) off (sym
+      (ap (λ c. minus c (p ∷ [])) (one-more t at weight b n s off ok m h ∙ ap (λ v. take m (drop at t) ++ (v ∷ [])) (sym e)) ∙ minus-other (take m (drop at t)) p q other))
+      same (place-more t at weight b n s off ok (minus (take m (drop at t)) (p ∷ [])) a₀ a r m q fits h e g f)
 
+  -- 64 bytes of the sum, and the last ones
+  pub others-chunk : (off : ℕ) (a : List ℕ) → off + 64 ≤ s → a ≡ add XorGroup (replicate 64 0) (take 64 (drop off (sumOf weight))) → a ≡ take 64 (drop off (sumOf weight))
+  others-chunk off a fits g = from-zeros s (packets s n b) off (minus (take weight (drop at t)) (p ∷ [])) sum-long 64 _ a refl fits g
+
+  pub others-rest : (off : ℕ) → off ≤ s → (m : ℕ) (a : List ℕ) → s - off ≤ m → length a ≡ length (take (s - off) (replicate {A = ℕ} m 0))
+      → a ≡ add XorGroup (take (s - off) (replicate m 0)) (take (length (take (s - off) (replicate {A = ℕ} m 0))) (drop off (sumOf weight)))
+      → take (s - off) (a ++ drop (s - off) (replicate m 0)) ≡ drop off (sumOf weight)
+  others-rest off le m a fits kept g = last-part s (packets s n b) off (minus (take weight (drop at t)) (p ∷ [])) sum-long le m a fits kept g
+
+  -- ---- writing
   module _ (in-n : p < n) where
-    sum-long : length (sumOf weight) ≡ s
-    sum-long = others-length t at weight b n s p ok weight (omega arith)
-
-    -- gathered from zeros
-    pub from-zeros : (off k : ℕ) (z a : List ℕ) → z ≡ replicate k 0 → off + k ≤ s → a ≡ add XorGroup z (part off (length z) weight) → a ≡ part off k weight
-    from-zeros off k z a e fits g =
-        let l : length z ≡ k = ap length e ∙ length-replicate k 0 in
-        let long = part-length (sumOf weight) off k (omega (arith, sum-long)) in
-        g ∙ ap₂ (λ x j. add XorGroup x (part off j weight)) e l ∙ add-zl XorGroup (part off k weight) k long
-
-    -- the last bytes
-    pub last-part : (off : ℕ) → off ≤ s → (m : ℕ) (a : List ℕ) → s - off ≤ m → length a ≡ length (take (s - off) (replicate {A = ℕ} m 0))
-        → a ≡ add XorGroup (take (s - off) (replicate m 0)) (part off (length (take (s - off) (replicate {A = ℕ} m 0))) weight)
-        → take (s - off) (a ++ drop (s - off) (replicate m 0)) ≡ drop off (sumOf weight)
-    last-part off le m a fits kept g =
-        let k = s - off in
-        let room : k ≤ length (replicate {A = ℕ} m 0) = omega (arith, length-replicate {A = ℕ} m 0) in
-        let short : length (drop off (sumOf weight)) ≤ k = omega (arith, length-drop off (sumOf weight), sum-long) in
-        back-first k (replicate m 0) room a kept
-        ∙ from-zeros off k (take k (replicate m 0)) a (part-zeros 0 k m (omega arith)) (omega arith) g
-        ∙ take-all k (drop off (sumOf weight)) short
-
-    -- ---- writing
     fits-p : p * s + s ≤ length b
     fits-p = omega (arith, place-fits p n s in-n, ok .bytes)
 

@@ -2,13 +2,12 @@
 use mathlib.Core.Path.{_≡_, refl, sym, ap, ap₂, _∙_}
 use mathlib.Core.Bool.{Bool, false, not, cond, true≢false}
 use mathlib.Core.List.{List, [], _∷_, _++_, append-nil}
-use Prim.Native.Nat.{ℕ, _+_, _*_, _<_, _≤_}
-use native.Mathlib.Numerals.{add-one}
+use Prim.Native.Nat.{ℕ, _*_, _≤_}
 use native.Mathlib.Omega.{arith}
 use borrow.Author.Tests.{eq-eqb, ne-eqb}
 use lib.Dec.{eqb}
-use lib.ListN.{length, getD, set, take, drop, length-drop}
-use lib.Seq.{take-suc, getD-drop, getD-set-other}
+use lib.ListN.{length, getD, set, take, drop}
+use lib.Seq.{getD-set-other}
 use Rattle.gf2.specs.Bit.{eqb-self}
 use Rattle.gf2.specs.Group.{XorGroup}
 use Rattle.gf2.specs.Lists.{all-filter}
@@ -18,7 +17,7 @@ use Rattle.gf2.specs.Vectors.{add}
 use Rattle.table.specs.Checks.{CheckIn}
 use Rattle.table.specs.PacketLaws.{packets-length, packets-sized, sum-view}
 use Rattle.table.specs.Packets.{Packets, packets, packetSum}
-use Rattle.table.specs.SumLaws.{check-below, sum-snoc}
+use Rattle.table.specs.SumLaws.{check-below}
 
 -- the last of a list passes or not
 filter-snoc : (f : ℕ → Bool) (c : List ℕ) (q : ℕ) → filter f (c ++ (q ∷ [])) ≡ filter f c ++ cond (f q) (q ∷ []) []
@@ -30,7 +29,7 @@ filter-snoc f (x ∷ c) q = byBool (f x)
 pub minus-same : (c : List ℕ) (p : ℕ) → minus (c ++ (p ∷ [])) (p ∷ []) ≡ minus c (p ∷ [])
 minus-same c p = filter-snoc (λ q. not (has q (p ∷ []))) c p ∙ rw (eqb-self p) (append-nil (minus c (p ∷ [])))
 
-minus-other : (c : List ℕ) (p q : ℕ) → (q ≡ p → ⊥) → minus (c ++ (q ∷ [])) (p ∷ []) ≡ minus c (p ∷ []) ++ (q ∷ [])
+pub minus-other : (c : List ℕ) (p q : ℕ) → (q ≡ p → ⊥) → minus (c ++ (q ∷ [])) (p ∷ []) ≡ minus c (p ∷ []) ++ (q ∷ [])
 minus-other c p q h = filter-snoc (λ r. not (has r (p ∷ []))) c q ∙ rw (ne-eqb q p h)
 
 -- a packet that isn't summed may be any
@@ -55,19 +54,6 @@ module _ (t : List ℕ) (at weight : ℕ) (b : List ℕ) (n s p : ℕ) (ok : Che
   others-length m h =
       let few : CheckIn t at m b n s = record { room = omega (arith, ok .room); below = λ i g. ok .below i (omega arith); bytes = ok .bytes } in
       sum-view s sized {c = minus (take m (drop at t)) (p ∷ [])} (all-filter (λ q. not (has q (p ∷ []))) {c = take m (drop at t)} (rw (packets-length s n b) (check-below t at m b n s few))) .0
-
-  -- one place more
-  pub one-more : (m : ℕ) → m < weight → take (m + 1) (drop at t) ≡ take m (drop at t) ++ (getD t (at + m) 0 ∷ [])
-  one-more m h =
-      let long : m < length (drop at t) = omega (arith, length-drop at t, ok .room) in
-      rw add-one (take-suc (drop at t) m 0 long ∙ ap (λ v. take m (drop at t) ++ (v ∷ [])) (getD-drop at t m 0))
-
-  -- another place
-  pub next : (m q : ℕ) → m < weight → q ≡ getD t (at + m) 0 → (q ≡ p → ⊥) → others (m + 1) ≡ add XorGroup (others m) (getD ps q [])
-  next m q h i other =
-      ap (λ c. packetSum s ps (minus c (p ∷ []))) (one-more m h ∙ ap (λ v. take m (drop at t) ++ (v ∷ [])) (sym i))
-      ∙ ap (packetSum s ps) (minus-other (take m (drop at t)) p q other)
-      ∙ sum-snoc s ps (minus (take m (drop at t)) (p ∷ [])) q
 
 -- the block's length is what counts
 pub same-check : (t : List ℕ) (at weight : ℕ) (b e : List ℕ) (n s : ℕ) → length e ≡ length b → CheckIn t at weight b n s → CheckIn t at weight e n s

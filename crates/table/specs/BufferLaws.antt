@@ -14,7 +14,7 @@ use lib.Seq.{take-all, getD-take, getD-drop, getD-append-add, ext-getD}
 use Rattle.gf2.specs.Group.{XorGroup}
 use Rattle.gf2.specs.Vectors.{add, getD-add, length-add}
 use Rattle.gf2.specs.Lists.{all-getD}
-use Rattle.table.specs.Packets.{Packets, Room, joined, written, mixed}
+use Rattle.table.specs.Packets.{Packets, joined, written, mixed}
 use Rattle.table.specs.PacketLaws.{joined-packets, packet-at, joined-set}
 
 -- one number is below the other or not
@@ -113,18 +113,6 @@ mixed-whole b x h =
 pub place-fits : (i n s : ℕ) → i < n → i * s + s ≤ n * s
 place-fits i n s h = let m : suc i * s ≤ n * s = mul-le-mul-right s h in omega (arith, suc-mul i s)
 
--- two different places do not overlap
-pub places-apart : (i k s : ℕ) → (i ≡ k → ⊥) → (i * s + s ≤ k * s) ⊎ (k * s + s ≤ i * s)
-places-apart i k s h = ⊎-elim (λ l. inl (place-fits i k s l)) (λ l. inr (place-fits k i s (let d : (k ≡ i) → ⊥ = λ e. h (sym e) in omega arith))) (side i k)
-
--- what `add` requires of two places
-pub places-room : (b : List ℕ) (n s i k : ℕ) → length b ≡ n * s → i < n → k < n → Room b (i * s) (k * s) s
-places-room b n s i k l h g = record {
-  at-to = omega (arith, place-fits i n s h);
-  at-from = omega (arith, place-fits k n s g);
-  apart = ⊎-elim (λ m. inr (place-fits k i s m)) (λ m. inl (mul-le-mul-right s m)) (side k i);
-}
-
 module _ (s : ℕ) {ps : List (List ℕ)} (sized : Packets s ps) where
   -- a packet is its part of the buffer
   pub packet-part : (k : ℕ) → k < length ps → getD ps k [] ≡ take s (drop (k * s) (joined ps))
@@ -137,22 +125,6 @@ module _ (s : ℕ) {ps : List (List ℕ)} (sized : Packets s ps) where
   -- a packet cleared
   pub set-cleared : (i : ℕ) → i < length ps → joined (set ps i (replicate s 0)) ≡ written (joined ps) (i * s) (replicate s 0)
   set-cleared i h = set-written i (replicate s 0) h (length-replicate s 0)
-
-  -- s bytes added to a packet
-  pub set-mixed : (i : ℕ) (x : List ℕ) → i < length ps → length x ≡ s → joined (set ps i (add XorGroup (getD ps i []) x)) ≡ mixed (joined ps) (i * s) x
-  set-mixed i x h e =
-      set-written i (add XorGroup (getD ps i []) x) h (length-add XorGroup (getD ps i []) x s (all-getD sized i h) e)
-      ∙ ap (λ y. written (joined ps) (i * s) (add XorGroup y x)) (packet-part i h ∙ ap (λ n. take n (drop (i * s) (joined ps))) (sym e))
-
-  -- a packet of the same buffer added
-  pub set-added : (i k : ℕ) → i < length ps → k < length ps
-      → joined (set ps i (add XorGroup (getD ps i []) (getD ps k []))) ≡ mixed (joined ps) (i * s) (take s (drop (k * s) (joined ps)))
-  set-added i k h g = set-mixed i (getD ps k []) h (all-getD sized k g) ∙ ap (mixed (joined ps) (i * s)) (packet-part k g)
-
--- a packet of another buffer added
-pub set-added-from : (s : ℕ) {ps qs : List (List ℕ)} → Packets s ps → Packets s qs → (i k : ℕ) → i < length ps → k < length qs
-    → joined (set ps i (add XorGroup (getD ps i []) (getD qs k []))) ≡ mixed (joined ps) (i * s) (take s (drop (k * s) (joined qs)))
-set-added-from s {ps} {qs} a b i k h g = set-mixed s a i (getD qs k []) h (all-getD b k g) ∙ ap (mixed (joined ps) (i * s)) (packet-part s b k g)
 
 -- a packet of another buffer copied
 pub set-copied : (s : ℕ) {ps qs : List (List ℕ)} → Packets s ps → Packets s qs → (i k : ℕ) → i < length ps → k < length qs

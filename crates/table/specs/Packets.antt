@@ -1,8 +1,7 @@
 -- Packets and their sums (document 01, first paragraph): "A block is n packets of s bytes, at places 0 to n − 1."
 use mathlib.Core.Path.{_≡_}
 use mathlib.Core.List.{List, [], _∷_, _++_}
-use mathlib.Core.Logic.{_⊎_}
-use Prim.Native.Nat.{ℕ, zero, suc, _+_, _*_, _≤_}
+use Prim.Native.Nat.{ℕ, zero, suc, _+_}
 use lib.ListN.{length, getD, take, drop, replicate}
 use Rattle.gf2.specs.Group.{XorGroup}
 use Rattle.gf2.specs.Vectors.{add}
@@ -39,12 +38,6 @@ written b at x = take at b ++ (x ++ drop (at + length x) b)
 -- b with x added from at on
 abbrev pub mixed : List ℕ → ℕ → List ℕ → List ℕ
 mixed b at x = written b at (add XorGroup (take (length x) (drop at b)) x)
-
--- the s bytes at to and those at from lie within b, and no byte is read after it was written
-pub record Room (b : List ℕ) (to from s : ℕ) : Type 0 where
-  pub at-to : to + s ≤ length b
-  pub at-from : from + s ≤ length b
-  pub apart : (to ≤ from) ⊎ (from + s ≤ to)
 
 -- the position of the lowest byte that isn't zero; the length where all are zero
 unfoldable pub lowestNonzero : List ℕ → ℕ

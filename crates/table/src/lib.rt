@@ -249,7 +249,7 @@ ghost use Rattle.gf2.specs.Group.{XorGroup};
 ghost use Rattle.gf2.specs.Places.{minus};
 ghost use Rattle.gf2.specs.Vectors.{add as addVectors};
 ghost use Rattle.table.specs.Checks.{CheckIn};
-ghost use Rattle.table.specs.Packets.{Room, packets, joined, packetSum, written, mixed, lowestNonzero};
+ghost use Rattle.table.specs.Packets.{packets, joined, packetSum, written, mixed, lowestNonzero};
 
 // s zeros are written at at.
 pub fn clear(b: &mut [u8], at: usize, s: usize)
@@ -303,41 +303,6 @@ pub fn add_from(b: &mut [u8], to: usize, src: &[u8], from: usize, s: usize)
 {
     let end = from + s;
     mix(b, to, &src[from..end]);
-}
-
-// 64 bytes are copied out before the target is written.
-fn add_chunk(b: &mut [u8], to: usize, from: usize)
-    requires { ⌜ Room (now b) to from 64 ⌝ }
-    ensures { λ _. ⌜ now (b .exit) ≡ mixed (now (b .entry)) to (take 64 (drop from (now (b .entry)))) ⌝ }
-{
-    let mut t = [0u8; 64];
-    copy(&mut t, 0, b, from, 64);
-    mix(b, to, &t);
-}
-
-// Byte by byte.
-fn add_bytes(b: &mut [u8], to: usize, from: usize, s: usize)
-    requires { ⌜ Room (now b) to from s ⌝ }
-    ensures { λ _. ⌜ now (b .exit) ≡ mixed (now (b .entry)) to (take s (drop from (now (b .entry)))) ⌝ }
-{
-    let mut i = 0;
-    while i < s {
-        b[to + i] = b[to + i] ^ b[from + i];
-        i += 1;
-    }
-}
-
-// The s bytes at from are added into the s bytes at to.
-pub fn add(b: &mut [u8], to: usize, from: usize, s: usize)
-    requires { ⌜ Room (now b) to from s ⌝ }
-    ensures { λ _. ⌜ now (b .exit) ≡ mixed (now (b .entry)) to (take s (drop from (now (b .entry)))) ⌝ }
-{
-    let mut i = 0;
-    while 64 <= s - i {
-        add_chunk(b, to + i, from + i);
-        i += 64;
-    }
-    add_bytes(b, to + i, from + i, s - i);
 }
 
 // A place as an index.

@@ -2,18 +2,21 @@
 use Prim.Native.Nat.{_-_, _≤_}
 use mathlib.Core.Path.{_≡_}
 use native.Mathlib.Omega.{arith}
-use Rattle.table.proofs.Sums.{Gathered, no-place, place-room, place-more}
+use Rattle.table.specs.GatherLaws.{Gathered, gathered-none}
+use Rattle.table.specs.Packets.{packets}
+use Rattle.table.proofs.Sums.{place-room, next-place}
+use lib.ListN.{take, drop}
 use Rattle.table.proofs.gather.Statement.{statement}
 use Rattle.table.proofs.gather.Tie as tie
 
 abbrev Inv-loop : tie.InvT-loop
-Inv-loop acc₀ t at weight block n s off k m₀ acc m = (m ≤ weight) × Gathered t at block n s off m acc₀ acc
+Inv-loop acc₀ t at weight block n s off k m₀ acc m = (m ≤ weight) × Gathered s (packets s n block) off (take m (drop at t)) acc₀ acc
 
 abbrev μ-loop : tie.MeasureT-loop
 μ-loop acc₀ t at weight block n s off k m₀ acc m = weight - m
 
 loop-holds : tie.Need-loop-holds Inv-loop μ-loop
-loop-holds c = (omega arith, no-place _ _ _ _ _ _ _ (c .before .before .before .pre .0) _ (c .before .before .before .pre .1))
+loop-holds c = (omega arith, gathered-none _ _ _ _ (c .before .before .before .pre .1))
 
 add-place-of : tie.Need-add-place-of Inv-loop μ-loop
 add-place-of c = omega (arith, c .before .before .before .before .before .before .pre .0 .room)
@@ -43,7 +46,7 @@ loop-less : tie.Need-loop-less Inv-loop μ-loop
 loop-less c = omega arith
 
 loop-again : tie.Need-loop-again Inv-loop μ-loop
-loop-again c = let a = c .before .before .before .before .before .before .before .before .before .before .before in (omega arith, place-more _ _ _ _ _ _ _ (a .pre .0) _ _ _ _ _ (a .pre .1) (c .before .before .before .before .before .before .loop-test .taken) (c .before .before .before .place-of .ensures) (c .before .before .before .before .before .before .before .loop .inv .1) (c .before .before .add-from .ensures) (c .before .before .add-from .kept .0))
+loop-again c = let a = c .before .before .before .before .before .before .before .before .before .before .before in (omega arith, next-place _ _ _ _ _ _ _ (a .pre .0) _ _ _ _ _ (a .pre .1) (c .before .before .before .before .before .before .loop-test .taken) (c .before .before .before .place-of .ensures) (c .before .before .before .before .before .before .before .loop .inv .1) (c .before .before .add-from .ensures))
 
 same-length : tie.Need-same-length Inv-loop μ-loop
 same-length c = c .before .loop .inv .1 .len

@@ -4,22 +4,23 @@ use mathlib.Core.Path.{_≡_}
 use mathlib.Core.Logic.{⊎-elim}
 use native.Mathlib.Omega.{arith}
 use Rattle.table.proofs.Sums.{place-room}
-use Rattle.table.proofs.Gathering.{Added, no-place, moved, place-same, place-other}
-use Rattle.table.specs.Checks.{CheckIn}
+use Rattle.table.specs.GatherLaws.{Gathered, gathered-none}
+use Rattle.table.specs.Packets.{packets}
+use Rattle.gf2.specs.Places.{minus}
+use mathlib.Core.List.{[], _∷_}
+use Rattle.table.proofs.Gathering.{place-same, place-other}
 use lib.ListN.{length, take, drop}
-use Rattle.gf2.specs.Group.{XorGroup}
-use Rattle.gf2.specs.Vectors.{add}
 use Rattle.table.proofs.gather_others.Statement.{statement}
 use Rattle.table.proofs.gather_others.Tie as tie
 
 abbrev Inv-loop : tie.InvT-loop
-Inv-loop acc₀ t at weight block n s p off k m₀ acc m = (m ≤ weight) × ((ok : CheckIn t at weight block n s) → Added t at weight block n s p ok off m acc₀ acc)
+Inv-loop acc₀ t at weight block n s p off k m₀ acc m = (m ≤ weight) × Gathered s (packets s n block) off (minus (take m (drop at t)) (p ∷ [])) acc₀ acc
 
 abbrev μ-loop : tie.MeasureT-loop
 μ-loop acc₀ t at weight block n s p off k m₀ acc m = weight - m
 
 loop-holds : tie.Need-loop-holds Inv-loop μ-loop
-loop-holds c = (omega arith, λ ok. no-place _ _ _ _ _ _ _ ok _ _ (c .before .before .before .pre .1))
+loop-holds c = (omega arith, gathered-none _ _ _ _ (c .before .before .before .pre .1))
 
 add-place-of : tie.Need-add-place-of Inv-loop μ-loop
 add-place-of c = omega (arith, c .before .before .before .before .before .pre .0 .room)
@@ -40,7 +41,7 @@ add-add-from : tie.Need-add-add-from Inv-loop μ-loop
 add-add-from c = let a = c .before .before .before .before .before .before .before .before .before in omega (arith, place-room _ _ _ _ _ _ _ (a .pre .0) _ _ _ (a .pre .1) (c .before .before .before .before .loop-test .taken) (c .before .before .place-of .ensures))
 
 add-from-requires : tie.Need-add-from-requires Inv-loop μ-loop
-add-from-requires c κs = let a = c .before .before .before .before .before .before .before .before .before in (omega (arith, c .before .before .before .before .before .loop .inv .1 (a .pre .0) .len), place-room _ _ _ _ _ _ _ (a .pre .0) _ _ _ (a .pre .1) (c .before .before .before .before .loop-test .taken) (c .before .before .place-of .ensures))
+add-from-requires c κs = let a = c .before .before .before .before .before .before .before .before .before in (omega (arith, c .before .before .before .before .before .loop .inv .1 .len), place-room _ _ _ _ _ _ _ (a .pre .0) _ _ _ (a .pre .1) (c .before .before .before .before .loop-test .taken) (c .before .before .place-of .ensures))
 
 add-m : tie.Need-add-m Inv-loop μ-loop
 add-m c = omega arith
@@ -57,19 +58,19 @@ loop-again c =
     ⊎-elim
     (λ u. (
       omega arith,
-      λ ok. moved _ _ _ _ _ _ _ ok _ _ _ _ _ (u .5) (place-other _ _ _ _ _ _ _ ok _ _ _ _ (l .m) (q .result) (a .pre .1) h (q .ensures) (u .0 .taken) (l .inv .1 ok) (u .2 .ensures) (u .2 .kept .0)),
+      place-other _ _ _ _ _ _ _ (a .pre .0) _ _ _ _ _ (l .m) (q .result) (a .pre .1) h (q .ensures) (u .0 .taken) (l .inv .1) (u .2 .ensures) (u .5),
     ))
     (λ u. (
       omega arith,
-      λ ok. moved _ _ _ _ _ _ _ ok _ _ _ _ _ (u .1) (place-same _ _ _ _ _ _ _ ok _ _ _ (l .m) (q .result) h (q .ensures) (u .0 .left) (l .inv .1 ok)),
+      place-same _ _ _ _ _ _ _ (a .pre .0) _ _ _ _ (l .m) (q .result) h (q .ensures) (u .0 .left) (l .inv .1) (u .1),
     ))
     (c .if1 .came)
 
 same-length : tie.Need-same-length Inv-loop μ-loop
-same-length c = c .before .loop .inv .1 (c .before .before .before .before .before .pre .0) .len
+same-length c = c .before .loop .inv .1 .len
 
 returns : tie.Need-returns Inv-loop μ-loop
-returns c = let e : c .before .loop .m ≡ c .before .before .before .before .before .args .weight = omega arith in rw e at (c .before .loop .inv .1 (c .before .before .before .before .before .pre .0) .is)
+returns c = let e : c .before .loop .m ≡ c .before .before .before .before .before .args .weight = omega arith in rw e at (c .before .loop .inv .1 .is)
 
 pub gather-others-spec : {M : Type 1} → statement M
 gather-others-spec =

@@ -1,7 +1,7 @@
 -- `table::lowest_in_chunk` meets its contract: what was gathered from zeros is the part of the sum.
-use mathlib.Core.Path.{refl, ap, _∙_}
+use mathlib.Core.Path.{ap, _∙_}
 use Rattle.table.specs.Packets.{lowestNonzero}
-use Rattle.table.proofs.Sums.{from-zeros}
+use Rattle.table.proofs.Sums.{chunk-of}
 use borrow.Author.Needs.{needs}
 use Rattle.table.proofs.lowest_in_chunk.Statement.{statement}
 use Rattle.table.proofs.lowest_in_chunk.Tie as tie
@@ -19,7 +19,7 @@ lowest-of-requires : tie.Need-lowest-of-requires
 lowest-of-requires c κs = search needs
 
 returns : tie.Need-returns
-returns c = let a = c .before .before .before .before .before .before .before in c .lowest-of .ensures ∙ ap lowestNonzero (from-zeros _ _ _ _ _ _ _ (a .pre .0) 64 _ _ refl (a .pre .1) (c .before .before .before .gather .ensures))
+returns c = let a = c .before .before .before .before .before .before .before in c .lowest-of .ensures ∙ ap lowestNonzero (chunk-of _ _ _ _ _ _ _ (a .pre .0) _ (a .pre .1) (c .before .before .before .gather .ensures))
 
 pub lowest-in-chunk-spec : {M : Type 1} → statement M
 lowest-in-chunk-spec =

@@ -4,7 +4,8 @@ use mathlib.Core.Path.{ap, _∙_}
 use native.Mathlib.Omega.{arith}
 use Rattle.table.specs.Packets.{lowestNonzero}
 use lib.ListN.{replicate}
-use Rattle.table.proofs.Sums.{first-length, back-room, back-length, last-part}
+use Rattle.table.specs.GatherLaws.{first-length, back-room, back-length}
+use Rattle.table.proofs.Sums.{rest-of}
 use borrow.Author.Needs.{needs}
 use Rattle.table.proofs.lowest_in_rest.Statement.{statement}
 use Rattle.table.proofs.lowest_in_rest.Tie as tie
@@ -31,7 +32,7 @@ lowest-of-requires : tie.Need-lowest-of-requires
 lowest-of-requires c κs = search needs
 
 returns : tie.Need-returns
-returns c = let a = c .before .before .before .before .before .before .before in c .lowest-of .ensures ∙ ap lowestNonzero (last-part _ _ _ _ _ _ _ (a .pre .0) (omega arith) 64 _ (omega arith) (c .before .before .before .gather .kept .0) (c .before .before .before .gather .ensures))
+returns c = let a = c .before .before .before .before .before .before .before in c .lowest-of .ensures ∙ ap lowestNonzero (rest-of _ _ _ _ _ _ _ (a .pre .0) (omega arith) 64 _ (omega arith) (c .before .before .before .gather .kept .0) (c .before .before .before .gather .ensures))
 
 pub lowest-in-rest-spec : {M : Type 1} → statement M
 lowest-in-rest-spec =

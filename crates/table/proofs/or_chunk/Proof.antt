@@ -1,7 +1,7 @@
 -- `table::or_chunk` meets its contract: what was gathered from zeros is the part of the sum.
-use mathlib.Core.Path.{refl, sym, _∙_}
+use mathlib.Core.Path.{sym, _∙_}
 use native.Mathlib.Omega.{arith}
-use Rattle.table.proofs.Sums.{from-zeros, or-piece}
+use Rattle.table.proofs.Sums.{chunk-of, or-piece}
 use borrow.Author.Needs.{needs}
 use Rattle.table.proofs.or_chunk.Statement.{statement}
 use Rattle.table.proofs.or_chunk.Tie as tie
@@ -24,7 +24,7 @@ same-length c = c .before .before .or-into .kept .0
 returns : tie.Need-returns
 returns c = let a = c .before .before .before .before .before .before .before .before .before .before .before in
     let g = c .before .before .before .before .before .before .gather in
-    or-piece _ _ _ _ (g .kept .0) (from-zeros _ _ _ _ _ _ _ (a .pre .0) 64 _ _ refl (a .pre .1 .0) (g .ensures)) (c .before .before .or-into .ensures)
+    or-piece _ _ _ _ (g .kept .0) (chunk-of _ _ _ _ _ _ _ (a .pre .0) _ (a .pre .1 .0) (g .ensures)) (c .before .before .or-into .ensures)
 
 pub or-chunk-spec : {M : Type 1} → statement M
 or-chunk-spec =

@@ -1,10 +1,10 @@
 -- `table::restore_chunk` meets its contract: what was gathered from zeros is the part of the sum.
-use mathlib.Core.Path.{_≡_, refl, ap, _∙_}
+use mathlib.Core.Path.{_≡_, ap, _∙_}
 use Prim.Native.Nat.{_+_, _*_}
 use native.Mathlib.Omega.{arith}
 use Rattle.table.specs.BufferLaws.{place-fits}
 use Rattle.table.specs.Packets.{written}
-use Rattle.table.proofs.Gathering.{from-zeros}
+use Rattle.table.proofs.Gathering.{others-chunk}
 use borrow.Author.Needs.{needs}
 use Rattle.table.proofs.restore_chunk.Statement.{statement}
 use Rattle.table.proofs.restore_chunk.Tie as tie
@@ -34,7 +34,7 @@ returns : tie.Need-returns
 returns c =
     let a = c .before .before .before .before .before .before .before .before .before .before .before in
     c .before .before .store .ensures
-    ∙ ap (written (a .args .block .now) (a .args .p * a .args .s + a .args .off)) (from-zeros _ _ _ _ _ _ _ (a .pre .0) (a .pre .1 .0) _ 64 _ _ refl (a .pre .1 .1) (c .before .before .before .before .before .before .gather-others .ensures))
+    ∙ ap (written (a .args .block .now) (a .args .p * a .args .s + a .args .off)) (others-chunk _ _ _ _ _ _ _ (a .pre .0) _ _ (a .pre .1 .1) (c .before .before .before .before .before .before .gather-others .ensures))
 
 pub restore-chunk-spec : {M : Type 1} → statement M
 restore-chunk-spec =

@@ -5,8 +5,8 @@ use native.Mathlib.Omega.{arith}
 use lib.ListN.{length, replicate}
 use Rattle.table.specs.BufferLaws.{place-fits}
 use Rattle.table.specs.Packets.{written}
-use Rattle.table.proofs.Sums.{first-length, back-room, back-length}
-use Rattle.table.proofs.Gathering.{last-part}
+use Rattle.table.specs.GatherLaws.{first-length, back-room, back-length}
+use Rattle.table.proofs.Gathering.{others-rest}
 use borrow.Author.Needs.{needs}
 use Rattle.table.proofs.restore_rest.Statement.{statement}
 use Rattle.table.proofs.restore_rest.Tie as tie
@@ -46,7 +46,7 @@ returns c =
     let a = c .before .before .before .before .before .before .before .before .before .before .before in
     let g = c .before .before .before .before .before .before .gather-others in
     c .before .before .store .ensures
-    ∙ ap (written (a .args .block .now) (a .args .p * a .args .s + a .args .off)) (last-part _ _ _ _ _ _ _ (a .pre .0) (a .pre .1 .0) _ (omega arith) 64 _ (omega arith) (g .kept .0) (g .ensures))
+    ∙ ap (written (a .args .block .now) (a .args .p * a .args .s + a .args .off)) (others-rest _ _ _ _ _ _ _ (a .pre .0) _ (omega arith) 64 _ (omega arith) (g .kept .0) (g .ensures))
 
 pub restore-rest-spec : {M : Type 1} → statement M
 restore-rest-spec =
