@@ -9,7 +9,7 @@ use lib.ListN.{length}
 use Rattle.gf2.specs.Span.{anyOf}
 use Rattle.table.specs.Packets.{packets, joined}
 use Rattle.table.specs.Table.{places, size, checks, refusal}
-use Rattle.restore.specs.Restoring.{State, zeroLost, consistent, tally, outcome}
+use Rattle.erasure.specs.Restoring.{State, zeroLost, consistent, tally, outcome}
 use Rattle.repair.specs.declared.Repaired.{Repaired}
 
 -- ---- the call: table t, block b and map of any length and content

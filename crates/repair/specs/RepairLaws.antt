@@ -14,7 +14,7 @@ use Rattle.gf2.specs.Span.{byBool, anyOf}
 use Rattle.gf2.specs.Width.{All, All.nil, All.cons}
 use Rattle.table.specs.Packets.{packets, joined}
 use Rattle.table.specs.Table.{places, size, checks, tooShort, beyondLimits, badLengths, badPlaces, refusal}
-use Rattle.restore.specs.Restoring.{zeroLost, consistent, outcome}
+use Rattle.erasure.specs.Restoring.{zeroLost, consistent, outcome}
 use Rattle.repair.specs.Repair.{repairRefusal, repairBlock, repairMap}
 
 -- a call that none of 1 to 7 refuses

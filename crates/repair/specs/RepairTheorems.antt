@@ -16,15 +16,15 @@ use Rattle.table.specs.PacketLaws.{packets-length, packets-sized, joined-packet
 use Rattle.table.specs.Packets.{packets, joined, packetSum}
 use Rattle.table.specs.Table.{places, size, checks}
 use Rattle.table.specs.TableLaws.{accepted}
-use Rattle.restore.specs.Largest.{left-stopping, left-within, left-largest}
-use Rattle.restore.specs.Restoring.{lostPlaces, zeroLost, tally, outcome}
-use Rattle.restore.specs.OutcomeLaws.{tally-lost, tally-restored, start-length, start-sized, outcome-length, outcome-sized, sums-of, none-lost, part-joined}
+use Rattle.erasure.specs.Largest.{left-stopping, left-within, left-largest}
+use Rattle.erasure.specs.Restoring.{lostPlaces, zeroLost, tally, outcome}
+use Rattle.erasure.specs.OutcomeLaws.{tally-lost, tally-restored, start-length, start-sized, outcome-length, outcome-sized, sums-of, none-lost, part-joined}
 use Rattle.repair.specs.Repair.{repairRefusal, repairReport, repairBlock, repairMap}
 use Rattle.repair.specs.RepairLaws.{Fitting, fitting-refusal, accepted-fits, contradicted-fits, bytes-all, byte-at, block-accepted, block-contradicted, map-accepted, map-refused}
-use Rattle.restore.specs.RestoringLaws.{restoring-same, restoring-mark}
-use Rattle.restore.specs.Stopping.{isLost, Stopping, lostIn}
-use Rattle.restore.specs.Tally.{restoredIn, restored-and-lost}
-use Rattle.restore.specs.Values.{received-kept, left-zero, restored, no-contradiction, zeroLost-kept, zeroLost-zero}
+use Rattle.erasure.specs.RestoringLaws.{restoring-same, restoring-mark}
+use Rattle.erasure.specs.Stopping.{isLost, Stopping, lostIn}
+use Rattle.erasure.specs.Tally.{restoredIn, restored-and-lost}
+use Rattle.erasure.specs.Values.{received-kept, left-zero, restored, no-contradiction, zeroLost-kept, zeroLost-zero}
 
 -- the same packet in b and w wherever the map says received
 abbrev pub Agree : List ℕ → List ℕ → List ℕ → List ℕ → Type 0

@@ -7,7 +7,7 @@ use borrow.Author.Tests.{ne-eqb}
 use lib.ListN.{length, getD, drop, drop-of-length-le}
 use Rattle.table.specs.Codewords.{zeroSum}
 use Rattle.table.specs.TableUse.{drop-more}
-use Rattle.restore.specs.Restoring.{State, lostPlaces, consistent}
+use Rattle.erasure.specs.Restoring.{State, lostPlaces, consistent}
 
 module _ (s : ℕ) (st : State) (cs : List (List ℕ)) (j : ℕ) (h : j < length cs) where
   pub agree-lost : (length (lostPlaces (st .lost) (getD cs j [])) ≡ 0 → ⊥) → consistent s (drop j cs) st ≡ consistent s (drop (j + 1) cs) st

@@ -13,7 +13,7 @@ use Rattle.gf2.specs.Lists.{all-set}
 use Rattle.table.specs.BufferLaws.{set-written, set-cleared}
 use Rattle.table.specs.PacketLaws.{packets-length, packets-sized, packets-joined, joined-packets, joined-length}
 use Rattle.table.specs.Packets.{Packets, packets, joined, written}
-use Rattle.restore.specs.Restoring.{zeroLost}
+use Rattle.erasure.specs.Restoring.{zeroLost}
 
 -- ---- one packet written
 module _ (s n : ℕ) (b : List ℕ) (bytes : length b ≡ n * s) (i : ℕ) (v : List ℕ) (inside : i < n) (long : length v ≡ s) where

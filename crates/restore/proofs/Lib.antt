@@ -1,10 +1,7 @@
 pub mod Agreeing
 pub mod BlockLaws
-pub mod Counting
-pub mod Linking
 pub mod MapLaws
 pub mod Ordering
 pub mod Settling
 pub mod Spending
 pub mod Turning
-pub mod Walking

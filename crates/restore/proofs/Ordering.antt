@@ -16,11 +16,12 @@ use Rattle.table.specs.Checks.{check}
 use Rattle.table.specs.ChecksLaws.{checks-at}
 use Rattle.table.specs.Table.{checks, number}
 use Rattle.table.specs.TableLaws.{accepted}
-use Rattle.restore.specs.Linked.{Chain, Linked, Counted, Walk, Walked, LowestOne, holders}
-use Rattle.restore.specs.Restoring.{lostPlaces}
-use Rattle.restore.specs.Stopping.{isLost}
+use Rattle.chains.specs.Linked.{Chain, Linked, Counted, Walk, Walked, LowestOne, holders}
+use Rattle.erasure.specs.Restoring.{lostPlaces}
+use Rattle.erasure.specs.Stopping.{isLost}
 use Rattle.table.specs.TableUse.{TableOf, check-count}
-use Rattle.restore.proofs.Linking.{chain-unique, holders-has, holders-inside, holders-distinct, lost-less}
+use Rattle.chains.specs.LinkedLaws.{chain-unique, holders-has, holders-inside, holders-distinct}
+use Rattle.erasure.specs.LostLaws.{lost-less}
 use Rattle.restore.proofs.Turning.{readyNumber}
 
 -- the counts of a map, and a bound below which no check has exactly one lost place

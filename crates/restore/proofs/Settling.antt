@@ -12,11 +12,12 @@ use Rattle.table.specs.PacketLaws.{packets-length, joined-packets}
 use Rattle.table.specs.Packets.{packets, joined, written}
 use Rattle.table.specs.Table.{places, size, checks}
 use Rattle.table.specs.TableUse.{TableOf}
-use Rattle.restore.specs.OutcomeLaws.{start-length, start-sized, outcome-length, outcome-sized, tally-fewer}
-use Rattle.restore.specs.Restoring.{zeroLost, restoring, consistent, tally, outcome, agreeing, Mends}
-use Rattle.restore.specs.Stopping.{isLost}
-use Rattle.restore.specs.Turns.{Restored, stateOf}
-use Rattle.restore.specs.Values.{received-kept, zeroLost-length, zeroLost-kept, zeroLost-zero}
+use Rattle.erasure.specs.OutcomeLaws.{start-length, start-sized, outcome-length, outcome-sized, tally-fewer}
+use Rattle.erasure.specs.Restoring.{zeroLost, restoring, consistent, tally, outcome, agreeing}
+use Rattle.restore.specs.Mending.{Mends}
+use Rattle.erasure.specs.Stopping.{isLost}
+use Rattle.erasure.specs.Turns.{Restored, stateOf}
+use Rattle.erasure.specs.Values.{received-kept, zeroLost-length, zeroLost-kept, zeroLost-zero}
 use Rattle.restore.specs.declared.Mended.{Mended}
 
 -- ---- zeroing again gives the start again

@@ -18,12 +18,13 @@ use Rattle.table.specs.Checks.{check}
 use Rattle.table.specs.PacketLaws.{packets-length}
 use Rattle.table.specs.Packets.{packets, packetSum}
 use Rattle.table.specs.SumLaws.{lowest-same, zeros-lowest}
-use Rattle.restore.specs.Linked.{Counted, Spent}
-use Rattle.restore.specs.Restoring.{State, lostPlaces, consistent}
-use Rattle.restore.specs.Stopping.{isLost, first-lost}
+use Rattle.chains.specs.Linked.{Counted}
+use Rattle.restore.specs.Spent.{Spent}
+use Rattle.erasure.specs.Restoring.{State, lostPlaces, consistent}
+use Rattle.erasure.specs.Stopping.{isLost, first-lost}
 use Rattle.table.specs.TableUse.{TableOf}
 use Rattle.table.specs.Codewords.{zeroSum}
-use Rattle.restore.proofs.Linking.{lost-less}
+use Rattle.erasure.specs.LostLaws.{lost-less}
 use Rattle.restore.proofs.Ordering.{distinct-check}
 use Rattle.restore.proofs.Agreeing.{agree-lost, agree-zero}
 

@@ -18,12 +18,13 @@ use Rattle.table.specs.PacketLaws.{packets-length, packets-sized, packets-joine
 use Rattle.table.specs.Packets.{Packets, packets, joined, packetSum}
 use Rattle.table.specs.SumLaws.{places-in, check-below}
 use Rattle.table.specs.Table.{checks}
-use Rattle.restore.specs.Largest.{lost-most}
-use Rattle.restore.specs.Restoring.{State, lostPlaces, ready, restoring}
-use Rattle.restore.specs.RestoringLaws.{lost-inside, ready-one, ready-lost, restoring-enough}
-use Rattle.restore.specs.Stopping.{isLost, first-lost, lostIn, restore-one}
+use Rattle.erasure.specs.Largest.{lost-most}
+use Rattle.erasure.specs.Restoring.{State, lostPlaces, ready, restoring}
+use Rattle.erasure.specs.LostLaws.{filter-less}
+use Rattle.erasure.specs.RestoringLaws.{lost-inside, ready-one, ready-lost, restoring-enough}
+use Rattle.erasure.specs.Stopping.{isLost, first-lost, lostIn, restore-one}
 use Rattle.table.specs.TableUse.{TableOf, check-count, places-at, check-is, light}
-use Rattle.restore.specs.Turns.{Holds, Restored, stateOf, turn}
+use Rattle.erasure.specs.Turns.{Holds, Restored, stateOf, turn}
 use Rattle.restore.proofs.BlockLaws.{packets-set, bytes-set}
 
 -- the number of the lowest check with exactly one lost place; the number of checks if there is none
@@ -126,10 +127,6 @@ module _ (n s : ℕ) (cs : List (List ℕ)) (b₀ l₀ b l : List ℕ) (adds : �
   }
 
 -- ---- the ready check as the code has it
-pub filter-less : (f : ℕ → Bool) (c : List ℕ) → length (filter f c) ≤ length c
-filter-less f [] = omega arith
-filter-less f (x ∷ c) = let h = filter-less f c in byBool (f x) (λ e. rw e (omega arith)) (λ e. rw e (omega arith))
-
 module _ (t : List ℕ) (m n s : ℕ) (k : TableOf t m n s) (l : List ℕ) (j : ℕ) (number : j ≡ readyNumber l (checks t)) where
   pub none-next : j ≡ m → ready l (checks t) ≡ none
   none-next e = number-none l (checks t) (sym number ∙ e ∙ sym (check-count t m n s k))

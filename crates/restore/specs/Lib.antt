@@ -1,9 +1,2 @@
-pub mod Largest
-pub mod Linked
-pub mod OutcomeLaws
-pub mod Restoring
-pub mod RestoringLaws
-pub mod Stopping
-pub mod Tally
-pub mod Turns
-pub mod Values
+pub mod Mending
+pub mod Spent

@@ -10,9 +10,11 @@ ghost use Rattle.table.specs.Checks.{check, Places, Starts};
 ghost use Rattle.table.specs.Packets.{packets, joined};
 ghost use Rattle.table.specs.Table.{checks};
 ghost use Rattle.table.specs.TableUse.{TableOf};
-ghost use Rattle.restore.specs.Linked.{Links, Linked, Counted, Spent, Walk, Walked, LowestOne, holders};
-ghost use Rattle.restore.specs.Restoring.{lostPlaces, tally, zeroLost, consistent, restoring, Mends};
-ghost use Rattle.restore.specs.Turns.{Holds, Restored, stateOf, turn};
+ghost use Rattle.chains.specs.Linked.{Linked, Counted};
+ghost use Rattle.erasure.specs.Restoring.{lostPlaces, tally, zeroLost, consistent, restoring};
+ghost use Rattle.restore.specs.Mending.{Mends};
+ghost use Rattle.restore.specs.Spent.{Spent};
+ghost use Rattle.erasure.specs.Turns.{Holds, Restored, stateOf, turn};
 
 // What restoring comes to: whether every check without a lost place sums to zero, and the counts, 0
 // if not.
@@ -37,23 +39,6 @@ fn tally_of(map: &[u8], v: u8) -> u32
             k += 1;
         }
         p += 1;
-    }
-    k
-}
-
-// the number of lost places of a check
-fn lost_in(t: &[u16], at: usize, weight: usize, map: &[u8]) -> usize
-    requires { ⌜ Places (now t) at weight (length (now map)) ⌝ }
-    ensures { λ r. ⌜ r ≡ length (lostPlaces (now (map .entry)) (take weight (drop at (now (t .entry))))) ⌝ }
-{
-    let end = at + weight;
-    let mut k = 0;
-    let mut i = at;
-    while i < end {
-        if map[wide(t[i])] == 1 {
-            k += 1;
-        }
-        i += 1;
     }
     k
 }
@@ -112,7 +97,13 @@ fn agrees(
     count: &[u16],
     used: &[u8],
 ) -> bool
-    requires { ⌜ TableOf (now t) m n s × (length (now block) ≡ n * s) × (length (now map) ≡ n) × Counted (now t) m (now map) (now count) × Spent (now t) m n s (now block) (now map) (now used) ⌝ }
+    requires { ⌜
+        TableOf (now t) m n s
+        × (length (now block) ≡ n * s)
+        × (length (now map) ≡ n)
+        × Counted (now t) m (now map) (now count)
+        × Spent (now t) m n s (now block) (now map) (now used)
+        ⌝ }
     ensures { λ r. ⌜ r ≡ consistent s (checks (now (t .entry))) (stateOf s n (now (block .entry)) (now (map .entry)) 0) ⌝ }
 {
     let mut at = 5 + m;
@@ -130,109 +121,6 @@ fn agrees(
     true
 }
 
-// ---- counts and chains
-
-// the number of lost places of each check
-fn count_all(t: &[u16], m: usize, n: usize, s: usize, starts: &[u16], map: &[u8], count: &mut [u16])
-    requires { ⌜ TableOf (now t) m n s × Starts (now t) m (now starts) × (length (now map) ≡ n) × (m ≤ length (now count)) ⌝ }
-    ensures { λ _. ⌜ Counted (now (t .entry)) m (now (map .entry)) (now (count .exit)) ⌝ }
-{
-    let mut j = 0;
-    while j < m {
-        count[j] = lost_in(t, wide(starts[j]), wide(t[4 + j]), map) as u16;
-        j += 1;
-    }
-}
-
-// check j, the weight places of t from at, goes to the chain of each of its places
-fn link_check(
-    head: &mut [u16],
-    next: &mut [u16],
-    owner: &mut [u16],
-    t: &[u16],
-    at: usize,
-    weight: usize,
-    j: u16,
-)
-    requires { ⌜ Places (now t) at weight (length (now head)) × (at + weight ≤ length (now next)) × (at + weight ≤ length (now owner)) × (length (now next) ≤ 65535) ⌝ }
-    ensures { λ _. ⌜ (length (now (head .exit)) ≡ length (now (head .entry))) × (length (now (next .exit)) ≡ length (now (next .entry))) × (length (now (owner .exit)) ≡ length (now (owner .entry))) × ((L : ℕ → List ℕ) → Links (now (next .entry)) (now (owner .entry)) (now (head .entry)) at L → Links (now (next .exit)) (now (owner .exit)) (now (head .exit)) (at + weight) (λ p. cond (has p (take weight (drop at (now (t .entry))))) (j ∷ L p) (L p))) ⌝ }
-{
-    let end = at + weight;
-    let mut i = at;
-    while i < end {
-        let p = wide(t[i]);
-        next[i] = head[p];
-        owner[i] = j;
-        head[p] = i as u16 + 1;
-        i += 1;
-    }
-}
-
-// every check goes to the chains of its places
-fn link_all(
-    t: &[u16],
-    m: usize,
-    n: usize,
-    s: usize,
-    starts: &[u16],
-    head: &mut [u16],
-    next: &mut [u16],
-    owner: &mut [u16],
-)
-    requires { ⌜ TableOf (now t) m n s × Starts (now t) m (now starts) × (n ≤ length (now head)) × (length (now t) ≤ length (now next)) × (length (now t) ≤ length (now owner)) × (length (now next) ≤ 65535) × ((p : ℕ) → getD (now head) p 0 ≡ 0) ⌝ }
-    ensures { λ _. ⌜ (length (now (head .exit)) ≡ length (now (head .entry))) × (length (now (next .exit)) ≡ length (now (next .entry))) × (length (now (owner .exit)) ≡ length (now (owner .entry))) × Links (now (next .exit)) (now (owner .exit)) (now (head .exit)) (length (now (t .entry))) (λ p. holders (check (now (t .entry)) m) p m) ⌝ }
-{
-    let mut j = 0;
-    while j < m {
-        link_check(
-            head,
-            next,
-            owner,
-            t,
-            wide(starts[j]),
-            wide(t[4 + j]),
-            j as u16,
-        );
-        j += 1;
-    }
-}
-
-// one lost place less in each check of the chain from first on; a bound below which none of these has exactly one
-fn walk(next: &[u16], owner: &[u16], count: &mut [u16], first: usize, bound: usize) -> usize
-    requires { ⌜ Walk (now next) (now owner) (now count) first ⌝ }
-    ensures { λ r. ⌜ Walked (now (next .entry)) (now (owner .entry)) first (now (count .entry)) (now (count .exit)) bound r ⌝ }
-{
-    let mut low = bound;
-    let mut i = first;
-    while 0 < i {
-        let j = wide(owner[i - 1]);
-        let left = count[j] - 1;
-        count[j] = left;
-        if left == 1 {
-            if j < low {
-                low = j;
-            }
-        }
-        i = wide(next[i - 1]);
-    }
-    low
-}
-
-// the lowest check from low on with exactly one lost place, m if there is none
-fn lowest_one(count: &[u16], low: usize, m: usize) -> usize
-    requires { ⌜ (low ≤ m) × (m ≤ length (now count)) ⌝ }
-    ensures { λ r. ⌜ LowestOne (now (count .entry)) low m r ⌝ }
-{
-    let mut j = low;
-    while j < m {
-        if count[j] == 1 {
-            return j;
-        }
-        j += 1;
-    }
-    m
-}
-
 // ---- restoring
 
 // the check at at, of which one place is lost, restores that place and returns it
@@ -245,8 +133,16 @@ fn restore_one(
     block: &mut [u8],
     map: &mut [u8],
 ) -> usize
-    requires { ⌜ Places (now t) at weight n × (length (now block) ≡ n * s) × (length (now map) ≡ n) × (length (lostPlaces (now map) (take weight (drop at (now t)))) ≡ 1) ⌝ }
-    ensures { λ r. ⌜ (r ≡ getD (lostPlaces (now (map .entry)) (take weight (drop at (now (t .entry))))) 0 0) × Holds (turn s (take weight (drop at (now (t .entry)))) (stateOf s n (now (block .entry)) (now (map .entry)) 0)) (now (block .exit)) (now (map .exit)) ⌝ }
+    requires { ⌜
+        Places (now t) at weight n
+        × (length (now block) ≡ n * s)
+        × (length (now map) ≡ n)
+        × (length (lostPlaces (now map) (take weight (drop at (now t)))) ≡ 1)
+        ⌝ }
+    ensures { λ r. ⌜
+        (r ≡ getD (lostPlaces (now (map .entry)) (take weight (drop at (now (t .entry))))) 0 0)
+        × Holds (turn s (take weight (drop at (now (t .entry)))) (stateOf s n (now (block .entry)) (now (map .entry)) 0)) (now (block .exit)) (now (map .exit))
+        ⌝ }
 {
     let p = first_lost(t, at, weight, map);
     table::restore(t, at, weight, block, n, s, p);
@@ -269,19 +165,31 @@ fn restore_all(
     map: &mut [u8],
     used: &mut [u8],
 ) -> usize
-    requires { ⌜ TableOf (now t) m n s × Starts (now t) m (now starts) × Linked (now t) m n (now head) (now next) (now owner) × Counted (now t) m (now map) (now count) × (length (now block) ≡ n * s) × (length (now map) ≡ n) × Spent (now t) m n s (now block) (now map) (now used) ⌝ }
-    ensures { λ r. ⌜ Restored n s (checks (now (t .entry))) (now (block .entry)) (now (map .entry)) (now (block .exit)) (now (map .exit)) r × Counted (now (t .entry)) m (now (map .exit)) (now (count .exit)) × Spent (now (t .entry)) m n s (now (block .exit)) (now (map .exit)) (now (used .exit)) ⌝ }
+    requires { ⌜
+        TableOf (now t) m n s
+        × Starts (now t) m (now starts)
+        × Linked (now t) m n (now head) (now next) (now owner)
+        × Counted (now t) m (now map) (now count)
+        × (length (now block) ≡ n * s)
+        × (length (now map) ≡ n)
+        × Spent (now t) m n s (now block) (now map) (now used)
+        ⌝ }
+    ensures { λ r. ⌜
+        Restored n s (checks (now (t .entry))) (now (block .entry)) (now (map .entry)) (now (block .exit)) (now (map .exit)) r
+        × Counted (now (t .entry)) m (now (map .exit)) (now (count .exit))
+        × Spent (now (t .entry)) m n s (now (block .exit)) (now (map .exit)) (now (used .exit))
+        ⌝ }
 {
     let mut adds = 0;
     let mut low = 0;
     loop {
-        let j = lowest_one(count, low, m);
+        let j = chains::lowest_one(count, low, m);
         if j == m {
             return adds;
         }
         let w = wide(t[4 + j]);
         let p = restore_one(t, wide(starts[j]), w, n, s, block, map);
-        low = walk(next, owner, count, wide(head[p]), j);
+        low = chains::walk(next, owner, count, wide(head[p]), j);
         used[j] = 1;
         adds += w - 1;
     }
@@ -304,15 +212,18 @@ pub fn restore_lost(
     map: &mut [u8],
 ) -> Turned
     requires { ⌜ TableOf (now t) m n s × Starts (now t) m (now starts) × (length (now block) ≡ n * s) × (length (now map) ≡ n) ⌝ }
-    ensures { λ r. ⌜ Restored n s (checks (now (t .entry))) (now (block .entry)) (now (map .entry)) (now (block .exit)) (now (map .exit)) (r .adds) × (r .agrees ≡ consistent s (checks (now (t .entry))) (stateOf s n (now (block .exit)) (now (map .exit)) 0)) ⌝ }
+    ensures { λ r. ⌜
+        Restored n s (checks (now (t .entry))) (now (block .entry)) (now (map .entry)) (now (block .exit)) (now (map .exit)) (r .adds)
+        × (r .agrees ≡ consistent s (checks (now (t .entry))) (stateOf s n (now (block .exit)) (now (map .exit)) 0))
+        ⌝ }
 {
     let mut count = [0u16; 512];
     let mut head = [0u16; 1024];
     let mut next = [0u16; 6661];
     let mut owner = [0u16; 6661];
     let mut used = [0u8; 512];
-    count_all(t, m, n, s, starts, map, &mut count);
-    link_all(t, m, n, s, starts, &mut head, &mut next, &mut owner);
+    chains::count_all(t, m, n, s, starts, map, &mut count);
+    chains::link_all(t, m, n, s, starts, &mut head, &mut next, &mut owner);
     let adds = restore_all(
         t,
         m,

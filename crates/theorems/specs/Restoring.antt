@@ -13,7 +13,7 @@ use Rattle.table.specs.Codewords.{IsCodeword}
 use Rattle.table.specs.PacketCall.{partAt}
 use Rattle.table.specs.Table.{places, size, checks, refusal}
 use Rattle.repair.specs.Repair.{repairRefusal, repairBlock, repairMap}
-use Rattle.restore.specs.Stopping.{isLost, Stopping}
+use Rattle.erasure.specs.Stopping.{isLost, Stopping}
 use Rattle.repair.specs.RepairLaws.{Fitting}
 use Rattle.repair.specs.RepairTheorems.{Agree, Accepted, Repairing, accepted-repair, repairing}
 

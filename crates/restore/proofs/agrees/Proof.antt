@@ -1,8 +1,8 @@
 -- `restore::agrees` meets its contract.
 use Rattle.table.specs.Checks.{offset}
 use Rattle.table.specs.Table.{checks}
-use Rattle.restore.specs.Restoring.{lostPlaces, consistent}
-use Rattle.restore.specs.Turns.{stateOf}
+use Rattle.erasure.specs.Restoring.{lostPlaces, consistent}
+use Rattle.erasure.specs.Turns.{stateOf}
 use Rattle.restore.proofs.Ordering.{at-check}
 use Rattle.restore.proofs.Spending.{agree-passed}
 use Rattle.table.specs.TableUse.{has-weights, check-count, places-at, check-is, check-fits, check-in, offset-none, offset-more}

@@ -1,6 +1,6 @@
 -- `restore::first_lost` meets its contract.
-use Rattle.restore.specs.Restoring.{lostPlaces}
-use Rattle.restore.proofs.MapLaws.{place-below, lost-hit, lost-miss, lost-end}
+use Rattle.erasure.specs.Restoring.{lostPlaces}
+use Rattle.erasure.specs.LostLaws.{place-below, lost-hit, lost-miss, lost-end}
 use Prim.Native.Nat.{_+_, _-_, _≤_}
 use mathlib.Core.Path.{_≡_, sym, ap, _∙_}
 use native.Mathlib.Omega.{arith}

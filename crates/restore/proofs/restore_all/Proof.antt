@@ -1,7 +1,7 @@
 -- `restore::restore_all` meets its contract.
 use Rattle.table.specs.Table.{checks}
-use Rattle.restore.specs.Stopping.{lostIn}
-use Rattle.restore.specs.Linked.{Spent}
+use Rattle.erasure.specs.Stopping.{lostIn}
+use Rattle.restore.specs.Spent.{Spent}
 use Rattle.restore.proofs.Spending.{spent-turn}
 use Rattle.restore.proofs.Ordering.{at-check, Tracked, tracked-start, lowest-ready, walk-ready, tracked-turn}
 use Rattle.table.specs.TableUse.{few-places, has-weights, check-is}

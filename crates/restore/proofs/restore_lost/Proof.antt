@@ -1,7 +1,7 @@
 -- `restore::restore_lost` meets its contract.
 use Rattle.gf2.specs.Lists.{getD-zeros}
 use mathlib.Core.Path.{_∙_}
-use Rattle.restore.proofs.Linking.{linked-of}
+use Rattle.chains.specs.LinkedLaws.{linked-of}
 use Rattle.restore.proofs.Spending.{spent-start}
 use Rattle.table.specs.TableUse.{few-places, few-checks, few-words}
 use Prim.Native.Nat.{_-_}

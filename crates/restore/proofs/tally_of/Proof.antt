@@ -1,5 +1,5 @@
 -- `restore::tally_of` meets its contract.
-use Rattle.restore.specs.Restoring.{tally}
+use Rattle.erasure.specs.Restoring.{tally}
 use Rattle.restore.proofs.MapLaws.{tally-hit, tally-miss, tally-end}
 use Prim.Native.Nat.{_+_, _-_, _≤_}
 use mathlib.Core.Path.{_≡_}

@@ -1,7 +1,7 @@
 -- `restore::zero_lost` meets its contract.
 use Rattle.table.specs.BufferLaws.{place-fits}
 use Rattle.table.specs.Packets.{packets, joined}
-use Rattle.restore.specs.Restoring.{zeroLost}
+use Rattle.erasure.specs.Restoring.{zeroLost}
 use Rattle.restore.proofs.BlockLaws.{zeroFrom, cleared-hit, cleared-miss, cleared-end}
 use Prim.Native.Nat.{_-_, _*_, _≤_}
 use mathlib.Core.Path.{_≡_, refl, sym, ap, _∙_}

@@ -1,0 +1,3 @@
+pub mod Counting
+pub mod Linking
+pub mod Walking

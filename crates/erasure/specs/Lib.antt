@@ -1,0 +1,9 @@
+pub mod Largest
+pub mod LostLaws
+pub mod OutcomeLaws
+pub mod Restoring
+pub mod RestoringLaws
+pub mod Stopping
+pub mod Tally
+pub mod Turns
+pub mod Values

@@ -1,0 +1,97 @@
+-- What restoring comes to: its counts, its shape, and the checks that passed.
+use mathlib.Core.Path.{_≡_, refl, sym, ap, _∙_}
+use mathlib.Core.Bool.{Bool, true, false, cond, false≢true}
+use mathlib.Core.List.{List, [], _∷_}
+use Prim.Native.Nat.{ℕ, zero, suc, _*_, _<_, _≤_}
+use native.Mathlib.Omega.{arith}
+use lib.Dec.{eqb}
+use lib.ListN.{length, getD, replicate, length-replicate}
+use Rattle.gf2.specs.Bit.{eqb-false, eqb-comm}
+use Rattle.gf2.specs.Lists.{sameList, byOpt}
+use Rattle.gf2.specs.Places.{filter}
+use Rattle.gf2.specs.Span.{byBool}
+use Rattle.gf2.specs.Width.{All, All.nil, All.cons}
+use Rattle.table.specs.Codewords.{zero-sound}
+use Rattle.table.specs.PacketCall.{partAt}
+use Rattle.table.specs.PacketLaws.{packets-length, packets-sized, joined-packets, packet-at}
+use Rattle.table.specs.Packets.{Packets, packets, joined, packetSum}
+use Rattle.table.specs.Table.{places, size, checks, refusal}
+use Rattle.table.specs.TableLaws.{accepted}
+use Rattle.erasure.specs.Restoring.{State, lostPlaces, ready, restoring, zeroLost, consistent, tally, outcome, countsIf}
+use Rattle.erasure.specs.RestoringLaws.{ready-lost, restoring-length, restoring-sized}
+use Rattle.erasure.specs.Stopping.{lostIn, no-lost, restore-one}
+use Rattle.erasure.specs.Tally.{restoredIn}
+use Rattle.erasure.specs.Values.{zeroLost-length}
+
+-- counted either way
+pub tally-lost : (l : List ℕ) → tally 1 l ≡ lostIn l
+tally-lost [] = refl
+tally-lost (x ∷ l) = byBool (eqb x 1)
+    (λ e. rw (eqb-comm 1 x, e, filter, lostIn) (ap suc (tally-lost l)))
+    (λ e. rw (eqb-comm 1 x, e, filter, lostIn) (tally-lost l))
+
+pub tally-restored : (l : List ℕ) → tally 2 l ≡ restoredIn l
+tally-restored [] = refl
+tally-restored (x ∷ l) = byBool (eqb x 2)
+    (λ e. rw (eqb-comm 2 x, e, filter, restoredIn) (ap suc (tally-restored l)))
+    (λ e. rw (eqb-comm 2 x, e, filter, restoredIn) (tally-restored l))
+
+-- ---- the shape of zeroLost and of the outcome
+pub zeroLost-sized : (s : ℕ) (lost : List ℕ) {b : List (List ℕ)} → Packets s b → Packets s (zeroLost s lost b)
+zeroLost-sized s [] w = w
+zeroLost-sized s (l ∷ ls) nil = nil
+zeroLost-sized s (l ∷ ls) (cons {x = p} h a) = cons {x = cond (eqb l 1) (replicate s 0) p} (byBool (eqb l 1) (λ e. rw e (length-replicate s 0)) (λ e. rw e h)) (zeroLost-sized s ls a)
+
+module _ (t b map : List ℕ) (ok : refusal t ≡ 0) (fits : length b ≡ places t * size t) where
+  -- the packets that repair starts with
+  pub start-length : length (zeroLost (size t) map (packets (size t) (places t) b)) ≡ places t
+  start-length = zeroLost-length (size t) map (packets (size t) (places t) b) ∙ packets-length (size t) (places t) b
+
+  pub start-sized : Packets (size t) (zeroLost (size t) map (packets (size t) (places t) b))
+  start-sized = zeroLost-sized (size t) map (packets-sized (size t) (places t) b fits)
+
+  -- those that it ends with
+  pub outcome-length : length (outcome t b map .block) ≡ places t
+  outcome-length = restoring-length (places t) (size t) (checks t) _ ∙ start-length
+
+  pub outcome-sized : Packets (size t) (outcome t b map .block)
+  outcome-sized = restoring-sized (places t) (places t) (size t) (checks t) (accepted t ok .low) _ start-length start-sized
+
+-- ---- the counts
+-- no turn makes a place lost
+pub restoring-fewer : (k s : ℕ) (cs : List (List ℕ)) (m : State) → lostIn (restoring k s cs m .lost) ≤ lostIn (m .lost)
+restoring-fewer zero s cs m = omega arith
+restoring-fewer (suc k) s cs m = byOpt (ready (m .lost) cs)
+    (λ c r. rw (r, restoring) (less _ _ _ (restore-one (m .lost) _ (ready-lost (m .lost) cs c r)) (restoring-fewer k s cs _)))
+    (λ r. rw (r, restoring) (omega arith))
+  where
+    less : (a b c : ℕ) → suc b ≡ c → a ≤ b → a ≤ c
+    less a b c e h = omega arith
+
+pub tally-fewer : (t b map : List ℕ) → tally 1 (outcome t b map .lost) ≤ tally 1 map
+tally-fewer t b map = rw (tally-lost (outcome t b map .lost), tally-lost map) (restoring-fewer (places t) (size t) (checks t) _)
+
+-- whether it agrees is told
+pub told : (v : Bool) (map : List ℕ) (m : State) → countsIf v map m .agrees ≡ v
+told true map m = refl
+told false map m = refl
+
+-- ---- the checks that passed
+-- a check without a lost place that passes the test
+pub sums-of : (s : ℕ) (m : State) (cs : List (List ℕ)) → consistent s cs m ≡ true
+    → All (λ c. length (lostPlaces (m .lost) c) ≡ 0 → packetSum s (m .block) c ≡ replicate s 0) cs
+sums-of s m [] h = nil
+sums-of s m (c ∷ cs) h = byBool (eqb (length (lostPlaces (m .lost) c)) 0)
+    (λ e. byBool (sameList (packetSum s (m .block) c) (replicate s 0))
+    (λ z. cons (λ k. zero-sound s (m .block) c z) (sums-of s m cs (rw (e, z) at h)))
+    (λ z. absurd (false≢true (rw (e, z) at h))))
+    (λ e. cons (λ k. absurd (eqb-false (length (lostPlaces (m .lost) c)) 0 e k)) (sums-of s m cs (rw e at h)))
+
+-- no lost place among none
+pub none-lost : (lost c : List ℕ) → lostIn lost ≡ 0 → length (lostPlaces lost c) ≡ 0
+none-lost lost [] h = refl
+none-lost lost (p ∷ c) h = rw (no-lost lost h p) (none-lost lost c h)
+
+-- the packet of a place among packets in a row
+pub part-joined : (s n : ℕ) (ps : List (List ℕ)) → length ps ≡ n → Packets s ps → (p : ℕ) → p < n → partAt s p (joined ps) ≡ getD ps p []
+part-joined s n ps l w p h = sym (packet-at s n (joined ps) p h) ∙ ap (λ q. getD q p []) (ap (λ k. packets s k (joined ps)) (sym l) ∙ joined-packets s w)

@@ -1,0 +1,85 @@
+-- Restoring (document 01, "Repair and the other calls"). A block is its n packets; the lost map has a byte a place: 1 is lost, any
+-- other byte is known; a restored place is marked 2.
+use mathlib.Core.Path.{_≡_}
+use mathlib.Core.Bool.{Bool, true, false, cond, not, _||_}
+use mathlib.Core.List.{List, [], _∷_}
+use mathlib.Core.Option.{Option, none, some}
+use Prim.Native.Nat.{ℕ, zero, suc, _+_, _-_}
+use lib.Dec.{eqb}
+use lib.ListN.{length, getD, set, replicate}
+use Rattle.gf2.specs.Lists.{allPass, sameList}
+use Rattle.gf2.specs.Places.{filter, minus}
+use Rattle.table.specs.Packets.{packets, joined, packetSum}
+use Rattle.table.specs.Table.{places, size, checks}
+
+pub record State : Type 0 where
+  pub block : List (List ℕ)
+  pub lost : List ℕ
+  pub adds : ℕ
+
+-- the lost places of a check
+abbrev pub lostPlaces : List ℕ → List ℕ → List ℕ
+lostPlaces lost c = filter (λ p. eqb (getD lost p 0) 1) c
+
+-- the lowest check with exactly one lost place
+abbrev pub ready : List ℕ → List (List ℕ) → Option (List ℕ)
+ready lost [] = none
+ready lost (c ∷ cs) = elim (eqb (length (lostPlaces lost c)) 1) [ true ↦ some c | false ↦ ready lost cs ]
+
+-- "While some check has exactly one lost place, the lowest such check restores it": its packet is the sum of the check's
+-- others, at weight − 1 additions. The first argument bounds the number of turns.
+abbrev pub restoring : ℕ → ℕ → List (List ℕ) → State → State
+restoring zero s cs m = m
+restoring (suc k) s cs m = elim (ready (m .lost) cs) [
+  | none ↦ m
+  | some c ↦ let p = getD (lostPlaces (m .lost) c) 0 0 in
+      restoring k s cs (record { block = set (m .block) p (packetSum s (m .block) (minus c (p ∷ []))); lost = set (m .lost) p 2; adds = m .adds + (length c - 1) })
+]
+
+-- "Old bytes at lost places never count": zero at every lost place
+abbrev pub zeroLost : ℕ → List ℕ → List (List ℕ) → List (List ℕ)
+zeroLost s [] b = b
+zeroLost s (l ∷ ls) [] = []
+zeroLost s (l ∷ ls) (p ∷ b) = cond (eqb l 1) (replicate s 0) p ∷ zeroLost s ls b
+
+-- each turn restores one of the n places, so n turns are all
+abbrev pub repaired : ℕ → ℕ → List (List ℕ) → List (List ℕ) → List ℕ → State
+repaired n s cs b lost = restoring n s cs (record { block = zeroLost s lost b; lost = lost; adds = 0 })
+
+-- "Afterwards every check without a lost place must sum to zero"
+abbrev pub consistent : ℕ → List (List ℕ) → State → Bool
+consistent s cs m = allPass (λ c. not (eqb (length (lostPlaces (m .lost) c)) 0) || sameList (packetSum s (m .block) c) (replicate s 0)) cs
+
+-- how many map bytes are v
+abbrev pub tally : ℕ → List ℕ → ℕ
+tally v l = length (filter (eqb v) l)
+
+-- ---- the core: table t, block b and map of fitting lengths, whatever their bytes
+-- what restoring comes to
+abbrev pub outcome : List ℕ → List ℕ → List ℕ → State
+outcome t b map = repaired (places t) (size t) (checks t) (packets (size t) (places t) b) map
+
+-- nothing contradicts
+abbrev pub agreeing : List ℕ → List ℕ → List ℕ → Bool
+agreeing t b map = consistent (size t) (checks t) (outcome t b map)
+
+-- what is told: restored is lost before less lost after; counts 0 where received packets contradict
+pub record Counts : Type 0 where
+  pub agrees : Bool
+  pub restored : ℕ
+  pub lost : ℕ
+  pub additions : ℕ
+
+abbrev pub countsIf : Bool → List ℕ → State → Counts
+countsIf true map m = record { agrees = true; restored = tally 1 map - tally 1 (m .lost); lost = tally 1 (m .lost); additions = m .adds }
+countsIf false map m = record { agrees = false; restored = 0; lost = 0; additions = 0 }
+
+-- the block afterwards: the outcome's; on contradiction lost places are zero
+abbrev pub blockIf : Bool → List ℕ → List ℕ → List ℕ → List ℕ
+blockIf true t b map = joined (outcome t b map .block)
+blockIf false t b map = joined (zeroLost (size t) map (packets (size t) (places t) b))
+
+-- the map afterwards: restored places are marked 2; on contradiction as it was
+abbrev pub mapIf : Bool → List ℕ → List ℕ → List ℕ → List ℕ
+mapIf true t b map = outcome t b map .lost
+mapIf false t b map = map

@@ -1,0 +1,46 @@
+-- Repair's counts: what is restored and what stays lost together is what was lost.
+use mathlib.Core.Path.{_≡_, refl, sym, ap, _∙_, subst}
+use mathlib.Core.Bool.{Bool, true, false, true≢false, false≢true}
+use mathlib.Core.List.{List, [], _∷_}
+use mathlib.Core.Option.{Option, none, some}
+use Prim.Native.Nat.{ℕ, zero, suc, _+_, _≤_}
+use native.Mathlib.Omega.{arith}
+use lib.Dec.{eqb}
+use lib.ListN.{length, getD, set}
+use Rattle.gf2.specs.Bit.{eqb-true, eqb-false}
+use Rattle.gf2.specs.Lists.{byOpt}
+use Rattle.erasure.specs.Restoring.{State, lostPlaces, ready, restoring, repaired}
+use Rattle.gf2.specs.Span.{byBool}
+use Rattle.erasure.specs.Stopping.{isLost, lostIn, ready-all, first-lost, restore-one}
+use Rattle.gf2.specs.Width.{All, All.nil, All.cons, all-of}
+
+-- places whose map byte is 2
+abbrev pub restoredIn : List ℕ → ℕ
+restoredIn [] = 0
+restoredIn (x ∷ l) = elim (eqb x 2) [ true ↦ suc (restoredIn l) | false ↦ restoredIn l ]
+
+-- a restored place counts
+restore-two : (l : List ℕ) (p : ℕ) → isLost l p ≡ true → restoredIn (set l p 2) ≡ suc (restoredIn l)
+restore-two [] p h = absurd (false≢true h)
+restore-two (x ∷ l) zero h = let f : eqb x 2 ≡ false = ap (λ y. eqb y 2) (eqb-true x 1 h) in rw (f, restoredIn)
+restore-two (x ∷ l) (suc p) h = let ih = restore-two l p h in byBool (eqb x 2) (λ e. rw (e, restoredIn) (omega arith)) (λ e. rw (e, restoredIn) ih)
+
+-- no turn changes the sum
+restoring-tally : (k s : ℕ) (cs : List (List ℕ)) (m : State) → restoredIn (restoring k s cs m .lost) + lostIn (restoring k s cs m .lost) ≡ restoredIn (m .lost) + lostIn (m .lost)
+restoring-tally zero s cs m = refl
+restoring-tally (suc k) s cs m = byOpt (ready (m .lost) cs)
+    (λ c r. let w = ready-all (m .lost) (all-of {P = λ c. Unit {0}} (λ c. tt) cs) c r in
+    let lost = first-lost (isLost (m .lost)) c (w .1) in
+    let a = restore-one (m .lost) _ lost in let b = restore-two (m .lost) _ lost in
+    rw (r, restoring) (restoring-tally k s cs _ ∙ (omega arith)))
+    (λ r. rw (r, restoring))
+
+-- at the start there is none
+none-restored : {l : List ℕ} → All (λ x. x ≤ 1) l → restoredIn l ≡ 0
+none-restored nil = refl
+none-restored (cons {x = x} h a) = byBool (eqb x 2) (λ e. let q = eqb-true x 2 e in absurd (omega arith)) (λ e. rw (e, restoredIn) (none-restored a))
+
+-- for a map of bytes 0 and 1
+pub restored-and-lost : (n s : ℕ) (cs b : List (List ℕ)) (lost : List ℕ) → All (λ x. x ≤ 1) lost
+    → restoredIn (repaired n s cs b lost .lost) + lostIn (repaired n s cs b lost .lost) ≡ lostIn lost
+restored-and-lost n s cs b lost h = restoring-tally n s cs _ ∙ let z = none-restored h in omega arith

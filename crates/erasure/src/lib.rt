@@ -1,0 +1,1 @@
+// Restoring lost places: definitions and laws alone.
