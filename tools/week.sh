@@ -12,7 +12,10 @@ if [ $# -gt 0 ]; then
 else
     bin=$root/target/bin
     mkdir -p "$root/target"
-    (cd "$root" && rt check planlist encode_file repair_file verify_file >"$root/target/week.log" 2>&1) || {
+    # a line for each crate as it is done; the whole log only where something fails
+    { cd "$root" && rt check planlist encode_file repair_file verify_file 2>&1; echo $? >"$root/target/week.status"; } |
+        tee "$root/target/week.log" | grep '^rt: ' || true
+    [ "$(cat "$root/target/week.status")" = 0 ] || {
         cat "$root/target/week.log"
         exit 1
     }
@@ -29,28 +32,27 @@ said() {
     esac
 }
 
-# A table of 64 places of 64 bytes and 24 checks: each information place, 0 to 39, lies in three checks, and check j has the
-# parity places 40 + j and, as on a staircase, 39 + j. And a correction file of 9,000 bytes.
-python3 - <<'PY'
-import struct
-n, s, m = 64, 64, 24
-checks = [set() for _ in range(m)]
-for p in range(n - m):
-    for j in (p % m, (5 * p + 7) % m, (11 * p + 3) % m):
-        checks[j].add(p)
-for j in range(m):
-    checks[j].add(n - m + j)
-    if j > 0:
-        checks[j].add(n - m + j - 1)
-rows = [sorted(c) for c in checks]
-words = [2, n, s, m] + [len(r) for r in rows] + [sum(map(len, rows))] + sum(rows, [])
-open("table", "wb").write(struct.pack("<%dH" % len(words), *words))
-x, out = 1, bytearray()
-while len(out) < 9000:
-    x = (1103515245 * x + 12345) % 2 ** 31
-    out.append(x >> 16 & 255)
-open("corrections", "wb").write(out)
-PY
+# numbers of a byte each, from standard input, as bytes
+bytes() {
+    printf "$(awk '{ for (i = 1; i <= NF; i++) printf "\\%03o", $i }')"
+}
+
+# A table of 64 places of 64 bytes and 24 checks, 16-bit numbers low byte first: each information place, 0 to 39, lies in three
+# checks, and check j has the parity places 40 + j and, as on a staircase, 39 + j.
+awk 'BEGIN {
+    n = 64; s = 64; m = 24
+    for (p = 0; p < n - m; p++) { on[p % m, p] = 1; on[(5 * p + 7) % m, p] = 1; on[(11 * p + 3) % m, p] = 1 }
+    for (j = 0; j < m; j++) { on[j, n - m + j] = 1; if (j > 0) on[j, n - m + j - 1] = 1 }
+    for (j = 0; j < m; j++) for (p = 0; p < n; p++) if ((j, p) in on) { weight[j]++; place[ones++] = p }
+    k = split("2 " n " " s " " m, word)
+    for (j = 0; j < m; j++) word[++k] = weight[j]
+    word[++k] = ones
+    for (i = 0; i < ones; i++) word[++k] = place[i]
+    for (i = 1; i <= k; i++) print word[i] % 256, int(word[i] / 256)
+}' | bytes >table
+
+# and a correction file of 9,000 bytes
+awk 'BEGIN { x = 1; for (i = 0; i < 9000; i++) { x = (x * 75 + 74) % 65537; print x % 256 } }' | bytes >corrections
 
 "$bin/planlist" <table >plan
 echo "table: $(head -n 1 plan), $(tail -n 1 plan)"
@@ -68,15 +70,8 @@ for part in source.*; do
     said "verify_file $block" codeword "$("$bin/verify_file" table "$block")"
 
     # lost: ten packets in a row, elsewhere in each block; the map marks them
-    python3 - "$block" map $start <<'PY'
-import sys
-name, mark, start = sys.argv[1], sys.argv[2], int(sys.argv[3])
-block, lost = bytearray(open(name, "rb").read()), bytearray(64)
-block[64 * start:64 * start + 640] = bytes(640)
-lost[start:start + 10] = bytes([1] * 10)
-open(name, "wb").write(block)
-open(mark, "wb").write(lost)
-PY
+    dd if=/dev/zero of="$block" bs=$size seek=$start count=10 conv=notrunc 2>/dev/null
+    awk -v start=$start 'BEGIN { for (p = 0; p < 64; p++) print (p >= start && p < start + 10) }' | bytes >map
     said "verify_file $block" 'check * fails' "$("$bin/verify_file" table "$block")"
 
     counts=$("$bin/repair_file" table "$block" map)
