@@ -1,317 +1,249 @@
-//! Benchmarks of the library's calls, as ratios within one run: against the
-//! pure exclusive-or of as many additions on hot packets, and against the same
-//! call in plain Rust. Built with --cfg receiver (repair, verify) or with
-//! --cfg uplink (plan, encode).
+//! Benchmarks of the libraries' calls, as ratios within one run. Built with
+//! --cfg uplink (plan, encode), --cfg receiver (repair, verify) or both.
 //!
-//! Additions: for plan and encode the add steps of the plan. For verify weight
-//! - 1 for each check. For repair those it reports, and weight - 1 for each
-//! check without a lost place that restored none, as these are looked at last.
+//! A round is one call of each kind in turn: the library's, the pure
+//! exclusive-or of as many additions on hot packets, the same additions at
+//! their places in the block, and plain Rust. A ratio is taken within a round;
+//! its median over all rounds is given, and the tenth and ninetieth percentile.
+//! With QUICK=1 there are fewer rounds.
 
-#![allow(unexpected_cfgs, dead_code)]
+#![allow(unexpected_cfgs, dead_code, unused_imports)]
 
+mod calls;
 #[path = "../tests/gen.rs"]
 mod gen;
 #[path = "../tests/model.rs"]
 mod model;
 mod plain;
+mod tuned;
 
+use calls::{Call, Lent};
 use gen::Rng;
+use std::fmt;
 use std::hint::black_box;
 use std::time::{Duration, Instant};
 
-#[cfg(receiver)]
-#[link(name = "receiver", kind = "static")]
-extern "C" {
-    fn bs_repair(
-        table: *const u16,
-        table_len: usize,
-        block: *mut u8,
-        block_len: usize,
-        map: *mut u8,
-        map_len: usize,
-    ) -> model::Repaired;
-    fn bs_verify(
-        table: *const u16,
-        table_len: usize,
-        block: *const u8,
-        block_len: usize,
-    ) -> model::Verified;
+const TABLES: [(&str, usize, usize); 4] = [
+    ("regular", 1024, 512),
+    ("staircase", 1024, 512),
+    ("regular", 256, 128),
+    ("staircase", 256, 128),
+];
+const SIZES: [usize; 7] = [1, 17, 64, 100, 256, 1000, 1024];
+
+// ---------------------------------------------------------------- measuring
+
+/// A ratio over all rounds.
+#[derive(Clone, Copy)]
+struct Ratio {
+    median: f64,
+    low: f64,
+    high: f64,
 }
 
-#[cfg(uplink)]
-#[link(name = "uplink", kind = "static")]
-extern "C" {
-    fn bs_plan(
-        table: *const u16,
-        table_len: usize,
-        plan: *mut u32,
-        plan_len: usize,
-        work: *mut u64,
-        work_len: usize,
-    ) -> model::Planned;
-    fn bs_encode(
-        plan: *const u32,
-        plan_len: usize,
-        information: *const u8,
-        information_len: usize,
-        block: *mut u8,
-        block_len: usize,
-        scratch: *mut u8,
-        scratch_len: usize,
-        limit: usize,
-    ) -> model::Encoded;
+impl Ratio {
+    fn of(values: impl Iterator<Item = f64>) -> Self {
+        let mut values: Vec<f64> = values.collect();
+        values.sort_by(f64::total_cmp);
+        let at = |percent: usize| values[(values.len() - 1) * percent / 100];
+        Ratio { median: at(50), low: at(10), high: at(90) }
+    }
 }
 
-// --------------------------------------------------------------- measuring
+impl fmt::Display for Ratio {
+    fn fmt(&self, f: &mut fmt::Formatter) -> fmt::Result {
+        f.pad(&format!("{:.2} ({:.2} to {:.2})", self.median, self.low, self.high))
+    }
+}
 
-fn median(times: &mut [Duration]) -> f64 {
-    times.sort();
-    times[times.len() / 2].as_secs_f64() * 1e6
+/// Microseconds, and the ratios to the pure exclusive-or on hot packets and
+/// over the real block, and to plain Rust. Plan has only the last.
+struct Figures {
+    time: f64,
+    limits: Option<[Ratio; 2]>,
+    plain: Ratio,
 }
 
 /// So many additions of hot packets of s bytes.
-fn pure_xor(additions: usize, s: usize) -> Duration {
+fn hot_additions(additions: usize, s: usize) -> impl FnMut() {
     let from = black_box(vec![vec![0x5au8; s]; 4]);
     let mut to = black_box(vec![0u8; s]);
+    move || {
+        for i in 0..additions {
+            plain::add(&mut to, &from[i % 4]);
+            black_box(&mut to);
+        }
+    }
+}
+
+/// Puts the bytes out of the caches.
+fn flush(bytes: &[u8]) {
+    use std::arch::x86_64::{_mm_clflush, _mm_mfence};
+    unsafe {
+        for line in bytes.chunks(64).chain(bytes.last().map(std::slice::from_ref)) {
+            _mm_clflush(line.as_ptr());
+        }
+        _mm_mfence();
+    }
+}
+
+/// Rounds for so long, each call with the packets in the caches or without.
+fn measure(call: &mut dyn Call, s: usize, warm: bool, long: Duration) -> Figures {
+    let additions = call.additions();
+    let mut hot = hot_additions(additions, s);
+    let timed = |call: &mut dyn Call, run: &mut dyn FnMut(&mut dyn Call)| {
+        call.reset();
+        if !warm {
+            call.packets().into_iter().for_each(flush);
+        }
+        let start = Instant::now();
+        run(call);
+        start.elapsed().as_secs_f64() * 1e6
+    };
+    let mut rounds: Vec<[f64; 4]> = Vec::new();
     let start = Instant::now();
-    for i in 0..additions {
-        for (a, b) in to.iter_mut().zip(&from[i % 4]) {
-            *a ^= *b;
-        }
-        black_box(&mut to);
+    while rounds.len() < 23 || start.elapsed() < long {
+        rounds.push([
+            timed(call, &mut |call| call.library()),
+            timed(call, &mut |_| hot()),
+            timed(call, &mut |call| call.real()),
+            timed(call, &mut |call| call.plain()),
+        ]);
     }
-    start.elapsed()
-}
-
-/// A row of the listing.
-struct Measured<'a> {
-    call: &'a str,
-    table: &'a str,
-    s: usize,
-    additions: usize,
-}
-
-impl Measured<'_> {
-    /// Rounds of calls, the three kinds in turn; medians over all. `reset`
-    /// comes before each call and isn't measured.
-    fn run<S>(
-        &self,
-        state: &mut S,
-        reset: impl Fn(&mut S),
-        library: impl Fn(&mut S),
-        plain: impl Fn(&mut S),
-    ) {
-        let once = |state: &mut S, call: &dyn Fn(&mut S)| {
-            reset(state);
-            let start = Instant::now();
-            call(state);
-            start.elapsed()
-        };
-        let trial = once(state, &library);
-        let calls = (Duration::from_millis(5).as_nanos() / trial.as_nanos().max(1)).clamp(3, 40);
-        let (mut by_library, mut by_plain, mut by_xor) = (Vec::new(), Vec::new(), Vec::new());
-        for _ in 0..7 {
-            for _ in 0..calls {
-                by_library.push(once(state, &library));
-            }
-            for _ in 0..calls {
-                by_plain.push(once(state, &plain));
-            }
-            for _ in 0..calls {
-                by_xor.push(pure_xor(self.additions, self.s));
-            }
-        }
-        let library = median(&mut by_library);
-        let plain = median(&mut by_plain);
-        let xor = median(&mut by_xor);
-        println!(
-            "{:<22} {:<12} {:>5} {:>6} {:>10.1} {:>10.1} {:>10.1} {:>9.2} {:>9.2}",
-            self.table,
-            self.call,
-            self.s,
-            self.additions,
-            library,
-            xor,
-            plain,
-            library / xor,
-            library / plain
-        );
+    // The first two find code and branches cold.
+    let rounds = &rounds[2..];
+    let to = |kind: usize| Ratio::of(rounds.iter().map(|times| times[0] / times[kind]));
+    Figures {
+        time: Ratio::of(rounds.iter().map(|times| times[0])).median,
+        limits: (additions > 0).then(|| [to(1), to(2)]),
+        plain: to(3),
     }
 }
 
-// ------------------------------------------------------------------- tables
+// --------------------------------------------------- tables and their calls
 
 /// The first table of a kind, by seed, that the planner takes.
 fn table(kind: &str, n: usize, m: usize, s: usize) -> Vec<u16> {
-    let mut plan = vec![0u32; model::PLAN_BUFFER];
-    let mut work = vec![0u64; model::WORK_BUFFER];
-    for seed in 1.. {
+    let mut plan = vec![0; model::PLAN_BUFFER];
+    let mut work = vec![0; model::WORK_BUFFER];
+    let of_seed = |seed| {
         let mut rng = Rng::new(seed, 0);
         let checks = match kind {
             "regular" => gen::regular(&mut rng, n, m, 3),
             _ => gen::staircase(&mut rng, n, m, 3),
         };
-        let words = model::table_words(n, s, &checks);
-        if plain::plan(&words, &mut plan, &mut work).refusal == 0 {
-            return words;
+        model::table_words(n, s, &checks)
+    };
+    let mut tables = (1..).map(of_seed);
+    tables.find(|t| tuned::plan(t, &mut plan, &mut work).refusal == 0).unwrap()
+}
+
+/// Plans don't depend on the size but for one word: plan is timed once.
+fn calls_of(table: &[u16]) -> Vec<(&'static str, Box<dyn Call>)> {
+    let mut calls: Vec<(&'static str, Box<dyn Call>)> = Vec::new();
+    #[cfg(uplink)]
+    {
+        let plan = calls::Plan::new(Lent::new(table));
+        if table[2] == 64 {
+            calls.push(("plan", Box::new(plan)));
         }
+        calls.push(("encode", Box::new(calls::Encode::new(Lent::new(table)))));
     }
-    unreachable!()
-}
-
-/// The plan, random information and the block.
-fn encoded(table: &[u16]) -> (Vec<u32>, Vec<u8>, Vec<u8>, Vec<u8>, usize) {
-    let mut plan = vec![0u32; model::PLAN_BUFFER];
-    let mut work = vec![0u64; model::WORK_BUFFER];
-    let planned = plain::plan(table, &mut plan, &mut work);
-    plan.truncate(planned.length as usize);
-    let (n, s) = (table[1] as usize, table[2] as usize);
-    let information = Rng::new(1, 1).bytes((n - planned.kept as usize) * s);
-    let mut block = vec![0; n * s];
-    let mut scratch = vec![0; planned.gap as usize * s];
-    plain::encode(&plan, &information, &mut block, &mut scratch, usize::MAX);
-    assert_eq!(plain::verify(table, &block).codeword, 1);
-    (plan, information, block, scratch, planned.additions as usize)
-}
-
-// -------------------------------------------------------------------- calls
-
-#[cfg(uplink)]
-fn calls(name: &str, table: &[u16]) {
-    let s = table[2] as usize;
-    let (plan, information, block, scratch, additions) = encoded(table);
-    let measured = |call| Measured { call, table: name, s, additions };
-
-    let mut buffers = (vec![0u32; model::PLAN_BUFFER], vec![0u64; model::WORK_BUFFER]);
-    measured("plan").run(
-        &mut buffers,
-        |_| {},
-        |(plan, work)| {
-            let answer = unsafe {
-                bs_plan(
-                    table.as_ptr(),
-                    table.len(),
-                    plan.as_mut_ptr(),
-                    plan.len(),
-                    work.as_mut_ptr(),
-                    work.len(),
-                )
-            };
-            assert_eq!((answer.refusal, answer.additions as usize), (0, additions));
-        },
-        |(plan, work)| {
-            let answer = plain::plan(black_box(table), plan, work);
-            assert_eq!((answer.refusal, answer.additions as usize), (0, additions));
-        },
-    );
-
-    let mut buffers = (block.clone(), scratch);
-    measured("encode").run(
-        &mut buffers,
-        |_| {},
-        |(block, scratch)| {
-            let answer = unsafe {
-                bs_encode(
-                    plan.as_ptr(),
-                    plan.len(),
-                    information.as_ptr(),
-                    information.len(),
-                    block.as_mut_ptr(),
-                    block.len(),
-                    scratch.as_mut_ptr(),
-                    scratch.len(),
-                    usize::MAX,
-                )
-            };
-            assert_eq!((answer.refusal, answer.additions as usize), (0, additions));
-        },
-        |(block, scratch)| {
-            let answer = plain::encode(black_box(&plan), &information, block, scratch, usize::MAX);
-            assert_eq!((answer.refusal, answer.additions as usize), (0, additions));
-        },
-    );
-    assert!(buffers.0 == block, "another block");
-}
-
-#[cfg(receiver)]
-fn calls(name: &str, table: &[u16]) {
-    let (n, s) = (table[1] as usize, table[2] as usize);
-    let t = model::look_over(table).unwrap();
-    let (_, _, block, _, _) = encoded(table);
-    let at_a_check = |c: &Vec<usize>| c.len().saturating_sub(1);
-
-    for (call, share) in [("repair 10 %", 10), ("repair 20 %", 20), ("repair 30 %", 30)] {
-        let mut rng = Rng::new(share as u64, 2);
-        let mut map = vec![0u8; n];
-        for p in rng.some_below(n, n * share / 100) {
-            map[p] = 1;
+    #[cfg(receiver)]
+    {
+        for (name, share) in [("repair 10 %", 10), ("repair 20 %", 20), ("repair 30 %", 30)] {
+            calls.push((name, Box::new(calls::Repair::new(Lent::new(table), share))));
         }
-        let mut received = block.clone();
-        for p in (0..n).filter(|p| map[*p] == 1) {
-            received[p * s..(p + 1) * s].fill(0);
-        }
-        let (mut after, mut map_after) = (received.clone(), map.clone());
-        let expected = plain::repair(table, &mut after, &mut map_after);
-        // Checks that restored a place have no lost place left.
-        let additions: usize = t
-            .checks
-            .iter()
-            .filter(|c| c.iter().all(|p| map_after[*p] != 1))
-            .map(at_a_check)
-            .sum();
-        assert!(additions >= expected.additions as usize);
+        calls.push(("verify", Box::new(calls::Verify::new(Lent::new(table)))));
+    }
+    calls
+}
 
-        let mut buffers = (received.clone(), map.clone());
-        let reset = |(block, now): &mut (Vec<u8>, Vec<u8>)| {
-            now.copy_from_slice(&map);
-            block.copy_from_slice(&received);
+// -------------------------------------------------------------------- marks
+
+/// The most that the ratios may be where n is 1,024, m is 512 and the block is
+/// warm: to the pure exclusive-or at s 64 and at s 1,024, and to plain Rust.
+fn marks_of(call: &str, kind: &str) -> Option<([f64; 2], f64)> {
+    match (call, kind) {
+        ("plan", _) => Some(([0.0, 0.0], 1.3)),
+        ("encode", "regular") => Some(([1.75, 1.35], 0.75)),
+        ("encode", _) => Some(([2.1, 1.6], 0.85)),
+        ("repair 20 %", _) => Some(([2.9, 1.6], 0.8)),
+        ("verify", _) => Some(([1.15, 1.15], 0.75)),
+        _ => None,
+    }
+}
+
+/// A line for each mark of a call at s 64 or 1,024.
+fn mark_lines(call: &str, kind: &str, s: usize, figures: &Figures) -> Vec<String> {
+    let Some((limits, plain)) = marks_of(call, kind) else { return Vec::new() };
+    let line = |to: &str, mark: f64, ratio: Ratio| {
+        let verdict = if ratio.median <= mark { "holds" } else { "missed" };
+        format!("{call:<12} {kind:<10} {s:>5}  {to:<14} {mark:>5.2}  {ratio:<22} {verdict}")
+    };
+    let limit = if s == 64 { limits[0] } else { limits[1] };
+    let by_limit = figures.limits.map(|[hot, _]| line("pure xor", limit, hot));
+    let to = if call == "plan" { "tuned planner" } else { "plain Rust" };
+    by_limit.into_iter().chain([line(to, plain, figures.plain)]).collect()
+}
+
+// ------------------------------------------------------------------ the run
+
+/// What is printed at the end.
+struct Report {
+    figures: Vec<String>,
+    marks: Vec<String>,
+}
+
+impl Report {
+    fn row(&mut self, table: &str, call: &str, block: &str, s: usize, of: &Figures) {
+        let [hot, real] = match of.limits {
+            Some(limits) => limits.map(|ratio| ratio.to_string()),
+            None => ["-", "-"].map(String::from),
         };
-        Measured { call, table: name, s, additions }.run(
-            &mut buffers,
-            reset,
-            |(block, map)| {
-                let answer = unsafe {
-                    bs_repair(
-                        table.as_ptr(),
-                        table.len(),
-                        block.as_mut_ptr(),
-                        block.len(),
-                        map.as_mut_ptr(),
-                        map.len(),
-                    )
-                };
-                assert_eq!((answer.refusal, answer.additions), (0, expected.additions));
-            },
-            |(block, map)| {
-                let answer = plain::repair(black_box(table), block, map);
-                assert_eq!((answer.refusal, answer.additions), (0, expected.additions));
-            },
-        );
+        self.figures.push(format!(
+            "{table:<18} {call:<12} {block:<5} {s:>5} {:>8.1}  {hot:<22} {real:<22} {}",
+            of.time, of.plain
+        ));
     }
-
-    let additions = t.checks.iter().map(at_a_check).sum();
-    Measured { call: "verify", table: name, s, additions }.run(
-        &mut (),
-        |_| {},
-        |_| {
-            let answer =
-                unsafe { bs_verify(table.as_ptr(), table.len(), block.as_ptr(), block.len()) };
-            assert_eq!(answer.codeword, 1);
-        },
-        |_| assert_eq!(plain::verify(black_box(table), &block).codeword, 1),
-    );
+    fn print(&self) {
+        println!(
+            "\n{:<18} {:<12} {:<5} {:>5} {:>8}  {:<22} {:<22} {}",
+            "table", "call", "block", "s", "us", "to pure xor", "to xor in block", "to plain Rust"
+        );
+        self.figures.iter().for_each(|line| println!("{line}"));
+        println!(
+            "\n{:<12} {:<10} {:>5}  {:<14} {:>5}  {:<22} {}",
+            "call", "table", "s", "ratio to", "mark", "this run", "verdict"
+        );
+        self.marks.iter().for_each(|line| println!("{line}"));
+    }
 }
 
 fn main() {
-    println!(
-        "{:<22} {:<12} {:>5} {:>6} {:>10} {:>10} {:>10} {:>9} {:>9}",
-        "table", "call", "s", "adds", "library us", "xor us", "plain us", "lib/xor", "lib/plain"
-    );
-    for (n, m) in [(1024, 512), (256, 128)] {
-        for kind in ["regular", "staircase"] {
-            for s in [64, 256, 1024] {
-                calls(&format!("{kind} {n} {m}"), &table(kind, n, m, s));
+    let quick = std::env::var("QUICK").is_ok_and(|quick| quick == "1");
+    let millis = |long: u64| Duration::from_millis(if quick { long / 10 } else { long });
+    let mut report = Report { figures: Vec::new(), marks: Vec::new() };
+    let start = Instant::now();
+    for (kind, n, m) in TABLES {
+        let name = format!("{kind} {n} {m}");
+        eprintln!("{:4} s: {name}", start.elapsed().as_secs());
+        let large = n == 1024;
+        for s in SIZES {
+            let marked = large && [64, 1024].contains(&s);
+            for (call, mut with) in calls_of(&table(kind, n, m, s)) {
+                let warm = measure(&mut *with, s, true, millis(if marked { 2000 } else { 300 }));
+                report.row(&name, call, "warm", s, &warm);
+                if marked {
+                    report.marks.extend(mark_lines(call, kind, s, &warm));
+                }
+                if large && call != "plan" {
+                    let cold = measure(&mut *with, s, false, millis(300));
+                    report.row(&name, call, "cold", s, &cold);
+                }
             }
         }
     }
+    eprintln!("{:4} s: done", start.elapsed().as_secs());
+    report.print();
 }

@@ -1,21 +1,26 @@
 #!/bin/sh
 # Builds and runs the benchmarks: bench/run.sh [DIR]
 # DIR, or LIBDIR, holds libreceiver.a and libuplink.a (default: the current
-# directory); each of the two that is there is measured. Times are medians in
-# microseconds; the ratios are what to go by.
+# directory); each of the two that is there is measured. QUICK=1: fewer rounds.
+# A line for each table as its turn comes, then all figures, then the marks.
+# The ratios are what to go by; times are medians in microseconds.
 set -eu
 here=$(cd "$(dirname "$0")" && pwd)
 dir=${1:-${LIBDIR:-.}}
 build=$(mktemp -d)
 trap 'rm -rf "$build"' EXIT
-found=0
+parts=
 for part in uplink receiver; do
-    [ -f "$dir/lib$part.a" ] || continue
-    found=1
-    rustc --edition 2021 -C opt-level=3 --cfg "$part" -L "$dir" "$here/bench.rs" -o "$build/$part"
-    "$build/$part"
+    if [ -f "$dir/lib$part.a" ]; then
+        parts="$parts --cfg $part"
+    else
+        echo "no lib$part.a in $dir" >&2
+    fi
 done
-if [ "$found" -eq 0 ]; then
-    echo "no library in $dir" >&2
+if [ -z "$parts" ]; then
+    echo "nothing to measure" >&2
     exit 2
 fi
+# $parts is words.
+rustc --edition 2021 -C opt-level=3 -C codegen-units=1 $parts -L "$dir" "$here/bench.rs" -o "$build/bench"
+"$build/bench"

@@ -1,0 +1,389 @@
+//! What a round calls: for each call the library's, the same additions at their
+//! places in the block, and plain Rust, on the same buffers.
+//!
+//! Additions: for encode the add steps of the plan; for verify weight - 1 for
+//! each check; for repair those it reports, and weight - 1 for each check
+//! without a lost place that restored none, as these are looked at last.
+
+#[cfg(uplink)]
+pub use uplink::{Encode, Plan};
+
+#[cfg(receiver)]
+pub use receiver::{Repair, Verify};
+
+use crate::gen::Rng;
+use crate::model;
+use crate::plain::{self, add, add_slots};
+use crate::tuned;
+use std::hint::black_box;
+
+pub trait Call {
+    /// What the limits add; 0 if there are none.
+    fn additions(&self) -> usize;
+    /// Before each of the three; not measured.
+    fn reset(&mut self) {}
+    fn library(&mut self);
+    fn real(&mut self);
+    fn plain(&mut self);
+    /// The buffers of packets.
+    fn packets(&self) -> Vec<&[u8]>;
+}
+
+/// What is lent for a table: its plan, random information, and a codeword with
+/// the scratch behind it.
+pub struct Lent {
+    table: Vec<u16>,
+    checks: Vec<Vec<usize>>,
+    s: usize,
+    plan: Vec<u32>,
+    planned: model::Planned,
+    information: Vec<u8>,
+    slots: Vec<u8>,
+}
+
+impl Lent {
+    pub fn new(table: &[u16]) -> Self {
+        let table = table.to_vec();
+        let mut plan = vec![0; model::PLAN_BUFFER];
+        let planned = tuned::plan(&table, &mut plan, &mut vec![0; model::WORK_BUFFER]);
+        plan.truncate(planned.length as usize);
+        let model::Table { n, s, checks } = model::look_over(&table).unwrap();
+        let information = Rng::new(1, 1).bytes((n - planned.kept as usize) * s);
+        let mut slots = vec![0; (n + planned.gap as usize) * s];
+        let (block, scratch) = slots.split_at_mut(n * s);
+        plain::encode(&plan, &information, block, scratch, usize::MAX);
+        assert_eq!(plain::verify(&table, block).codeword, 1);
+        Lent { table, checks, s, plan, planned, information, slots }
+    }
+    /// Bytes of the block.
+    fn bytes(&self) -> usize {
+        self.table[1] as usize * self.s
+    }
+}
+
+/// The sum over a check by weight - 1 additions.
+fn sum_of_check(check: &[usize], block: &[u8], sum: &mut [u8]) {
+    let s = sum.len();
+    let packet = |p: usize| &block[p * s..][..s];
+    let [a, b, others @ ..] = check else { return };
+    for ((sum, a), b) in sum.iter_mut().zip(packet(*a)).zip(packet(*b)) {
+        *sum = *a ^ *b;
+    }
+    for p in others {
+        add(sum, packet(*p));
+    }
+    black_box(sum);
+}
+
+/// The additions of the sums over some checks.
+fn additions_of<'a>(checks: impl IntoIterator<Item = &'a Vec<usize>>) -> usize {
+    checks.into_iter().map(|check| check.len().saturating_sub(1)).sum()
+}
+
+// ------------------------------------------------------------------- uplink
+
+#[cfg(uplink)]
+mod uplink {
+    use super::*;
+
+    #[link(name = "uplink", kind = "static")]
+    extern "C" {
+        fn bs_plan(
+            table: *const u16,
+            table_len: usize,
+            plan: *mut u32,
+            plan_len: usize,
+            work: *mut u64,
+            work_len: usize,
+        ) -> model::Planned;
+        fn bs_encode(
+            plan: *const u32,
+            plan_len: usize,
+            information: *const u8,
+            information_len: usize,
+            block: *mut u8,
+            block_len: usize,
+            scratch: *mut u8,
+            scratch_len: usize,
+            limit: usize,
+        ) -> model::Encoded;
+    }
+
+    /// Plain Rust is the tuned planner here.
+    pub struct Plan {
+        lent: Lent,
+        plan: Vec<u32>,
+        work: Vec<u64>,
+    }
+
+    impl Plan {
+        /// Both planners give the same plan, and clear the work.
+        pub fn new(lent: Lent) -> Self {
+            let plan = vec![7; model::PLAN_BUFFER];
+            let mut call = Plan { lent, plan, work: Vec::new() };
+            for by in [Self::library, Self::plain] {
+                call.plan.fill(7);
+                call.work = vec![7; model::WORK_BUFFER];
+                by(&mut call);
+                let (plan, rest) = call.plan.split_at(call.lent.plan.len());
+                assert!(plan == call.lent.plan && rest.iter().all(|w| *w == 7), "another plan");
+                assert!(call.work.iter().all(|w| *w == 0), "work isn't zero");
+            }
+            call
+        }
+    }
+
+    impl Call for Plan {
+        fn additions(&self) -> usize {
+            0
+        }
+        fn library(&mut self) {
+            let Plan { lent, plan, work } = self;
+            let answer = unsafe {
+                bs_plan(
+                    lent.table.as_ptr(),
+                    lent.table.len(),
+                    plan.as_mut_ptr(),
+                    plan.len(),
+                    work.as_mut_ptr(),
+                    work.len(),
+                )
+            };
+            assert_eq!(answer, lent.planned);
+        }
+        fn real(&mut self) {}
+        fn plain(&mut self) {
+            let answer = tuned::plan(black_box(&self.lent.table), &mut self.plan, &mut self.work);
+            assert_eq!(answer, self.lent.planned);
+        }
+        fn packets(&self) -> Vec<&[u8]> {
+            Vec::new()
+        }
+    }
+
+    pub struct Encode {
+        lent: Lent,
+        /// To and from of each add step.
+        adds: Vec<(usize, usize)>,
+    }
+
+    impl Encode {
+        /// The library gives the same block.
+        pub fn new(lent: Lent) -> Self {
+            let steps = &lent.plan[7 + lent.plan[5] as usize..];
+            let adds = steps.iter().map(|word| plain::step(*word));
+            let adds = adds.filter(|(kind, ..)| *kind == 1).map(|(_, to, from)| (to, from));
+            let mut call = Encode { adds: adds.collect(), lent };
+            let bytes = call.lent.bytes();
+            let block = call.lent.slots[..bytes].to_vec();
+            call.lent.slots.fill(7);
+            call.library();
+            assert!(call.lent.slots[..bytes] == block, "another block");
+            call
+        }
+    }
+
+    impl Call for Encode {
+        fn additions(&self) -> usize {
+            self.adds.len()
+        }
+        fn library(&mut self) {
+            let bytes = self.lent.bytes();
+            let Lent { plan, planned, information, slots, .. } = &mut self.lent;
+            let (block, scratch) = slots.split_at_mut(bytes);
+            let answer = unsafe {
+                bs_encode(
+                    plan.as_ptr(),
+                    plan.len(),
+                    information.as_ptr(),
+                    information.len(),
+                    block.as_mut_ptr(),
+                    block.len(),
+                    scratch.as_mut_ptr(),
+                    scratch.len(),
+                    usize::MAX,
+                )
+            };
+            assert_eq!((answer.refusal, answer.additions), (0, planned.additions));
+        }
+        fn real(&mut self) {
+            for (to, from) in black_box(&self.adds) {
+                add_slots(&mut self.lent.slots, self.lent.s, *to, *from);
+            }
+        }
+        fn plain(&mut self) {
+            let bytes = self.lent.bytes();
+            let Lent { plan, planned, information, slots, .. } = &mut self.lent;
+            let (block, scratch) = slots.split_at_mut(bytes);
+            let answer = plain::encode(black_box(plan), information, block, scratch, usize::MAX);
+            assert_eq!((answer.refusal, answer.additions), (0, planned.additions));
+        }
+        fn packets(&self) -> Vec<&[u8]> {
+            vec![&self.lent.slots, &self.lent.information]
+        }
+    }
+}
+
+// ----------------------------------------------------------------- receiver
+
+#[cfg(receiver)]
+mod receiver {
+    use super::*;
+
+    #[link(name = "receiver", kind = "static")]
+    extern "C" {
+        fn bs_repair(
+            table: *const u16,
+            table_len: usize,
+            block: *mut u8,
+            block_len: usize,
+            map: *mut u8,
+            map_len: usize,
+        ) -> model::Repaired;
+        fn bs_verify(
+            table: *const u16,
+            table_len: usize,
+            block: *const u8,
+            block_len: usize,
+        ) -> model::Verified;
+    }
+
+    pub struct Verify(Lent);
+
+    impl Verify {
+        pub fn new(lent: Lent) -> Self {
+            Verify(lent)
+        }
+        fn block(&self) -> &[u8] {
+            &self.0.slots[..self.0.bytes()]
+        }
+    }
+
+    impl Call for Verify {
+        fn additions(&self) -> usize {
+            additions_of(&self.0.checks)
+        }
+        fn library(&mut self) {
+            let (table, block) = (&self.0.table, self.block());
+            let answer =
+                unsafe { bs_verify(table.as_ptr(), table.len(), block.as_ptr(), block.len()) };
+            assert_eq!(answer.codeword, 1);
+        }
+        fn real(&mut self) {
+            let mut sum = [0; model::MAX_SIZE];
+            for check in &self.0.checks {
+                sum_of_check(check, self.block(), &mut sum[..self.0.s]);
+            }
+        }
+        fn plain(&mut self) {
+            assert_eq!(plain::verify(black_box(&self.0.table), self.block()).codeword, 1);
+        }
+        fn packets(&self) -> Vec<&[u8]> {
+            vec![self.block()]
+        }
+    }
+
+    pub struct Repair {
+        lent: Lent,
+        received: Vec<u8>,
+        map: Vec<u8>,
+        answer: model::Repaired,
+        /// Each check used, and the place that it restores, in order.
+        turns: Vec<(Vec<usize>, usize)>,
+        /// The checks that are looked at last.
+        last: Vec<Vec<usize>>,
+    }
+
+    impl Repair {
+        /// So many of a hundred places are lost; the library restores what
+        /// plain Rust restores. Old bytes at lost places don't count, so that
+        /// the block can be used again.
+        pub fn new(mut lent: Lent, share: usize) -> Self {
+            let n = lent.table[1] as usize;
+            let mut received = vec![0; n];
+            for p in Rng::new(share as u64, 2).some_below(n, n * share / 100) {
+                received[p] = 1;
+            }
+            let bytes = lent.bytes();
+            let mut map = received.clone();
+            let answer = plain::repair(&lent.table, &mut lent.slots[..bytes], &mut map);
+            let (turns, last) = course(&lent.checks, received.clone());
+            let (after, block) = (map.clone(), lent.slots[..bytes].to_vec());
+            assert_eq!(turns.len(), answer.restored as usize);
+
+            let mut call = Repair { lent, received, map, answer, turns, last };
+            call.reset();
+            call.library();
+            assert!(call.map == after && call.lent.slots[..bytes] == block, "another block");
+            call
+        }
+    }
+
+    /// The course of a repair: each check used with the place that it restores,
+    /// and the checks without a lost place that restored none.
+    fn course(
+        checks: &[Vec<usize>],
+        mut lost: Vec<u8>,
+    ) -> (Vec<(Vec<usize>, usize)>, Vec<Vec<usize>>) {
+        let lost_in = |lost: &[u8], check: &[usize]| -> Vec<usize> {
+            check.iter().copied().filter(|p| lost[*p] == 1).collect()
+        };
+        let mut turns = Vec::new();
+        let mut used = vec![false; checks.len()];
+        while let Some(c) = (0..checks.len()).find(|c| lost_in(&lost, &checks[*c]).len() == 1) {
+            let place = lost_in(&lost, &checks[c])[0];
+            lost[place] = 0;
+            used[c] = true;
+            turns.push((checks[c].clone(), place));
+        }
+        let last = |(check, used): &(&Vec<usize>, bool)| !used && lost_in(&lost, check).is_empty();
+        let last = checks.iter().zip(used).filter(last);
+        (turns, last.map(|(check, _)| check.clone()).collect())
+    }
+
+    impl Call for Repair {
+        fn additions(&self) -> usize {
+            self.answer.additions as usize + additions_of(&self.last)
+        }
+        fn reset(&mut self) {
+            self.map.copy_from_slice(&self.received);
+        }
+        fn library(&mut self) {
+            let bytes = self.lent.bytes();
+            let Lent { table, slots, .. } = &mut self.lent;
+            let block = &mut slots[..bytes];
+            let answer = unsafe {
+                bs_repair(
+                    table.as_ptr(),
+                    table.len(),
+                    block.as_mut_ptr(),
+                    block.len(),
+                    self.map.as_mut_ptr(),
+                    self.map.len(),
+                )
+            };
+            assert_eq!(answer, self.answer);
+        }
+        fn real(&mut self) {
+            let Lent { slots, s, .. } = &mut self.lent;
+            for (check, place) in &self.turns {
+                for p in check.iter().filter(|p| *p != place) {
+                    add_slots(slots, *s, *place, *p);
+                }
+            }
+            let mut sum = [0; model::MAX_SIZE];
+            for check in &self.last {
+                sum_of_check(check, slots, &mut sum[..*s]);
+            }
+        }
+        fn plain(&mut self) {
+            let bytes = self.lent.bytes();
+            let Lent { table, slots, .. } = &mut self.lent;
+            let answer = plain::repair(black_box(table), &mut slots[..bytes], &mut self.map);
+            assert_eq!(answer, self.answer);
+        }
+        fn packets(&self) -> Vec<&[u8]> {
+            vec![&self.lent.slots[..self.lent.bytes()]]
+        }
+    }
+}
