@@ -64,16 +64,22 @@ struct Figures {
     plain: Ratio,
 }
 
-/// So many additions of hot packets of s bytes.
-fn hot_additions(additions: usize, s: usize) -> impl FnMut() {
+fn micros(since: Instant) -> f64 {
+    since.elapsed().as_secs_f64() * 1e6
+}
+
+/// The time of so many additions of hot packets of s bytes. A function of its
+/// own, so that its code is the same whatever stands around it.
+#[inline(never)]
+fn hot_additions(additions: usize, s: usize) -> f64 {
     let from = black_box(vec![vec![0x5au8; s]; 4]);
     let mut to = black_box(vec![0u8; s]);
-    move || {
-        for i in 0..additions {
-            plain::add(&mut to, &from[i % 4]);
-            black_box(&mut to);
-        }
+    let start = Instant::now();
+    for i in 0..additions {
+        plain::add(&mut to, &from[i % 4]);
+        black_box(&mut to);
     }
+    micros(start)
 }
 
 /// Puts the bytes out of the caches.
@@ -90,24 +96,23 @@ fn flush(bytes: &[u8]) {
 /// Rounds for so long, each call with the packets in the caches or without.
 fn measure(call: &mut dyn Call, s: usize, warm: bool, long: Duration) -> Figures {
     let additions = call.additions();
-    let mut hot = hot_additions(additions, s);
-    let timed = |call: &mut dyn Call, run: &mut dyn FnMut(&mut dyn Call)| {
+    let timed = |call: &mut dyn Call, run: fn(&mut dyn Call)| {
         call.reset();
         if !warm {
             call.packets().into_iter().for_each(flush);
         }
         let start = Instant::now();
         run(call);
-        start.elapsed().as_secs_f64() * 1e6
+        micros(start)
     };
     let mut rounds: Vec<[f64; 4]> = Vec::new();
     let start = Instant::now();
     while rounds.len() < 23 || start.elapsed() < long {
         rounds.push([
-            timed(call, &mut |call| call.library()),
-            timed(call, &mut |_| hot()),
-            timed(call, &mut |call| call.real()),
-            timed(call, &mut |call| call.plain()),
+            timed(call, |call| call.library()),
+            hot_additions(additions, s),
+            timed(call, |call| call.real()),
+            timed(call, |call| call.plain()),
         ]);
     }
     // The first two find code and branches cold.
