@@ -1,11 +1,11 @@
 -- Laws of the look at a table: each loop goes on with the rest, and the rest decides.
 use mathlib.Core.Path.{_≡_, sym, ap, ap₂, _∙_}
-use mathlib.Core.Bool.{Bool, true, false, cond, not, _||_}
+use mathlib.Core.Bool.{Bool, true, false, cond, not, _||_, _&&_}
 use mathlib.Core.List.{List, [], _∷_}
 use Prim.Native.Nat.{ℕ, suc, _+_, _-_, _<_, _≤_}
 use native.Mathlib.Numerals.{add-one}
 use native.Mathlib.Omega.{arith}
-use borrow.Author.Tests.{lt-ltb, le-ltb, le-leb, lt-leb, eq-eqb, ne-eqb, eqb-true, ltb-false, not-false}
+use borrow.Author.Tests.{lt-ltb, le-ltb, le-leb, lt-leb, eq-eqb, ne-eqb, eqb-true, ltb-false, not-false, ltb-true}
 use lib.Dec.{eqb, ltb, leb}
 use lib.ListN.{length, getD, take, drop}
 use lib.Seq.{drop-cons, drop-drop}
@@ -50,14 +50,20 @@ pub weigh-end : (sum : ℕ) (l : List ℕ) → l ≡ [] → sum ≡ weighedOn su
 weigh-end sum l h = rw h (omega arith)
 
 -- ---- one check's places
-pub rise-low : (n b x p : ℕ) (l c : List ℕ) → x ≡ p → l ≡ p ∷ c → x < b → false ≡ rising n b l
-rise-low n b x p l c e h k = rw (h, lt-leb b p (rw e at k))
+-- the least that the next place may be, and the places left
+abbrev pub rest : ℕ → ℕ → List ℕ → Bool
+rest n b l = leb b n && rising n b l
 
-pub rise-high : (n b x p : ℕ) (l c : List ℕ) → x ≡ p → l ≡ p ∷ c → n ≤ x → false ≡ rising n b l
-rise-high n b x p l c e h k = rw h (byBool (leb b p) (λ a. rw (a, le-ltb p n (rw e at k))) (λ a. rw a))
+pub rest-low : (n b x p : ℕ) (l c : List ℕ) → x ≡ p → l ≡ p ∷ c → x < b → false ≡ rest n b l
+rest-low n b x p l c e h k = rw (h, lt-leb b p (rw e at k)) (byBool (leb b n) (λ a. rw a) (λ a. rw a))
 
-pub rise-on : (n b x p : ℕ) (l c : List ℕ) → x ≡ p → l ≡ p ∷ c → b ≤ x → x < n → rising n b l ≡ rising n (x + 1) c
-rise-on n b x p l c e h i k = rw (h, le-leb b p (rw e at i), lt-ltb p n (rw e at k), e, add-one p)
+pub rest-on : (n b x p : ℕ) (l c : List ℕ) → x ≡ p → l ≡ p ∷ c → b ≤ x → rest n b l ≡ rest n (x + 1) c
+rest-on n b x p l c e h i = byBool (ltb p n)
+    (λ a. let k = ltb-true p n a in rw (h, le-leb b p (rw e at i), a, e, le-leb b n (omega arith), le-leb (p + 1) n (omega arith), add-one p))
+    (λ a. let k = ltb-false p n a in rw (h, le-leb b p (rw e at i), a, e, lt-leb (p + 1) n (omega arith)) (byBool (leb b n) (λ a. rw a) (λ a. rw a)))
+
+pub rest-none : (n b : ℕ) → leb b n ≡ rest n b []
+rest-none n b = byBool (leb b n) (λ a. rw a) (λ a. rw a)
 
 -- ---- one number
 pub out-zero : (most x : ℕ) → x ≡ 0 → true ≡ outside most x

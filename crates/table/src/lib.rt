@@ -93,7 +93,7 @@ fn bad_lengths(t: &[u16]) -> bool
     t.len() != 5 + m + ones
 }
 
-// the weight places from at on ascend below n
+// the weight places from at on ascend below n: the last tells whether all are below
 fn rises(t: &[u16], at: usize, weight: usize, n: usize) -> bool
     requires { ⌜ at + weight ≤ length (now t) ⌝ }
     ensures { λ r. ⌜ r ≡ rising n 0 (take weight (drop at (now (t .entry)))) ⌝ }
@@ -106,13 +106,10 @@ fn rises(t: &[u16], at: usize, weight: usize, n: usize) -> bool
         if p < low {
             return false;
         }
-        if p >= n {
-            return false;
-        }
         low = p + 1;
         i += 1;
     }
-    true
+    low <= n
 }
 
 // the places of each of m checks ascend below n
