@@ -1,21 +1,19 @@
 -- The lengths of the lent buffers, and the ways out of the call.
 use mathlib.Core.Path.{_≡_, sym, ap, ap₂, _∙_}
-use mathlib.Core.Bool.{true, false, not, _||_, true≢false}
+use mathlib.Core.Bool.{true, not}
 use mathlib.Core.List.{List}
 use Prim.Native.Nat.{ℕ, _*_, _≤_, min}
 use native.Mathlib.Nat.{mul-le-mul}
-use borrow.Author.Tests.{eq-eqb, ne-eqb, eqb-true, not-true, not-false}
+use borrow.Author.Tests.{eq-eqb, ne-eqb}
 use lib.Dec.{eqb}
 use lib.ListN.{length, take, drop}
-use Rattle.gf2.specs.Span.{byBool}
 use Rattle.table.specs.Packets.{joined}
-use Rattle.plan.specs.Layout.{planPlaces, planSize, planGap, infoCount, stepCount, stepsOf, planRefusal}
-use Rattle.plan.specs.LayoutLaws.{or-left, or-right}
+use Rattle.plan.specs.Layout.{planPlaces, planSize, planGap, infoCount, stepCount, stepsOf}
 use Rattle.plan.specs.Step.{addSteps}
 use Rattle.plan.specs.Steps.{carryOutAll}
-use Rattle.encoder.specs.Encoding.{slotsAfter, encodeRefusal, Answer, encodes, encodeAnswer, blockAfter, scratchAfter}
-use Rattle.encoder.specs.EncodingLaws.{Accepted, refused-information, refused-block, refused-scratch, not-refused-at, refused-answer, refused-keeps-block, refused-keeps-scratch, accepted-answer, accepted-block, accepted-scratch, limit-least}
-use Rattle.encoder.specs.Slots.{Holds, Ran, startOf, wrongLengths}
+use Rattle.encoder.specs.Encoding.{slotsAfter, wrongLengths, Answer, encodes, encodeAnswer, blockAfter, scratchAfter}
+use Rattle.encoder.specs.EncodingLaws.{Accepted, not-refused-at, refused-answer, refused-keeps-block, refused-keeps-scratch, accepted-answer, accepted-block, accepted-scratch, limit-least}
+use Rattle.encoder.specs.Slots.{Holds, Ran, startOf}
 use Rattle.encoder.proofs.StartLaws.{start-length}
 
 -- packets are few and short
@@ -31,32 +29,6 @@ module _ (w : List ℕ) (s i b c : ℕ) where
 
   pub lengths-scratch : i ≡ infoCount w * s → b ≡ planPlaces w * s → not (eqb c (planGap w * s)) ≡ wrongLengths w s i b c
   lengths-scratch h k = rw (eq-eqb i (infoCount w * s) h, eq-eqb b (planPlaces w * s) k)
-
--- no wrong length: the encoding is accepted
-pub lengths-right : (w : List ℕ) (i b c : ℕ) → planRefusal w ≡ 0 → wrongLengths w (planSize w) i b c ≡ false → Accepted w i b c
-lengths-right w i b c p h =
-    let u = not (eqb i (infoCount w * planSize w)) in let v = not (eqb b (planPlaces w * planSize w)) in let x = not (eqb c (planGap w * planSize w)) in
-    let r = or-right u (v || x) h in
-    record {
-      plan = p;
-      information = eqb-true i (infoCount w * planSize w) (not-false (eqb i (infoCount w * planSize w)) (or-left u (v || x) h));
-      block = eqb-true b (planPlaces w * planSize w) (not-false (eqb b (planPlaces w * planSize w)) (or-left v x r));
-      scratch = eqb-true c (planGap w * planSize w) (not-false (eqb c (planGap w * planSize w)) (or-right v x r));
-    }
-
--- a wrong one: 5
-pub lengths-wrong : (w : List ℕ) (i b c : ℕ) → planRefusal w ≡ 0 → wrongLengths w (planSize w) i b c ≡ true → encodeRefusal w i b c ≡ 5
-lengths-wrong w i b c p h = byBool (eqb i (infoCount w * planSize w))
-    (λ q. byBool (eqb b (planPlaces w * planSize w))
-    (λ r. refused-scratch w i b c p (yes q) (yes r) (no (not-true (eqb c (planGap w * planSize w)) (rw (q, r) at h))))
-    (λ r. refused-block w i b c p (yes q) (no r)))
-    (λ q. refused-information w i b c p (no q))
-  where
-    yes : {x y : ℕ} → eqb x y ≡ true → x ≡ y
-    yes {x} {y} e = eqb-true x y e
-
-    no : {x y : ℕ} → eqb x y ≡ false → x ≡ y → ⊥
-    no {x} {y} e k = true≢false (sym (eq-eqb x y k) ∙ e)
 
 -- ---- the ways out
 module _ (w information block scratch : List ℕ) (limit : ℕ) where

@@ -1,16 +1,16 @@
 -- The encoder's call (document 01, "The plan" and "What the steps give, written out"): plan w, information, block, scratch and
 -- step limit of any length and content.
-use mathlib.Core.Path.{_≡_}
-use mathlib.Core.Bool.{Bool, true, false}
-use mathlib.Core.List.{List, [], _∷_}
+use mathlib.Core.Bool.{Bool, true, false, _||_}
+use mathlib.Core.List.{List, [], _∷_, _++_}
 use Prim.Native.Nat.{ℕ, zero, suc, _+_, _*_}
 use lib.Dec.{eqb}
 use lib.ListN.{length, take, drop}
+use Rattle.table.specs.FirstCause.{firstCause, wrongLength}
 use Rattle.table.specs.Packets.{packets, joined}
 use Rattle.plan.specs.declared.Step.{Step}
 use Rattle.plan.specs.Step.{addSteps}
 use Rattle.plan.specs.Steps.{carryOutAll, atStart}
-use Rattle.plan.specs.Layout.{planPlaces, planSize, planGap, infoCount, infoIn, slots, stepsOf, planRefusal}
+use Rattle.plan.specs.Layout.{planPlaces, planSize, planGap, infoCount, infoIn, slots, stepsOf, planCauses}
 
 -- "only the first so many steps are carried out and counted"
 abbrev pub stepsWithin : List ℕ → ℕ → List Step
@@ -21,22 +21,17 @@ abbrev pub slotsAfter : List ℕ → List ℕ → ℕ → List (List ℕ)
 slotsAfter w information limit =
     carryOutAll (planSize w) (atStart (slots w) (planSize w) (infoIn w) (packets (planSize w) (infoCount w) information)) (stepsWithin w limit)
 
--- the first cause that holds: 9, then 5, a lent buffer of wrong length
+-- 5: information, block or scratch of wrong length, at s bytes a packet
+abbrev pub wrongLengths : List ℕ → ℕ → ℕ → ℕ → ℕ → Bool
+wrongLengths w s information block scratch =
+    wrongLength information (infoCount w * s) || (wrongLength block (planPlaces w * s) || wrongLength scratch (planGap w * s))
+
+-- the causes in their order: "9 comes before 5"
+abbrev pub encodeCauses : List ℕ → ℕ → ℕ → ℕ → List (Bool × ℕ)
+encodeCauses w information block scratch = planCauses w ++ ((wrongLengths w (planSize w) information block scratch, 5) ∷ [])
+
 unfoldable pub encodeRefusal : List ℕ → ℕ → ℕ → ℕ → ℕ
-encodeRefusal w information block scratch =
-    elim (eqb (planRefusal w) 0) [
-      | false ↦ planRefusal w
-      | true ↦
-          elim (eqb information (infoCount w * planSize w)) [
-            | false ↦ 5
-            | true ↦
-                elim (eqb block (planPlaces w * planSize w)) [
-                  | false ↦ 5
-                  | true ↦
-                      elim (eqb scratch (planGap w * planSize w)) [ false ↦ 5 | true ↦ 0 ]
-                ]
-          ]
-    ]
+encodeRefusal w information block scratch = firstCause (encodeCauses w information block scratch)
 
 -- what is answered: the refusal, 0 for none, and the number of add steps carried out, 0 on refusal
 pub record Answer : Type 0 where

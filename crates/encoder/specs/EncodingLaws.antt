@@ -1,23 +1,24 @@
 -- What is said of every encoding: its refusals, what a refused one leaves, and its count.
 use mathlib.Core.Path.{_≡_, refl, sym, ap, _∙_}
-use mathlib.Core.Bool.{true, false, true≢false}
-use mathlib.Core.List.{List}
+use mathlib.Core.Bool.{Bool, true, false, cond, _||_}
+use mathlib.Core.List.{List, [], _∷_}
 use mathlib.Core.Logic.{⊎-elim}
 use Prim.Native.Nat.{ℕ, zero, suc, _*_, _≤_, min}
 use native.Mathlib.Nat.{min-eq-left, min-eq-right}
 use native.Mathlib.Omega.{arith}
-use borrow.Author.Tests.{eq-eqb, ne-eqb, eqb-true}
+use borrow.Author.Tests.{eq-eqb, ne-eqb, eqb-true, not-false}
 use lib.Dec.{eqb}
 use lib.ListN.{take, drop}
 use lib.Seq.{take-all}
-use Rattle.gf2.specs.Span.{byBool}
+use Rattle.gf2.specs.Width.{All.cons}
 use Rattle.table.specs.BufferLaws.{side}
+use Rattle.table.specs.FirstCause.{firstCause, wrongLength, NoneHolds, none-holds, none-refuses, first-decides, rest-decides}
 use Rattle.table.specs.Packets.{packets, joined}
-use Rattle.plan.specs.Layout.{planPlaces, planSize, planGap, infoCount, infoIn, slots, stepCount, stepsOf, planRefusal}
-use Rattle.plan.specs.LayoutLaws.{formed, not-refused, steps-length}
+use Rattle.plan.specs.Layout.{planPlaces, planSize, planGap, infoCount, infoIn, slots, stepCount, stepsOf, planCauses, planRefusal}
+use Rattle.plan.specs.LayoutLaws.{formed, not-refused, steps-length, or-left, or-right}
 use Rattle.plan.specs.Step.{addSteps}
 use Rattle.plan.specs.Steps.{carryOutAll, atStart}
-use Rattle.encoder.specs.Encoding.{stepsWithin, slotsAfter, encodeRefusal, Answer, answerAt, encodes, encodeAnswer, blockAfter, scratchAfter}
+use Rattle.encoder.specs.Encoding.{stepsWithin, slotsAfter, wrongLengths, encodeRefusal, Answer, answerAt, encodes, encodeAnswer, blockAfter, scratchAfter}
 
 -- ---- the refusal
 -- an encoding of information, block and scratch of i, b and c bytes that is not refused
@@ -28,54 +29,46 @@ pub record Accepted (w : List ℕ) (i b c : ℕ) : Type 0 where
   pub scratch : c ≡ planGap w * planSize w
 
 module _ (w : List ℕ) (i b c : ℕ) where
+  -- the causes beyond the plan's
+  abbrev own : List (Bool × ℕ)
+  own = (wrongLengths w (planSize w) i b c, 5) ∷ []
+
   pub refused-plan : (planRefusal w ≡ 0 → ⊥) → encodeRefusal w i b c ≡ planRefusal w
   unfolding encodeRefusal
-  refused-plan h = rw (ne-eqb (planRefusal w) 0 h, encodeRefusal)
+  refused-plan h = first-decides (planCauses w) own h
 
-  pub refused-information : planRefusal w ≡ 0 → (i ≡ infoCount w * planSize w → ⊥) → encodeRefusal w i b c ≡ 5
+  -- once the plan is accepted
+  at-lengths : planRefusal w ≡ 0 → encodeRefusal w i b c ≡ firstCause own
   unfolding encodeRefusal
-  refused-information p h = rw (eq-eqb (planRefusal w) 0 p, encodeRefusal, ne-eqb i (infoCount w * planSize w) h)
+  at-lengths p = rest-decides (none-holds (planCauses w) refl p) own
 
-  pub refused-block : planRefusal w ≡ 0 → i ≡ infoCount w * planSize w → (b ≡ planPlaces w * planSize w → ⊥) → encodeRefusal w i b c ≡ 5
-  unfolding encodeRefusal
-  refused-block p q h = rw (eq-eqb (planRefusal w) 0 p, encodeRefusal, eq-eqb i (infoCount w * planSize w) q, ne-eqb b (planPlaces w * planSize w) h)
-
-  pub refused-scratch : planRefusal w ≡ 0 → i ≡ infoCount w * planSize w → b ≡ planPlaces w * planSize w → (c ≡ planGap w * planSize w → ⊥)
-      → encodeRefusal w i b c ≡ 5
-  unfolding encodeRefusal
-  refused-scratch p q r h =
-      rw (eq-eqb (planRefusal w) 0 p, encodeRefusal, eq-eqb i (infoCount w * planSize w) q, eq-eqb b (planPlaces w * planSize w) r, ne-eqb c (planGap w * planSize w) h)
+  pub refused-lengths : planRefusal w ≡ 0 → wrongLengths w (planSize w) i b c ≡ true → encodeRefusal w i b c ≡ 5
+  refused-lengths p h = at-lengths p ∙ ap (λ (x : Bool). cond x 5 0) h
 
   pub not-refused-at : Accepted w i b c → encodeRefusal w i b c ≡ 0
-  unfolding encodeRefusal
-  not-refused-at a = rw (
-    eq-eqb (planRefusal w) 0 (a .plan),
-    encodeRefusal,
+  not-refused-at a = at-lengths (a .plan) ∙ rw (
     eq-eqb i (infoCount w * planSize w) (a .information),
     eq-eqb b (planPlaces w * planSize w) (a .block),
     eq-eqb c (planGap w * planSize w) (a .scratch),
   )
 
+  -- no wrong length
+  pub right-lengths : planRefusal w ≡ 0 → wrongLengths w (planSize w) i b c ≡ false → Accepted w i b c
+  right-lengths p h =
+      let u = wrongLength i (infoCount w * planSize w) in let v = wrongLength b (planPlaces w * planSize w) in let x = wrongLength c (planGap w * planSize w) in
+      let r = or-right u (v || x) h in
+      record { plan = p; information = same (or-left u (v || x) h); block = same (or-left v x r); scratch = same (or-right v x r) }
+    where
+      same : {x y : ℕ} → wrongLength x y ≡ false → x ≡ y
+      same {x} {y} e = eqb-true x y (not-false (eqb x y) e)
+
   -- 0 says accepted
   pub accepted : encodeRefusal w i b c ≡ 0 → Accepted w i b c
-  accepted h = byBool (eqb (planRefusal w) 0)
-      (λ p. byBool (eqb i (infoCount w * planSize w))
-      (λ q. byBool (eqb b (planPlaces w * planSize w))
-      (λ r. byBool (eqb c (planGap w * planSize w))
-      (λ t. record { plan = yes p; information = yes q; block = yes r; scratch = yes t })
-      (λ t. five (refused-scratch (yes p) (yes q) (yes r) (no t))))
-      (λ r. five (refused-block (yes p) (yes q) (no r))))
-      (λ q. five (refused-information (yes p) (no q))))
-      (λ p. absurd (no p (sym (refused-plan (no p)) ∙ h)))
+  unfolding encodeRefusal
+  accepted h = let r = none-refuses (planCauses w) refl own h in go (r .0) (none-holds own refl (r .1))
     where
-      yes : {x y : ℕ} → eqb x y ≡ true → x ≡ y
-      yes {x} {y} e = eqb-true x y e
-
-      no : {x y : ℕ} → eqb x y ≡ false → x ≡ y → ⊥
-      no {x} {y} e k = true≢false (sym (eq-eqb x y k) ∙ e)
-
-      five : {A : Type 0} → encodeRefusal w i b c ≡ 5 → A
-      five e = let z : _≡_ {A = ℕ} 5 0 = sym e ∙ h in absurd (omega arith)
+      go : planRefusal w ≡ 0 → NoneHolds own → Accepted w i b c
+      go p (cons e n) = right-lengths p e
 
 -- ---- the answer and the buffers
 module _ (w information block scratch : List ℕ) (limit : ℕ) where

@@ -1,9 +1,8 @@
 -- Slots as bytes: the first n slots in a row are the block, the others the scratch.
 use mathlib.Core.Path.{_≡_}
-use mathlib.Core.Bool.{Bool, cond, not, _||_}
+use mathlib.Core.Bool.{Bool, cond}
 use mathlib.Core.List.{List, [], _∷_}
 use Prim.Native.Nat.{ℕ, _+_, _*_, _-_, _%_, _<_, _≤_}
-use lib.Dec.{eqb}
 use lib.ListN.{length, getD, take, drop, replicate}
 use Rattle.gf2.specs.Group.{XorGroup}
 use Rattle.gf2.specs.Vectors.{add}
@@ -72,11 +71,6 @@ withInformation w s information b = joined (withPackets (packets s (planPlaces w
 -- the slots at the start
 abbrev pub startOf : List ℕ → ℕ → List ℕ → List (List ℕ)
 startOf w s information = atStart (slots w) s (infoIn w) (packets s (infoCount w) information)
-
--- 5: a lent buffer of wrong length
-abbrev pub wrongLengths : List ℕ → ℕ → ℕ → ℕ → ℕ → Bool
-wrongLengths w s information block scratch =
-    not (eqb information (infoCount w * s)) || (not (eqb block (planPlaces w * s)) || not (eqb scratch (planGap w * s)))
 
 -- what the first k steps of plan w give: their part of the count, and the slots after them
 pub record Ran (w : List ℕ) (s k r : ℕ) (b c b′ c′ : List ℕ) : Type 0 where

@@ -9,9 +9,9 @@ ghost use Rattle.table.specs.Packets.{packetSum, written};
 ghost use Prim.Native.Nat.{ℕ, _+_, _-_, _*_, _/_, _%_, _<_, _≤_, min};
 ghost use lib.ListN.{length, getD, set, take, drop, replicate};
 ghost use Rattle.plan.specs.Layout.{planPlaces, infoCount, stepCount, planRefusal};
-ghost use Rattle.encoder.specs.Slots.{Holds, SlotIn, SourcesIn, SourcesBelow, SourcesApart, sourcesOf, baseOf, runSum, Lent, Ran, withInformation, startOf, wrongLengths};
+ghost use Rattle.encoder.specs.Slots.{Holds, SlotIn, SourcesIn, SourcesBelow, SourcesApart, sourcesOf, baseOf, runSum, Lent, Ran, withInformation, startOf};
 ghost use Rattle.encoder.specs.Answers.{answerOf};
-ghost use Rattle.encoder.specs.Encoding.{encodeAnswer, blockAfter, scratchAfter};
+ghost use Rattle.encoder.specs.Encoding.{wrongLengths, encodeAnswer, blockAfter, scratchAfter};
 
 // The refusal, 0 for none, and the number of add steps that were carried out.
 pub struct Encoded {

@@ -1,4 +1,4 @@
--- What repair leaves lost is the largest stopping set within the lost places.
+-- The largest stopping set among the lost places: there is one and only one, and it is what stays lost.
 use mathlib.Core.Path.{_≡_, refl, sym, ap, _∙_, subst}
 use mathlib.Core.Bool.{Bool, true, false, true≢false, false≢true}
 use mathlib.Core.List.{List, [], _∷_}
@@ -10,11 +10,23 @@ use lib.Dec.{eqb}
 use lib.ListN.{length, getD, set}
 use Rattle.gf2.specs.Bit.{eqb-false}
 use Rattle.gf2.specs.Lists.{byOpt}
-use Rattle.erasure.specs.Restoring.{State, lostPlaces, ready, restoring, repaired, zeroLost}
+use Rattle.table.specs.Packets.{packets}
+use Rattle.table.specs.Table.{places, size, checks}
+use Rattle.erasure.specs.Restoring.{State, lostPlaces, ready, restoring, repaired, outcome}
 use Rattle.gf2.specs.Places.{filter}
 use Rattle.gf2.specs.Span.{byBool}
 use Rattle.erasure.specs.Stopping.{isLost, Stopping, never, stops, lostIn}
 use Rattle.gf2.specs.Width.{All, All.nil, All.cons}
+
+-- a stopping set among the lost places of the map
+pub record AmongLost (t map : List ℕ) (S : ℕ → Bool) : Type 0 where
+  pub stopping : Stopping (checks t) S
+  pub lost : (p : ℕ) → S p ≡ true → isLost map p ≡ true
+
+-- L is the largest of them: every other lies within it
+pub record Largest (t map : List ℕ) (L : ℕ → Bool) : Type 0 where
+  pub among : AmongLost t map L
+  pub holds : (S : ℕ → Bool) → AmongLost t map S → (p : ℕ) → S p ≡ true → L p ≡ true
 
 -- nothing becomes lost
 pub set-lost : (l : List ℕ) (q p : ℕ) → isLost (set l q 2) p ≡ true → isLost l p ≡ true
@@ -59,3 +71,24 @@ module _ (n s : ℕ) (cs b : List (List ℕ)) (lost : List ℕ) (long : length l
   pub left-largest : (S : ℕ → Bool) → Stopping cs S → ((p : ℕ) → S p ≡ true → isLost lost p ≡ true)
       → (p : ℕ) → S p ≡ true → isLost (repaired n s cs b lost .lost) p ≡ true
   left-largest S st h = never n s cs S st _ h
+
+-- the same of a table: fuel is enough where it is the number of places
+left : (n : ℕ) (t : List ℕ) (b : List (List ℕ)) (map : List ℕ) → length map ≡ n → Largest t map (isLost (repaired n (size t) (checks t) b map .lost))
+left n t b map l = record {
+  among = record { stopping = left-stopping n (size t) (checks t) b map l; lost = left-within n (size t) (checks t) b map l };
+  holds = λ S a. left-largest n (size t) (checks t) b map l S (a .stopping) (a .lost);
+}
+
+-- what stays lost, whatever was received
+pub stays-lost : (t b map : List ℕ) → length map ≡ places t → Largest t map (isLost (outcome t b map .lost))
+stays-lost t b map l = left (places t) t (packets (size t) (places t) b) map l
+
+-- there is one, for every table and every map
+pub largest-exists : (t map : List ℕ) → (L : ℕ → Bool) × Largest t map L
+largest-exists t map = (isLost (repaired (length map) (size t) (checks t) [] map .lost), left (length map) t [] map refl)
+
+-- and only one
+pub largest-only : (t map : List ℕ) (L K : ℕ → Bool) → Largest t map L → Largest t map K → (p : ℕ) → L p ≡ K p
+largest-only t map L K l k p = byBool (L p)
+    (λ e. e ∙ sym (k .holds L (l .among) p e))
+    (λ e. byBool (K p) (λ f. absurd (true≢false (sym (l .holds K (k .among) p f) ∙ e))) (λ f. e ∙ sym f))

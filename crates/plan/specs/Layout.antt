@@ -1,6 +1,6 @@
 -- The plan as numbers (document 01, "The plan" and cause 9): 4, n, s, g, M; the count n − M and the information places; the
 -- count of steps and the steps.
-use mathlib.Core.Bool.{Bool, true, false, cond, not, _||_, _&&_}
+use mathlib.Core.Bool.{Bool, true, false, not, _||_, _&&_}
 use mathlib.Core.List.{List, [], _∷_, _++_, map}
 use mathlib.Core.Option.{Option, none, some}
 use Prim.Native.Nat.{ℕ, zero, suc, _+_, _-_}
@@ -8,6 +8,7 @@ use lib.Dec.{eqb, ltb}
 use lib.ListN.{length, getD, take, drop}
 use Rattle.gf2.specs.Lists.{allPass}
 use Rattle.gf2.specs.Places.{has}
+use Rattle.table.specs.FirstCause.{firstCause}
 use Rattle.table.specs.Table.{mostPlaces, mostBytes, mostChecks, outside, rising}
 use Rattle.plan.specs.declared.Step.{Step}
 use Rattle.plan.specs.declared.Step.the-variants.{Clear, Add}
@@ -80,6 +81,9 @@ abbrev pub wellFormed : List ℕ → Bool
 wellFormed w = not (badCounts w) && (rising (planPlaces w) 0 (infoIn w)
     && allPass (λ x. goodStep (slots w) (infoIn w) (unpack x)) (stepsIn w))
 
--- 9 or none
+-- 9: the plan isn't well-formed
+abbrev pub planCauses : List ℕ → List (Bool × ℕ)
+planCauses w = (not (wellFormed w), 9) ∷ []
+
 abbrev pub planRefusal : List ℕ → ℕ
-planRefusal w = cond (wellFormed w) 0 9
+planRefusal w = firstCause (planCauses w)

@@ -1,27 +1,18 @@
 -- The causes of the planner, in their order, and what each leaves.
 use mathlib.Core.Path.{_≡_, refl, sym, ap, ap₂, _∙_, subst}
-use mathlib.Core.Bool.{Bool, true, false, cond}
+use mathlib.Core.Bool.{Bool, true, false}
 use mathlib.Core.List.{List, [], _∷_, _++_}
 use Prim.Native.Nat.{ℕ, zero, suc, _+_, _<_, _≤_}
 use native.Mathlib.Omega.{arith}
-use borrow.Author.Tests.{eq-eqb, ne-eqb, le-leb, lt-leb, lt-ltb, le-ltb}
-use lib.Dec.{eqb, ltb, leb}
+use borrow.Author.Tests.{ne-eqb, lt-ltb, le-ltb}
+use lib.Dec.{eqb}
 use lib.ListN.{length, drop, replicate}
-use Rattle.table.specs.Table.{refusal, tooShort, beyondLimits, badLengths, badPlaces}
+use Rattle.table.specs.Table.{refusal}
+use Rattle.table.specs.TableLaws.{refusal-small}
 use Rattle.rule.specs.Buffers.{peeling}
 use Rattle.rule.specs.Rule.{setAsideOf}
-use Rattle.planner.specs.Planning.{workWords, planningRefusal, planOf, numbersOf, refusedBy, answerAt, plans, planAnswer, planAfter, workAfter, Answer}
-
--- a table's causes are 1 to 4
-four : (a b c d : Bool) → cond a 1 (cond b 2 (cond c 3 (cond d 4 0))) ≤ 4
-four true b c d = omega arith
-four false true c d = omega arith
-four false false true d = omega arith
-four false false false true = omega arith
-four false false false false = omega arith
-
-refusal-most : (t : List ℕ) → refusal t ≤ 4
-refusal-most t = four (tooShort t) (beyondLimits t) (badLengths t) (badPlaces t)
+use Rattle.planner.specs.Planning.{workWords, planOf, numbersOf, refusedBy, answerAt, plans, planAnswer, planAfter, workAfter, Answer}
+use Rattle.planner.specs.PlanningLaws.{table-refused, plan-short, work-wrong, gap-decides}
 
 -- by the number of the cause
 abbrev planAt : List ℕ → List ℕ → ℕ → List ℕ
@@ -55,47 +46,30 @@ module _ (t P W : List ℕ) where
     work-is = sym (ap (workAt W) e ∙ work-kept W (suc r) (ne-eqb (suc r) 0 (λ (q : suc r ≡ 0). omega arith)) (ne-eqb (suc r) 6 (λ (q : suc r ≡ 6). omega arith)));
   }
 
-  plans-table : (eqb (refusal t) 0 ≡ false) → plans t P W ≡ refusal t
-  unfolding planningRefusal
-  plans-table h = rw (h, planningRefusal)
-
   pub by-table : (r : ℕ) → r ≡ refusal t → (r ≡ 0 → ⊥) → Outcome t P W (refusedBy r) P W
   by-table r e h =
-      let l = refusal-most t in
-      stays r (plans-table (ne-eqb (refusal t) 0 (λ (q : refusal t ≡ 0). h (e ∙ q))) ∙ sym e) (pos r h) (omega arith)
+      let l = refusal-small t in
+      stays r (table-refused t (length P) (length W) (λ (q : refusal t ≡ 0). h (e ∙ q)) ∙ sym e) (pos r h) (omega arith)
     where
       pos : (x : ℕ) → (x ≡ 0 → ⊥) → 0 < x
       pos zero z = absurd (z refl)
       pos (suc x) z = omega arith
 
-  plans-plan : refusal t ≡ 0 → leb 15360 (length P) ≡ false → plans t P W ≡ 5
-  unfolding planningRefusal
-  plans-plan a b = rw (eq-eqb (refusal t) 0 a, planningRefusal, b)
-
-  plans-work : refusal t ≡ 0 → leb 15360 (length P) ≡ true → eqb (length W) 8192 ≡ false → plans t P W ≡ 5
-  unfolding planningRefusal
-  plans-work a b c = rw (eq-eqb (refusal t) 0 a, planningRefusal, b, c)
-
-  plans-gap : (x : Bool) → refusal t ≡ 0 → leb 15360 (length P) ≡ true → eqb (length W) 8192 ≡ true → ltb 32 (planOf t .g) ≡ x → plans t P W ≡ cond x 6 0
-  unfolding planningRefusal
-  plans-gap true a b c d = rw (eq-eqb (refusal t) 0 a, planningRefusal, b, c, d)
-  plans-gap false a b c d = rw (eq-eqb (refusal t) 0 a, planningRefusal, b, c, d)
-
   pub short-plan : refusal t ≡ 0 → length P < 15360 → Outcome t P W (refusedBy 5) P W
-  short-plan a b = stays 5 (plans-plan a (lt-leb 15360 (length P) b)) (omega arith) (omega arith)
+  short-plan a b = stays 5 (plan-short t (length P) (length W) a b) (omega arith) (omega arith)
 
   pub wrong-work : refusal t ≡ 0 → 15360 ≤ length P → (length W ≡ 8192 → ⊥) → Outcome t P W (refusedBy 5) P W
-  wrong-work a b c = stays 5 (plans-work a (le-leb 15360 (length P) b) (ne-eqb (length W) 8192 c)) (omega arith) (omega arith)
+  wrong-work a b c = stays 5 (work-wrong t (length P) (length W) a b c) (omega arith) (omega arith)
 
   pub many-aside : refusal t ≡ 0 → 15360 ≤ length P → length W ≡ 8192 → 32 < planOf t .g → Outcome t P W (refusedBy 6) P (replicate 8192 0)
   many-aside a b c d =
-      let e = plans-gap true a (le-leb 15360 (length P) b) (eq-eqb (length W) 8192 c) (lt-ltb 32 (planOf t .g) d) in
+      let e = gap-decides t (length P) (length W) true a b c (lt-ltb 32 (planOf t .g) d) in
       record { answer = rw e; plan-is = sym (ap (planAt t P) e); work-is = sym (ap (workAt W) e) }
 
   pub served : refusal t ≡ 0 → 15360 ≤ length P → length W ≡ 8192 → planOf t .g ≤ 32
       → Outcome t P W (answerAt 0 t) (numbersOf t ++ drop (length (numbersOf t)) P) (replicate 8192 0)
   served a b c d =
-      let e = plans-gap false a (le-leb 15360 (length P) b) (eq-eqb (length W) 8192 c) (le-ltb 32 (planOf t .g) d) in
+      let e = gap-decides t (length P) (length W) false a b c (le-ltb 32 (planOf t .g) d) in
       record { answer = rw e; plan-is = sym (ap (planAt t P) e); work-is = sym (ap (workAt W) e) }
 
 pub gap-is : (t : List ℕ) → planOf t .g ≡ length (setAsideOf (peeling t))

@@ -1,11 +1,12 @@
 -- The planner's call (document 01, "The plan" and "Buffers"): table t, plan and work buffers of any length and content.
 use mathlib.Core.Path.{_≡_}
-use mathlib.Core.Bool.{Bool, true, false}
+use mathlib.Core.Bool.{Bool, true, false, _||_}
 use mathlib.Core.List.{List, [], _∷_, _++_}
 use Prim.Native.Nat.{ℕ, zero, suc, _+_}
-use lib.Dec.{eqb, ltb, leb}
+use lib.Dec.{eqb, ltb}
 use lib.ListN.{length, drop, replicate}
-use Rattle.table.specs.Table.{places, size, checks, refusal}
+use Rattle.table.specs.FirstCause.{firstCause, wrongLength}
+use Rattle.table.specs.Table.{places, size, checks, tableCauses}
 use Rattle.plan.specs.Step.{addSteps}
 use Rattle.plan.specs.Layout.{planNumbers, mostAside}
 use Rattle.rule.specs.Rule.{plan, Plan}
@@ -27,22 +28,20 @@ planOf t = plan (places t) (checks t)
 unfoldable pub numbersOf : List ℕ → List ℕ
 numbersOf t = planNumbers (places t) (size t) (planOf t .g) (planOf t .M) (planOf t .info) (planOf t .list)
 
--- the first cause that holds: 1 to 4; 5, a buffer of wrong length; 6, "more than 32 checks set aside"
+-- 5: a plan buffer too short, or work of wrong length
+abbrev pub wrongLengths : ℕ → ℕ → Bool
+wrongLengths planLength workLength = ltb planLength leastPlan || wrongLength workLength workWords
+
+-- 6: "more than 32 checks set aside"
+abbrev pub tooManyAside : List ℕ → Bool
+tooManyAside t = ltb mostAside (planOf t .g)
+
+-- the causes in their order, 1 to 6
+abbrev pub planningCauses : List ℕ → ℕ → ℕ → List (Bool × ℕ)
+planningCauses t planLength workLength = tableCauses t ++ ((wrongLengths planLength workLength, 5) ∷ (tooManyAside t, 6) ∷ [])
+
 unfoldable pub planningRefusal : List ℕ → ℕ → ℕ → ℕ
-planningRefusal t planLength workLength =
-    elim (eqb (refusal t) 0) [
-      | false ↦ refusal t
-      | true ↦
-          elim (leb leastPlan planLength) [
-            | false ↦ 5
-            | true ↦
-                elim (eqb workLength workWords) [
-                  | false ↦ 5
-                  | true ↦
-                      elim (ltb mostAside (planOf t .g)) [ true ↦ 6 | false ↦ 0 ]
-                ]
-          ]
-    ]
+planningRefusal t planLength workLength = firstCause (planningCauses t planLength workLength)
 
 -- "The planner answers with the plan's length, M, W, g and the number of add steps"; counts 0 on refusal
 pub record Answer : Type 0 where

@@ -1,11 +1,18 @@
--- The answers of the library for C, as the definitions' records.
+-- The answers of the library for C, as the definitions' records and values.
+use mathlib.Core.Bool.{Bool, true, false}
+use mathlib.Core.Option.{Option, none, some}
+use Prim.Native.Nat.{ℕ}
 use Rattle.repair.specs.Repair.{Report}
-use Rattle.verify.specs.Verify.{Values}
 use Rattle.receiver.specs.declared.Repair.{Repair}
-use Rattle.receiver.specs.declared.Verification.{Verification}
 
-abbrev pub verified : Verification → Values
-verified r = record { refusal = r .refusal; codeword = r .codeword; check = r .check }
+-- C has numbers: 1 or 0 for whether, 0 for none
+abbrev pub oneIf : Bool → ℕ
+oneIf true = 1
+oneIf false = 0
+
+abbrev pub orZero : Option ℕ → ℕ
+orZero none = 0
+orZero (some k) = k
 
 abbrev pub repaired : Repair → Report
 repaired r = record { refusal = r .refusal; restored = r .restored; lost = r .lost; additions = r .additions }

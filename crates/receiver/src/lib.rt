@@ -2,9 +2,9 @@
 ghost use mathlib.Core.Path.{_≡_};
 ghost use lib.ListN.{length};
 ghost use Rattle.table.specs.PacketCall.{packetRefusal, partStart, partLength};
-ghost use Rattle.verify.specs.Verify.{verification, valuesOf};
+ghost use Rattle.verify.specs.Verify.{verification};
 ghost use Rattle.repair.specs.Repair.{repairReport, repairBlock, repairMap};
-ghost use Rattle.receiver.specs.Answers.{verified, repaired};
+ghost use Rattle.receiver.specs.Answers.{oneIf, orZero, repaired};
 use verify::Verified;
 
 // Where in the block a packet lies: 0 and 0 on refusal.
@@ -47,7 +47,9 @@ pub struct Verification {
 
 #[no_mangle]
 pub extern "C" fn bs_verify(table: &[u16], block: &[u8]) -> Verification
-    ensures { λ r. ⌜ verified r ≡ valuesOf (verification (now (table .entry)) (now (block .entry))) ⌝ }
+    ensures refusal { λ r. ⌜ r .refusal ≡ verification (now (table .entry)) (now (block .entry)) .refusal ⌝ }
+    ensures codeword { λ r. ⌜ r .codeword ≡ oneIf (verification (now (table .entry)) (now (block .entry)) .codeword) ⌝ }
+    ensures check { λ r. ⌜ r .check ≡ orZero (verification (now (table .entry)) (now (block .entry)) .check) ⌝ }
 {
     match verify::verify(table, block) {
         Verified::Refused(refusal) => Verification {

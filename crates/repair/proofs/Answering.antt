@@ -10,6 +10,7 @@ use lib.ListN.{length}
 use Rattle.gf2.specs.Span.{anyOf}
 use Rattle.table.specs.Packets.{packets}
 use Rattle.table.specs.Table.{places, size, checks, refusal}
+use Rattle.table.specs.TableLaws.{refusal-small}
 use Rattle.table.specs.TableUse.{TableOf}
 use Rattle.erasure.specs.OutcomeLaws.{tally-lost, tally-restored, told}
 use Rattle.erasure.specs.Restoring.{tally, outcome, agreeing, Counts, countsIf, blockIf, mapIf}
@@ -17,7 +18,7 @@ use Rattle.restore.specs.Mending.{countsOf, Mends}
 use Rattle.erasure.specs.Tally.{restored-and-lost}
 use Rattle.restore.specs.declared.Mended.{Mended}
 use Rattle.repair.specs.Repair.{repairRefusal, Answers}
-use Rattle.repair.specs.RepairLaws.{Fitting, fitting-refusal, refusal-small, table-refused, block-short, map-short, byte-over, bytes-all, block-accepted, block-contradicted, block-refused, map-accepted, map-refused}
+use Rattle.repair.specs.RepairLaws.{Fitting, fitting-refusal, table-refused, block-short, map-short, byte-over, bytes-all, block-accepted, block-contradicted, block-refused, map-accepted, map-refused}
 use Rattle.repair.specs.declared.Repaired.{Repaired}
 
 -- ---- the call, from what the core tells and leaves

@@ -1,38 +1,37 @@
 -- Repair (document 01, "Repair and the other calls"): the call with its refusals. The lost map has a byte a place: 0 received,
 -- 1 lost, 2 restored.
 use mathlib.Core.Path.{_≡_}
-use mathlib.Core.Bool.{true, false}
-use mathlib.Core.List.{List}
+use mathlib.Core.Bool.{Bool, true, false, not, _||_}
+use mathlib.Core.List.{List, [], _∷_, _++_}
 use Prim.Native.Nat.{ℕ, zero, suc, _*_}
 use lib.Dec.{eqb, ltb}
 use lib.ListN.{length}
 use Rattle.gf2.specs.Span.{anyOf}
+use Rattle.table.specs.FirstCause.{firstCause, wrongLength}
 use Rattle.table.specs.Packets.{packets, joined}
-use Rattle.table.specs.Table.{places, size, checks, refusal}
-use Rattle.erasure.specs.Restoring.{State, zeroLost, consistent, tally, outcome}
+use Rattle.table.specs.Table.{places, size, tableCauses}
+use Rattle.erasure.specs.Restoring.{State, zeroLost, tally, outcome, agreeing}
 use Rattle.repair.specs.declared.Repaired.{Repaired}
 
 -- ---- the call: table t, block b and map of any length and content
--- the first cause that holds: 1 to 4; 5, block or map of wrong length; 7, "a map byte over 1"; 8, "received packets contradict"
+-- 5: block or map of wrong length
+abbrev pub wrongLengths : List ℕ → List ℕ → List ℕ → Bool
+wrongLengths t b map = wrongLength (length b) (places t * size t) || wrongLength (length map) (places t)
+
+-- 7: "a map byte over 1"
+abbrev pub byteOver : List ℕ → Bool
+byteOver map = anyOf (ltb 1) map
+
+-- 8: "received packets contradict"
+abbrev pub contradicts : List ℕ → List ℕ → List ℕ → Bool
+contradicts t b map = not (agreeing t b map)
+
+-- the causes in their order, 1 to 5, 7 and 8
+abbrev pub repairCauses : List ℕ → List ℕ → List ℕ → List (Bool × ℕ)
+repairCauses t b map = tableCauses t ++ ((wrongLengths t b map, 5) ∷ (byteOver map, 7) ∷ (contradicts t b map, 8) ∷ [])
+
 unfoldable pub repairRefusal : List ℕ → List ℕ → List ℕ → ℕ
-repairRefusal t b map =
-    elim (eqb (refusal t) 0) [
-      | false ↦ refusal t
-      | true ↦
-          elim (eqb (length b) (places t * size t)) [
-            | false ↦ 5
-            | true ↦
-                elim (eqb (length map) (places t)) [
-                  | false ↦ 5
-                  | true ↦
-                      elim (anyOf (ltb 1) map) [
-                        | true ↦ 7
-                        | false ↦
-                            elim (consistent (size t) (checks t) (outcome t b map)) [ false ↦ 8 | true ↦ 0 ]
-                      ]
-                ]
-          ]
-    ]
+repairRefusal t b map = firstCause (repairCauses t b map)
 
 -- what is reported: counts 0 on refusal
 pub record Report : Type 0 where

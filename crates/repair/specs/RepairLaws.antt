@@ -1,21 +1,22 @@
 -- The call of repair by cases: what is offered, when it is refused, and what block and map are afterwards.
 use mathlib.Core.Path.{_≡_, refl, sym, ap, _∙_}
-use mathlib.Core.Bool.{Bool, true, false, cond}
-use mathlib.Core.List.{List, [], _∷_}
+use mathlib.Core.Bool.{Bool, true, false, cond, not}
+use mathlib.Core.List.{List, [], _∷_, _++_}
 use mathlib.Core.Logic.{_≢_}
 use Prim.Native.Nat.{ℕ, zero, suc, _*_, _<_, _≤_}
 use native.Mathlib.Omega.{arith}
-use borrow.Author.Tests.{ltb-false}
+use borrow.Author.Tests.{eq-eqb, ne-eqb, ltb-false, not-true, not-false}
 use lib.Dec.{eqb, ltb}
 use lib.ListN.{length, getD}
-use Rattle.gf2.specs.Bit.{eqb-true, eqb-false, eqb-self}
+use Rattle.gf2.specs.Bit.{eqb-true}
 use Rattle.gf2.specs.Places.{or-false-l, or-false-r}
-use Rattle.gf2.specs.Span.{byBool, anyOf}
+use Rattle.gf2.specs.Span.{anyOf}
 use Rattle.gf2.specs.Width.{All, All.nil, All.cons}
+use Rattle.table.specs.FirstCause.{firstCause, wrongLength, NoneHolds, none-holds, none-refuses, first-decides, rest-decides, quiet, refused-by}
 use Rattle.table.specs.Packets.{packets, joined}
-use Rattle.table.specs.Table.{places, size, checks, tooShort, beyondLimits, badLengths, badPlaces, refusal}
-use Rattle.erasure.specs.Restoring.{zeroLost, consistent, outcome}
-use Rattle.repair.specs.Repair.{repairRefusal, repairBlock, repairMap}
+use Rattle.table.specs.Table.{places, size, tableCauses, refusal}
+use Rattle.erasure.specs.Restoring.{zeroLost, outcome, agreeing}
+use Rattle.repair.specs.Repair.{wrongLengths, byteOver, contradicts, repairCauses, repairRefusal, repairBlock, repairMap}
 
 -- a call that none of 1 to 7 refuses
 pub record Fitting (t b map : List ℕ) : Type 0 where
@@ -24,107 +25,62 @@ pub record Fitting (t b map : List ℕ) : Type 0 where
   pub map-length : length map ≡ places t
   pub map-bytes : anyOf (ltb 1) map ≡ false
 
--- the refusal by its five tests
-abbrev causes : ℕ → Bool → Bool → Bool → Bool → Bool → ℕ
-causes r table block map bytes sums =
-    elim table [ false ↦ r | true ↦ elim block [ false ↦ 5 | true ↦ elim map [ false ↦ 5 | true ↦ elim bytes [ true ↦ 7 | false ↦ elim sums [ false ↦ 8 | true ↦ 0 ] ] ] ] ]
+-- ---- the causes in their order
+module _ (t b map : List ℕ) where
+  -- those beyond the table's
+  abbrev own : List (Bool × ℕ)
+  own = (wrongLengths t b map, 5) ∷ (byteOver map, 7) ∷ (contradicts t b map, 8) ∷ []
 
-by-causes : (t b map : List ℕ) → repairRefusal t b map ≡ causes (refusal t) (eqb (refusal t) 0) (eqb (length b) (places t * size t)) (eqb (length map) (places t)) (anyOf (ltb 1) map)
-    (consistent (size t) (checks t) (outcome t b map))
-unfolding repairRefusal
-by-causes t b map = refl
+  pub table-refused : refusal t ≢ 0 → repairRefusal t b map ≡ refusal t
+  unfolding repairRefusal
+  table-refused ne = first-decides (tableCauses t) own ne
 
--- only where every test passes is it 0
-none-of : (r : ℕ) (a b c d e : Bool) → (a ≡ false → r ≢ 0) → causes r a b c d e ≡ 0 → (a ≡ true) × ((b ≡ true) × ((c ≡ true) × ((d ≡ false) × (e ≡ true))))
-none-of r false b c d e k h = absurd (k refl h)
-none-of r true false c d e k h = absurd (omega arith)
-none-of r true true false d e k h = absurd (omega arith)
-none-of r true true true true e k h = absurd (omega arith)
-none-of r true true true false false k h = absurd (omega arith)
-none-of r true true true false true k h = (refl, (refl, (refl, (refl, refl))))
+  -- once the table is accepted
+  at-own : refusal t ≡ 0 → repairRefusal t b map ≡ firstCause own
+  unfolding repairRefusal
+  at-own ok = rest-decides (none-holds (tableCauses t) refl ok) own
 
--- and only where all but the last pass is it 8
-last-of : (r : ℕ) (a b c d e : Bool) → r < 8 → causes r a b c d e ≡ 8 → (a ≡ true) × ((b ≡ true) × ((c ≡ true) × ((d ≡ false) × (e ≡ false))))
-last-of r false b c d e k h = absurd (omega arith)
-last-of r true false c d e k h = absurd (omega arith)
-last-of r true true false d e k h = absurd (omega arith)
-last-of r true true true true e k h = absurd (omega arith)
-last-of r true true true false true k h = absurd (omega arith)
-last-of r true true true false false k h = (refl, (refl, (refl, (refl, refl))))
+  pub block-short : refusal t ≡ 0 → length b ≢ places t * size t → repairRefusal t b map ≡ 5
+  block-short ok ne = at-own ok ∙ rw (ne-eqb (length b) (places t * size t) ne)
 
--- the table's refusals are below 5
-four : (a b c d : Bool) → _≤_ (cond a 1 (cond b 2 (cond c 3 (cond d 4 0)))) 4
-four true b c d = omega arith
-four false true c d = omega arith
-four false false true d = omega arith
-four false false false true = omega arith
-four false false false false = omega arith
+  pub map-short : refusal t ≡ 0 → length b ≡ places t * size t → length map ≢ places t → repairRefusal t b map ≡ 5
+  map-short ok lb ne = at-own ok ∙ rw (eq-eqb (length b) (places t * size t) lb, ne-eqb (length map) (places t) ne)
 
-pub refusal-small : (t : List ℕ) → refusal t ≤ 4
-refusal-small t = four (tooShort t) (beyondLimits t) (badLengths t) (badPlaces t)
+  pub byte-over : refusal t ≡ 0 → length b ≡ places t * size t → length map ≡ places t → anyOf (ltb 1) map ≡ true → repairRefusal t b map ≡ 7
+  byte-over ok lb lm over = at-own ok ∙ rw (eq-eqb (length b) (places t * size t) lb, eq-eqb (length map) (places t) lm, over)
 
--- what is left then is 8 or nothing
-pub fitting-refusal : (t b map : List ℕ) → Fitting t b map → repairRefusal t b map ≡ cond (consistent (size t) (checks t) (outcome t b map)) 0 8
-fitting-refusal t b map f =
-    let e1 : eqb (refusal t) 0 ≡ true = ap (λ x. eqb x 0) (f .table) in
-    let e2 : eqb (length b) (places t * size t) ≡ true = ap (λ x. eqb x (places t * size t)) (f .block) ∙ eqb-self (places t * size t) in
-    let e3 : eqb (length map) (places t) ≡ true = ap (λ x. eqb x (places t)) (f .map-length) ∙ eqb-self (places t) in
-    let e4 = f .map-bytes in
-    by-causes t b map ∙ rw (e1, e2, e3, e4) (byBool (consistent (size t) (checks t) (outcome t b map)) (λ e. rw e) (λ e. rw e))
+  -- what is left then is 8 or nothing
+  pub fitting-refusal : Fitting t b map → repairRefusal t b map ≡ cond (agreeing t b map) 0 8
+  fitting-refusal f = at-own (f .table) ∙ rw (eq-eqb (length b) (places t * size t) (f .block), eq-eqb (length map) (places t) (f .map-length), f .map-bytes) (turned (agreeing t b map))
+    where
+      turned : (v : Bool) → _≡_ {A = ℕ} (cond (not v) 8 0) (cond v 0 8)
+      turned true = refl
+      turned false = refl
 
--- ---- the refusals before
-ne-test : (a b : ℕ) → a ≢ b → eqb a b ≡ false
-ne-test a b ne = byBool (eqb a b) (λ e. absurd (ne (eqb-true a b e))) (λ e. e)
+  -- the other way: no cause up to 7
+  fits : NoneHolds ((wrongLengths t b map, 5) ∷ (byteOver map, 7) ∷ []) → refusal t ≡ 0 → Fitting t b map
+  fits (cons w (cons o n)) ok = record {
+    table = ok;
+    block = eqb-true (length b) (places t * size t) (not-false (eqb (length b) (places t * size t)) (or-false-l (wrongLength (length b) (places t * size t)) _ w));
+    map-length = eqb-true (length map) (places t) (not-false (eqb (length map) (places t)) (or-false-r (wrongLength (length b) (places t * size t)) _ w));
+    map-bytes = o;
+  }
 
-pub table-refused : (t b map : List ℕ) → refusal t ≢ 0 → repairRefusal t b map ≡ refusal t
-table-refused t b map ne = by-causes t b map ∙ rw (ne-test (refusal t) 0 ne)
+  -- an accepted call, and what was tested
+  pub accepted-fits : repairRefusal t b map ≡ 0 → Fitting t b map × (agreeing t b map ≡ true)
+  unfolding repairRefusal
+  accepted-fits h = let r = none-refuses (tableCauses t) refl own h in go (r .0) (none-holds own refl (r .1))
+    where
+      go : refusal t ≡ 0 → NoneHolds own → Fitting t b map × (agreeing t b map ≡ true)
+      go ok (cons w (cons o (cons a n))) = (fits (cons w (cons o nil)) ok, not-false (agreeing t b map) a)
 
-pub block-short : (t b map : List ℕ) → refusal t ≡ 0 → length b ≢ places t * size t → repairRefusal t b map ≡ 5
-block-short t b map ok ne =
-    let e1 : eqb (refusal t) 0 ≡ true = ap (λ x. eqb x 0) ok in
-    by-causes t b map ∙ rw (e1, ne-test (length b) (places t * size t) ne)
-
-pub map-short : (t b map : List ℕ) → refusal t ≡ 0 → length b ≡ places t * size t → length map ≢ places t → repairRefusal t b map ≡ 5
-map-short t b map ok lb ne =
-    let e1 : eqb (refusal t) 0 ≡ true = ap (λ x. eqb x 0) ok in
-    let e2 : eqb (length b) (places t * size t) ≡ true = ap (λ x. eqb x (places t * size t)) lb ∙ eqb-self (places t * size t) in
-    by-causes t b map ∙ rw (e1, e2, ne-test (length map) (places t) ne)
-
-pub byte-over : (t b map : List ℕ) → refusal t ≡ 0 → length b ≡ places t * size t → length map ≡ places t → anyOf (ltb 1) map ≡ true → repairRefusal t b map ≡ 7
-byte-over t b map ok lb lm over =
-    let e1 : eqb (refusal t) 0 ≡ true = ap (λ x. eqb x 0) ok in
-    let e2 : eqb (length b) (places t * size t) ≡ true = ap (λ x. eqb x (places t * size t)) lb ∙ eqb-self (places t * size t) in
-    let e3 : eqb (length map) (places t) ≡ true = ap (λ x. eqb x (places t)) lm ∙ eqb-self (places t) in
-    by-causes t b map ∙ rw (e1, e2, e3, over)
-
--- an accepted call, and what was tested
-pub accepted-fits : (t b map : List ℕ) → repairRefusal t b map ≡ 0 → Fitting t b map × (consistent (size t) (checks t) (outcome t b map) ≡ true)
-accepted-fits t b map h =
-    let r = none-of (refusal t) (eqb (refusal t) 0) (eqb (length b) (places t * size t)) (eqb (length map) (places t)) (anyOf (ltb 1) map)
-    (consistent (size t) (checks t) (outcome t b map)) (eqb-false (refusal t) 0) (sym (by-causes t b map) ∙ h) in (
-      record {
-        table = eqb-true (refusal t) 0 (r .0);
-        block = eqb-true (length b) (places t * size t) (r .1 .0);
-        map-length = eqb-true (length map) (places t) (r .1 .1 .0);
-        map-bytes = r .1 .1 .1 .0;
-      },
-      r .1 .1 .1 .1,
-    )
-
--- a contradicted one
-pub contradicted-fits : (t b map : List ℕ) → repairRefusal t b map ≡ 8 → Fitting t b map × (consistent (size t) (checks t) (outcome t b map) ≡ false)
-contradicted-fits t b map h =
-    let z = refusal-small t in
-    let r = last-of (refusal t) (eqb (refusal t) 0) (eqb (length b) (places t * size t)) (eqb (length map) (places t)) (anyOf (ltb 1) map)
-    (consistent (size t) (checks t) (outcome t b map)) (omega arith) (sym (by-causes t b map) ∙ h) in (
-      record {
-        table = eqb-true (refusal t) 0 (r .0);
-        block = eqb-true (length b) (places t * size t) (r .1 .0);
-        map-length = eqb-true (length map) (places t) (r .1 .1 .0);
-        map-bytes = r .1 .1 .1 .0;
-      },
-      r .1 .1 .1 .1,
-    )
+  -- a contradicted one
+  pub contradicted-fits : repairRefusal t b map ≡ 8 → Fitting t b map × (agreeing t b map ≡ false)
+  unfolding repairRefusal
+  contradicted-fits h = let r = refused-by (repairCauses t b map) refl .each (tableCauses t ++ ((wrongLengths t b map, 5) ∷ (byteOver map, 7) ∷ [])) [] (contradicts t b map) 8 refl .0 h in go (r .0) (r .1)
+    where
+      go : NoneHolds (tableCauses t ++ ((wrongLengths t b map, 5) ∷ (byteOver map, 7) ∷ [])) → contradicts t b map ≡ true → Fitting t b map × (agreeing t b map ≡ false)
+      go (cons c1 (cons c2 (cons c3 (cons c4 n)))) a = (fits n (quiet (cons c1 (cons c2 (cons c3 (cons c4 nil))))), not-true (agreeing t b map) a)
 
 -- ---- the map's bytes
 pub bytes-all : (map : List ℕ) → anyOf (ltb 1) map ≡ false → All (λ x. x ≤ 1) map

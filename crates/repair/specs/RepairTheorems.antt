@@ -16,13 +16,13 @@ use Rattle.table.specs.PacketLaws.{packets-length, packets-sized, joined-packet
 use Rattle.table.specs.Packets.{packets, joined, packetSum}
 use Rattle.table.specs.Table.{places, size, checks}
 use Rattle.table.specs.TableLaws.{accepted}
-use Rattle.erasure.specs.Largest.{left-stopping, left-within, left-largest}
+use Rattle.erasure.specs.Largest.{Largest, stays-lost}
 use Rattle.erasure.specs.Restoring.{lostPlaces, zeroLost, tally, outcome}
 use Rattle.erasure.specs.OutcomeLaws.{tally-lost, tally-restored, start-length, start-sized, outcome-length, outcome-sized, sums-of, none-lost, part-joined}
 use Rattle.repair.specs.Repair.{repairRefusal, repairReport, repairBlock, repairMap}
 use Rattle.repair.specs.RepairLaws.{Fitting, fitting-refusal, accepted-fits, contradicted-fits, bytes-all, byte-at, block-accepted, block-contradicted, map-accepted, map-refused}
 use Rattle.erasure.specs.RestoringLaws.{restoring-same, restoring-mark}
-use Rattle.erasure.specs.Stopping.{isLost, Stopping, lostIn}
+use Rattle.erasure.specs.Stopping.{isLost, lostIn}
 use Rattle.erasure.specs.Tally.{restoredIn, restored-and-lost}
 use Rattle.erasure.specs.Values.{received-kept, left-zero, restored, no-contradiction, zeroLost-kept, zeroLost-zero}
 
@@ -38,12 +38,8 @@ pub record Accepted (t b map : List ℕ) : Type 0 where
   pub lost : (p : ℕ) → getD map p 0 ≡ 1 → (getD (repairMap t b map) p 0 ≡ 1) ⊎ (getD (repairMap t b map) p 0 ≡ 2)
   -- "places still lost hold zero bytes"
   pub zeroed : (p : ℕ) → p < places t → getD (repairMap t b map) p 0 ≡ 1 → partAt (size t) p (repairBlock t b map) ≡ replicate (size t) 0
-  -- what stays lost is a stopping set ..
-  pub stopping : Stopping (checks t) (isLost (repairMap t b map))
-  -- .. within the lost places ..
-  pub within : (p : ℕ) → isLost (repairMap t b map) p ≡ true → isLost map p ≡ true
-  -- .. and has every stopping set within them inside
-  pub largest : (S : ℕ → Bool) → Stopping (checks t) S → ((p : ℕ) → S p ≡ true → isLost map p ≡ true) → (p : ℕ) → S p ≡ true → isLost (repairMap t b map) p ≡ true
+  -- what stays lost is the largest stopping set among the lost places
+  pub stays : Largest t map (isLost (repairMap t b map))
   -- "every check without a lost place must sum to zero"
   pub sums : All (λ c. length (lostPlaces (repairMap t b map) c) ≡ 0 → packetSum (size t) (packets (size t) (places t) (repairBlock t b map)) c ≡ replicate (size t) 0) (checks t)
   -- restored and still lost are the places that were lost
@@ -109,9 +105,7 @@ module _ (t b map : List ℕ) (ok : repairRefusal t b map ≡ 0) where
     received = λ p h e. (part-is p h ∙ received-kept (places t) (size t) (checks t) _ map p (not-lost map p e) ∙ packet-at (size t) (places t) b p h, ap (λ l. getD l p 0) map-is ∙ mark-kept p e);
     lost = λ p e. rw map-is (mark-of p e);
     zeroed = λ p h e. part-is p h ∙ left-zero (places t) (size t) (checks t) _ map p (subst (λ k. p < k) (sym (packets-length (size t) (places t) b)) h) (is-lost (outcome t b map .lost) p (ap (λ l. getD l p 0) (sym map-is) ∙ e));
-    stopping = rw map-is (left-stopping (places t) (size t) (checks t) _ map (fits .map-length));
-    within = rw map-is (left-within (places t) (size t) (checks t) _ map (fits .map-length));
-    largest = rw map-is (left-largest (places t) (size t) (checks t) _ map (fits .map-length));
+    stays = rw map-is (stays-lost t b map (fits .map-length));
     sums = rw (map-is, packets-are) sums-checked;
     counts = rw ok (rw (tally-restored (outcome t b map .lost), tally-lost (outcome t b map .lost), tally-lost map) counts-add);
     whole = λ h. let z : lostIn (outcome t b map .lost) ≡ 0 = sym (tally-lost (outcome t b map .lost)) ∙ (rw ok at h) in record {

@@ -2,6 +2,7 @@ pub mod BufferLaws
 pub mod Checks
 pub mod ChecksLaws
 pub mod Codewords
+pub mod FirstCause
 pub mod GatherLaws
 pub mod LookOver
 pub mod PacketCall

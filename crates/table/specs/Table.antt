@@ -1,11 +1,12 @@
 -- The table of checks (document 01, "The table of checks" and the causes 1 to 4): 2, n, s; m and m weights; W0 and W0 places.
-use mathlib.Core.Bool.{Bool, true, false, cond, not, _||_, _&&_}
+use mathlib.Core.Bool.{Bool, true, false, not, _||_, _&&_}
 use mathlib.Core.List.{List, [], _∷_}
 use Prim.Native.Nat.{ℕ, zero, suc, _+_}
 use lib.Dec.{eqb, ltb, leb}
 use lib.ListN.{length, getD, take, drop}
 use Rattle.gf2.specs.Lists.{allPass}
 use Rattle.gf2.specs.Span.{anyOf}
+use Rattle.table.specs.FirstCause.{firstCause}
 
 -- ---- the limits
 abbrev pub mostPlaces : ℕ
@@ -90,6 +91,10 @@ badLengths t = ltb (length t) (5 + number t) || (anyOf (ltb mostWeight) (weights
 abbrev pub badPlaces : List ℕ → Bool
 badPlaces t = not (allPass (rising (places t) 0) (checks t))
 
+-- the causes in their order
+abbrev pub tableCauses : List ℕ → List (Bool × ℕ)
+tableCauses t = (tooShort t, 1) ∷ (beyondLimits t, 2) ∷ (badLengths t, 3) ∷ (badPlaces t, 4) ∷ []
+
 -- the number of the first cause that holds, 0 for none
 abbrev pub refusal : List ℕ → ℕ
-refusal t = cond (tooShort t) 1 (cond (beyondLimits t) 2 (cond (badLengths t) 3 (cond (badPlaces t) 4 0)))
+refusal t = firstCause (tableCauses t)

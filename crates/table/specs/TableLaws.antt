@@ -131,3 +131,14 @@ accepted t h =
       distinct = all-map (λ c u. rising-distinct (places t) 0 c u) ups;
       low = all-map (λ c u. all-map (λ p q. q .1) (rising-all (places t) 0 c u)) ups;
     }
+
+-- the table's refusals are 1 to 4
+pub refusal-small : (t : List ℕ) → refusal t ≤ 4
+refusal-small t = four (tooShort t) (beyondLimits t) (badLengths t) (badPlaces t)
+  where
+    four : (a b c d : Bool) → _≤_ (cond a 1 (cond b 2 (cond c 3 (cond d 4 0)))) 4
+    four true b c d = omega arith
+    four false true c d = omega arith
+    four false false true d = omega arith
+    four false false false true = omega arith
+    four false false false false = omega arith

@@ -1,13 +1,10 @@
 -- The demands on planning and then encoding, over the definitions of the calls, for every table that the planner accepts:
 -- "the encoder gets the plan as the planner wrote it, nobody having changed it since".
 use mathlib.Core.Path.{_≡_, refl, sym, ap, ap₂, _∙_, subst}
-use mathlib.Core.Bool.{Bool, true, false}
 use mathlib.Core.List.{List, [], _∷_}
 use Prim.Native.Nat.{ℕ, zero, suc, _+_, _-_, _*_, _<_, _≤_}
 use native.Mathlib.Omega.{arith}
-use borrow.Author.Tests.{eq-eqb, eqb-true, eqb-false, ltb-false}
-use lib.Dec.{eqb, ltb, leb}
-use lib.ListN.{length, getD, take, drop, length-replicate}
+use lib.ListN.{length, getD, take, drop}
 use lib.Seq.{take-all, take-at}
 use Rattle.gf2.specs.Lists.{Distinct, all-in}
 use Rattle.gf2.specs.Places.{has}
@@ -21,39 +18,50 @@ use Rattle.plan.specs.declared.Step.{Step}
 use Rattle.plan.specs.declared.Step.the-variants.{Clear, Add}
 use Rattle.plan.specs.Step.{addSteps}
 use Rattle.plan.specs.Steps.{carryOutAll, atStart}
-use Rattle.plan.specs.Layout.{stepsOf, mostAside, planRefusal, infoCount, stepCount}
+use Rattle.plan.specs.Layout.{stepsOf, mostAside, planRefusal, planKept, planGap, infoIn, infoCount, stepCount}
 use Rattle.rule.specs.Rule.{plan, Plan}
 use Rattle.rule.specs.Encoded.{encode}
 use Rattle.rule.specs.OneBlock.{Encodes, block, block-encodes, one-block}
 use Rattle.rule.specs.Info.{info-number, kept-few, getD-has}
 use Rattle.rule.specs.Bound.{adds-most, kept-ones, adds-bound, fitted-number}
 use Rattle.rule.specs.WellFormed.{info-low}
-use Rattle.gf2.specs.Span.{byBool}
-use Rattle.planner.specs.Planning.{planOf, numbersOf, plans, planningRefusal, leastPlan, workWords, planAnswer, planAfter, answerAt as planAnswerAt}
-use Rattle.encoder.specs.Encoding.{stepsWithin, slotsAfter, encodeRefusal, encodes, encodeAnswer, answerAt, blockAfter, scratchAfter}
+use Rattle.planner.specs.Planning.{planOf, numbersOf, plans, planAnswer, planAfter, answerAt as planAnswerAt}
+use Rattle.planner.specs.PlanningLaws.{accepted-planning}
+use Rattle.encoder.specs.Encoding.{stepsWithin, slotsAfter, encodes, encodeAnswer, answerAt, blockAfter}
+use Rattle.encoder.specs.EncodingLaws.{accepted as accepted-encoding, not-refused-at, count-within, limit-all}
 use Rattle.theorems.specs.OwnPlan.{own-info, own-steps, own-places, own-accepted, own-count}
 
+-- the plan as the planner wrote it
+abbrev pub handed : List ℕ → List ℕ → List ℕ → List ℕ
+handed t planBuffer work = take (planAnswer t planBuffer work .length) (planAfter t planBuffer work)
+
 -- ---- demand 2
--- what the block must be: n·s bytes, the k-th information packet at the plan's k-th information place, every check sums to zero
-pub record Carries (t information b : List ℕ) : Type 0 where
+-- what the block must be: n·s bytes, the k-th information packet at the k-th information place of the plan p, every check sums to zero
+pub record Carries (t p information b : List ℕ) : Type 0 where
   pub long : length b ≡ places t * size t
-  pub carries : (k : ℕ) → k < places t - planOf t .M → partAt (size t) (getD (planOf t .info) k 0) b ≡ partAt (size t) k information
+  pub carries : (k : ℕ) → k < infoCount p → partAt (size t) (getD (infoIn p) k 0) b ≡ partAt (size t) k information
   pub codeword : Codeword (size t) (checks t) (packets (size t) (places t) b)
 
--- lent buffers of the right lengths, and a limit that means all steps
-pub record Lent (t information blockBuffer scratchBuffer : List ℕ) (limit : ℕ) : Type 0 where
-  pub info-long : length information ≡ (places t - planOf t .M) * size t
+-- lent buffers of the right lengths for the plan p, (n − M)·s, n·s and g·s, and a limit that means all its steps
+pub record ToTheLastStep (t p information blockBuffer scratchBuffer : List ℕ) (limit : ℕ) : Type 0 where
+  pub info-long : length information ≡ (places t - planKept p) * size t
   pub block-long : length blockBuffer ≡ places t * size t
-  pub scratch-long : length scratchBuffer ≡ planOf t .g * size t
-  pub all-steps : length (planOf t .list) ≤ limit
+  pub scratch-long : length scratchBuffer ≡ planGap p * size t
+  pub all-steps : stepCount p ≤ limit
 
 -- the encoding by the plan p is accepted, its block is as it must be, and no other block is
 pub record TheOneBlock (t p information blockBuffer scratchBuffer : List ℕ) (limit : ℕ) : Type 0 where
   pub not-refused : encodes p information blockBuffer scratchBuffer limit ≡ 0
-  pub carries : Carries t information (blockAfter p information blockBuffer scratchBuffer limit)
-  pub only : (b : List ℕ) → Carries t information b → b ≡ blockAfter p information blockBuffer scratchBuffer limit
+  pub carries : Carries t p information (blockAfter p information blockBuffer scratchBuffer limit)
+  pub only : (b : List ℕ) → Carries t p information b → b ≡ blockAfter p information blockBuffer scratchBuffer limit
 
 -- ---- demand 3
+-- "After the last step of the planner's plan it counts every add step of that plan, and demand 2's block stands."
+pub record LastStep (t planBuffer work information blockBuffer scratchBuffer : List ℕ) (limit : ℕ) : Type 0 where
+  pub counted : encodeAnswer (handed t planBuffer work) information blockBuffer scratchBuffer limit .additions ≡ addSteps (stepsOf (handed t planBuffer work))
+  pub reported : encodeAnswer (handed t planBuffer work) information blockBuffer scratchBuffer limit .additions ≡ planAnswer t planBuffer work .additions
+  pub block : TheOneBlock t (handed t planBuffer work) information blockBuffer scratchBuffer limit
+
 -- W ones in the M kept checks, g set aside: the additions of planning and then encoding, whatever the buffers and the limit
 pub record AdditionBound (t p : List ℕ) : Type 0 where
   pub at-least-one : planOf t .M ≤ planOf t .W
@@ -114,7 +122,7 @@ module _ (t : List ℕ) (ok : refusal t ≡ 0) where
       four = λ h i b c limit. let p = counted i b c limit in let q = adds-bound (places t) (checks t) (good .distinct) (good .low) h in omega arith;
     }
 
-    module _ (information blockBuffer scratchBuffer : List ℕ) (limit : ℕ) (lent : Lent t information blockBuffer scratchBuffer limit) where
+    module _ (information blockBuffer scratchBuffer : List ℕ) (limit : ℕ) (lent : ToTheLastStep t (numbersOf t) information blockBuffer scratchBuffer limit) where
       abbrev n : ℕ
       n = places t
 
@@ -129,20 +137,19 @@ module _ (t : List ℕ) (ok : refusal t ≡ 0) where
       ps = packets s k information
 
       fits : encodes (numbersOf t) information blockBuffer scratchBuffer limit ≡ 0
-      unfolding encodeRefusal planOf numbersOf
-      fits = rw (
-        own-accepted t ok few,
-        encodeRefusal,
-        eq-eqb (length information) (infoCount (numbersOf t) * s) (lent .info-long ∙ ap (λ x. x * s) (sym (own-places t ok few))),
-        eq-eqb (length blockBuffer) (n * s) (lent .block-long),
-        eq-eqb (length scratchBuffer) (planOf t .g * s) (lent .scratch-long),
-      ) refl
+      unfolding planOf numbersOf
+      fits = not-refused-at (numbersOf t) (length information) (length blockBuffer) (length scratchBuffer) (record {
+        plan = own-accepted t ok few;
+        information = lent .info-long ∙ ap (λ x. x * s) (sym (own-places t ok few));
+        block = lent .block-long;
+        scratch = lent .scratch-long;
+      })
 
       -- the slots are those of the rule's plan
       slots-are : slotsAfter (numbersOf t) information limit ≡ encode n s (planOf t) ps
       unfolding planOf numbersOf
       slots-are = ap₂ (λ I l. carryOutAll s (atStart (n + planOf t .g) s I (packets s (infoCount (numbersOf t)) information)) (take limit l)) (own-info t ok few) (own-steps t ok few)
-          ∙ ap₂ (λ c l. carryOutAll s (atStart (n + planOf t .g) s (planOf t .info) (packets s c information)) l) (own-places t ok few) (take-all limit (planOf t .list) (lent .all-steps))
+          ∙ ap₂ (λ c l. carryOutAll s (atStart (n + planOf t .g) s (planOf t .info) (packets s c information)) l) (own-places t ok few) (take-all limit (planOf t .list) (subst (λ m. m ≤ limit) (own-count t ok few) (lent .all-steps)))
 
       after : blockAfter (numbersOf t) information blockBuffer scratchBuffer limit ≡ joined (block n s (checks t) ps)
       unfolding planOf numbersOf
@@ -161,26 +168,32 @@ module _ (t : List ℕ) (ok : refusal t ≡ 0) where
       info-below j h = let m = info-number n (checks t) (good .distinct) (good .low) in
           all-in (λ p. p < n) _ (getD-has (planOf t .info) j (omega arith)) (info-low n (checks t) (good .distinct) (good .low))
 
+      -- the plan has as many information places as the rule
+      own-number : (j : ℕ) → j < infoCount (numbersOf t) → j < k
+      own-number j h = subst (λ m. j < m) (own-places t ok few) h
+
       -- there and back
       back : packets s n (joined (block n s (checks t) ps)) ≡ block n s (checks t) ps
       unfolding planOf numbersOf
       back = ap (λ m. packets s m (joined (block n s (checks t) ps))) (sym (made .long)) ∙ joined-packets s (made .sized)
 
-      made-carries : Carries t information (joined (block n s (checks t) ps))
+      made-carries : Carries t (numbersOf t) information (joined (block n s (checks t) ps))
       unfolding planOf numbersOf
       made-carries = record {
         long = joined-length s (made .sized) ∙ ap (λ m. m * s) (made .long);
-        carries = λ j h. sym (packet-at s n (joined (block n s (checks t) ps)) (getD (planOf t .info) j 0) (info-below j h))
+        carries = λ j l. let h = own-number j l in ap (λ I. partAt s (getD I j 0) (joined (block n s (checks t) ps))) (own-info t ok few)
+            ∙ sym (packet-at s n (joined (block n s (checks t) ps)) (getD (planOf t .info) j 0) (info-below j h))
             ∙ ap (λ l. getD l (getD (planOf t .info) j 0) []) back ∙ made .carries j h ∙ packet-at s k information j h;
         codeword = subst (Codeword s (checks t)) (sym back) (made .zero-sums);
       }
 
-      taken : (b : List ℕ) → Carries t information b → Encodes n s (checks t) ps (packets s n b)
+      taken : (b : List ℕ) → Carries t (numbersOf t) information b → Encodes n s (checks t) ps (packets s n b)
       unfolding planOf numbersOf
       taken b r = record {
         long = packets-length s n b;
         sized = packets-sized s n b (r .long);
-        carries = λ j h. packet-at s n b (getD (planOf t .info) j 0) (info-below j h) ∙ r .carries j h ∙ sym (packet-at s k information j h);
+        carries = λ j h. packet-at s n b (getD (planOf t .info) j 0) (info-below j h) ∙ ap (λ I. partAt s (getD I j 0) b) (sym (own-info t ok few))
+            ∙ r .carries j (subst (λ m. j < m) (sym (own-places t ok few)) h) ∙ sym (packet-at s k information j h);
         zero-sums = r .codeword;
       }
 
@@ -189,44 +202,45 @@ module _ (t : List ℕ) (ok : refusal t ≡ 0) where
       unfolding planOf numbersOf
       the-one-block = record {
         not-refused = fits;
-        carries = subst (Carries t information) (sym after) made-carries;
+        carries = subst (Carries t (numbersOf t) information) (sym after) made-carries;
         only = λ b r. sym (packets-joined s n b (r .long))
             ∙ ap joined (one-block n s (checks t) (good .distinct) (good .low) ps sized (packets-length s k information) (packets s n b) (taken b r)) ∙ sym after;
       }
 
 -- ---- the calls, one after the other
--- an accepted planning
-pub accepted-planning : (t planBuffer work : List ℕ) → plans t planBuffer work ≡ 0 → (refusal t ≡ 0) × (planOf t .g ≤ mostAside)
-unfolding planningRefusal
-accepted-planning t pb w h = byBool (eqb (refusal t) 0)
-    (λ a. byBool (leb leastPlan (length pb))
-    (λ b. byBool (eqb (length w) workWords)
-    (λ c. byBool (ltb mostAside (planOf t .g))
-    (λ d. absurd (omega (arith, rw (a, planningRefusal, b, c, d) at h)))
-    (λ d. (eqb-true (refusal t) 0 a, ltb-false mostAside (planOf t .g) d)))
-    (λ c. absurd (omega (arith, rw (a, planningRefusal, b, c) at h))))
-    (λ b. absurd (omega (arith, rw (a, planningRefusal, b) at h))))
-    (λ a. absurd (eqb-false (refusal t) 0 a (rw (a, planningRefusal) at h)))
-
 module _ (t planBuffer work : List ℕ) (ok : plans t planBuffer work ≡ 0) where
-  -- the plan as the planner wrote it
-  abbrev pub handed : List ℕ
-  handed = take (planAnswer t planBuffer work .length) (planAfter t planBuffer work)
+  -- an accepted planning
+  table-ok : refusal t ≡ 0
+  table-ok = accepted-planning t (length planBuffer) (length work) ok .0
 
-  pub plan-written : handed ≡ numbersOf t
+  few-aside : planOf t .g ≤ mostAside
+  few-aside = accepted-planning t (length planBuffer) (length work) ok .1
+
+  pub plan-written : handed t planBuffer work ≡ numbersOf t
   plan-written = ap₂ take (ap (λ r. planAnswerAt r t .length) ok) (rw (ok, planAfter)) ∙ take-at (numbersOf t) (drop (length (numbersOf t)) planBuffer) (length (numbersOf t)) refl
 
   -- demand 2: planning and then encoding to the last step gives the one block
-  pub planning-then-encoding : (information blockBuffer scratchBuffer : List ℕ) (limit : ℕ) → Lent t information blockBuffer scratchBuffer limit
-      → TheOneBlock t handed information blockBuffer scratchBuffer limit
-  planning-then-encoding i b c limit lent = let r = accepted-planning t planBuffer work ok in
-      subst (λ p. TheOneBlock t p i b c limit) (sym plan-written) (the-one-block t (r .0) (r .1) i b c limit lent)
+  pub planning-then-encoding : (information blockBuffer scratchBuffer : List ℕ) (limit : ℕ) → ToTheLastStep t (handed t planBuffer work) information blockBuffer scratchBuffer limit
+      → TheOneBlock t (handed t planBuffer work) information blockBuffer scratchBuffer limit
+  planning-then-encoding i b c limit =
+      subst (λ p. ToTheLastStep t p i b c limit → TheOneBlock t p i b c limit) (sym plan-written) (the-one-block t table-ok few-aside i b c limit)
 
   -- demand 3: the bound
-  pub additions-bounded : AdditionBound t handed
-  additions-bounded = let r = accepted-planning t planBuffer work ok in subst (AdditionBound t) (sym plan-written) (addition-bound t (r .0) (r .1))
+  pub additions-bounded : AdditionBound t (handed t planBuffer work)
+  additions-bounded = subst (AdditionBound t) (sym plan-written) (addition-bound t table-ok few-aside)
 
   -- the planner's reported number of add steps is the plan's
-  pub additions-reported : planAnswer t planBuffer work .additions ≡ addSteps (stepsOf handed)
-  additions-reported = let r = accepted-planning t planBuffer work ok in
-      ap (λ r. planAnswerAt r t .additions) ok ∙ sym (ap (λ p. addSteps (stepsOf p)) plan-written ∙ ap addSteps (own-steps t (r .0) (r .1)))
+  pub additions-reported : planAnswer t planBuffer work .additions ≡ addSteps (stepsOf (handed t planBuffer work))
+  additions-reported = ap (λ r. planAnswerAt r t .additions) ok ∙ sym (ap (λ p. addSteps (stepsOf p)) plan-written ∙ ap addSteps (own-steps t table-ok few-aside))
+
+  -- demand 3: the last step
+  pub all-counted : (information blockBuffer scratchBuffer : List ℕ) (limit : ℕ) → ToTheLastStep t (handed t planBuffer work) information blockBuffer scratchBuffer limit
+      → LastStep t planBuffer work information blockBuffer scratchBuffer limit
+  all-counted i b c limit lent = record { counted = every; reported = every ∙ sym additions-reported; block = one }
+    where
+      one : TheOneBlock t (handed t planBuffer work) i b c limit
+      one = planning-then-encoding i b c limit lent
+
+      every : encodeAnswer (handed t planBuffer work) i b c limit .additions ≡ addSteps (stepsOf (handed t planBuffer work))
+      every = count-within (handed t planBuffer work) i b c limit (one .not-refused)
+          ∙ ap addSteps (limit-all (handed t planBuffer work) limit (accepted-encoding (handed t planBuffer work) (length i) (length b) (length c) (one .not-refused) .plan) (lent .all-steps))

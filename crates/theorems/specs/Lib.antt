@@ -3,3 +3,4 @@ pub mod Demands
 pub mod Refusals
 pub mod Restoring
 pub mod Starred
+pub mod Week

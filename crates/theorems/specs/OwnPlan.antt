@@ -129,4 +129,4 @@ module _ (t : List ℕ) (ok : refusal t ≡ 0) (few : planOf t .g ≤ mostAside)
   -- so that the encoder never refuses it with 9
   pub own-accepted : planRefusal (numbersOf t) ≡ 0
   unfolding planOf numbersOf
-  own-accepted = ap (λ b. cond b 0 9) own-well-formed
+  own-accepted = ap (λ b. cond (not b) 9 0) own-well-formed

@@ -1,28 +1,70 @@
--- A table is accepted if and only if none of the causes 1 to 4 holds, and a refusal is the first that holds.
-use mathlib.Core.Path.{_≡_, refl}
-use mathlib.Core.Bool.{Bool, true, false, cond}
+-- Refusals of all calls, said in one way: 0 is answered exactly if no cause of the call holds, and each number exactly if its cause
+-- holds and none before it in the call's order (`RefusedBy`, table/specs/FirstCause.antt).
+use mathlib.Core.Path.{_≡_, refl, sym, subst}
 use mathlib.Core.List.{List}
+use mathlib.Core.Option.{Option, none, some}
 use Prim.Native.Nat.{ℕ, zero, suc}
-use native.Mathlib.Omega.{arith}
-use Rattle.table.specs.Table.{tooShort, beyondLimits, badLengths, badPlaces, refusal}
+use lib.ListN.{length}
+use Rattle.table.specs.FirstCause.{RefusedBy, refused-by}
+use Rattle.table.specs.Table.{tableCauses, refusal}
+use Rattle.table.specs.PacketCall.{packetCauses, packetRefusal}
+use Rattle.plan.specs.Layout.{planCauses, planRefusal}
+use Rattle.planner.specs.Planning.{planningCauses, planningRefusal, planAnswer, answerAt as planAnswerAt, plans}
+use Rattle.encoder.specs.Encoding.{encodeCauses, encodeRefusal, encodeAnswer, answerAt as encodeAnswerAt, encodes}
+use Rattle.repair.specs.Repair.{repairCauses, repairRefusal, repairReport, reportAt}
+use Rattle.erasure.specs.Restoring.{State, outcome}
+use Rattle.verify.specs.Verify.{verifyCauses, verifyRefusal, verification, verdictAt}
+use Rattle.verify.specs.VerifyLaws.{lowest}
 
--- none of the four
-pub record NoCause (t : List ℕ) : Type 0 where
-  pub long-enough : tooShort t ≡ false
-  pub within-limits : beyondLimits t ≡ false
-  pub good-lengths : badLengths t ≡ false
-  pub good-places : badPlaces t ≡ false
+-- 1 to 4
+pub table-refusals : (t : List ℕ) → RefusedBy (refusal t) (tableCauses t)
+table-refusals t = refused-by (tableCauses t) refl
 
-pub accepted-no-cause : (t : List ℕ) → refusal t ≡ 0 → NoCause t
-accepted-no-cause t h = go (tooShort t) (beyondLimits t) (badLengths t) (badPlaces t) refl refl refl refl h
+-- 2, 5, 10
+pub packet-refusals : (n s place len : ℕ) → RefusedBy (packetRefusal n s place len) (packetCauses n s place len)
+packet-refusals n s place len = refused-by (packetCauses n s place len) refl
+
+-- 9
+pub plan-refusals : (w : List ℕ) → RefusedBy (planRefusal w) (planCauses w)
+plan-refusals w = refused-by (planCauses w) refl
+
+-- 1 to 5, as verification answers it
+pub verify-refusals : (t b : List ℕ) → RefusedBy (verification t b .refusal) (verifyCauses t b)
+unfolding verifyRefusal
+verify-refusals t b = subst (λ r. RefusedBy r (verifyCauses t b)) (sym (told (verifyRefusal t b) (lowest t b))) (refused-by (verifyCauses t b) refl)
   where
-    go : (a b c d : Bool) → tooShort t ≡ a → beyondLimits t ≡ b → badLengths t ≡ c → badPlaces t ≡ d
-        → _≡_ {A = ℕ} (cond a 1 (cond b 2 (cond c 3 (cond d 4 0)))) 0 → NoCause t
-    go true b c d p q r s k = absurd (omega arith)
-    go false true c d p q r s k = absurd (omega arith)
-    go false false true d p q r s k = absurd (omega arith)
-    go false false false true p q r s k = absurd (omega arith)
-    go false false false false p q r s k = record { long-enough = p; within-limits = q; good-lengths = r; good-places = s }
+    told : (r : ℕ) (v : Option ℕ) → verdictAt r v .refusal ≡ r
+    told zero none = refl
+    told zero (some k) = refl
+    told (suc r) v = refl
 
-pub no-cause-accepted : (t : List ℕ) → NoCause t → refusal t ≡ 0
-no-cause-accepted t n = rw (n .long-enough, n .within-limits, n .good-lengths, n .good-places)
+-- 1 to 5, 7, 8, as repair reports it
+pub repair-refusals : (t b map : List ℕ) → RefusedBy (repairReport t b map .refusal) (repairCauses t b map)
+unfolding repairRefusal
+repair-refusals t b map = subst (λ r. RefusedBy r (repairCauses t b map)) (sym (told (repairRefusal t b map) (outcome t b map))) (refused-by (repairCauses t b map) refl)
+  where
+    told : (r : ℕ) (m : State) → reportAt r m .refusal ≡ r
+    told zero m = refl
+    told (suc r) m = refl
+
+-- 1 to 6, as the planner answers it
+pub planning-refusals : (t planBuffer work : List ℕ) → RefusedBy (planAnswer t planBuffer work .refusal) (planningCauses t (length planBuffer) (length work))
+unfolding planningRefusal
+planning-refusals t planBuffer work =
+    subst (λ r. RefusedBy r (planningCauses t (length planBuffer) (length work))) (sym (told (plans t planBuffer work))) (refused-by (planningCauses t (length planBuffer) (length work)) refl)
+  where
+    told : (r : ℕ) → planAnswerAt r t .refusal ≡ r
+    told zero = refl
+    told (suc r) = refl
+
+-- 9, then 5, as the encoder answers it
+pub encode-refusals : (w information block scratch : List ℕ) (limit : ℕ)
+    → RefusedBy (encodeAnswer w information block scratch limit .refusal) (encodeCauses w (length information) (length block) (length scratch))
+unfolding encodeRefusal
+encode-refusals w information block scratch limit =
+    subst (λ r. RefusedBy r (encodeCauses w (length information) (length block) (length scratch))) (sym (told (encodes w information block scratch limit) _))
+    (refused-by (encodeCauses w (length information) (length block) (length scratch)) refl)
+  where
+    told : (r a : ℕ) → encodeAnswerAt r a .refusal ≡ r
+    told zero a = refl
+    told (suc r) a = refl

@@ -1,45 +1,70 @@
 -- Demand 2 on repair, as one statement: "From what arrives of such a block, repair restores every lost packet outside the largest
 -- stopping set among the lost places, each as it was sent, and none inside it."
 use mathlib.Core.Path.{_≡_, refl, sym, ap, _∙_}
-use mathlib.Core.Bool.{Bool, true, false, true≢false, false≢true}
+use mathlib.Core.Bool.{Bool, true, false, true≢false}
 use mathlib.Core.List.{List, []}
-use mathlib.Core.Logic.{_≢_, _⊎_, ⊎-elim}
+use mathlib.Core.Logic.{⊎-elim}
 use Prim.Native.Nat.{ℕ, zero, suc, _*_, _<_}
 use native.Mathlib.Omega.{arith}
 use lib.Dec.{eqb}
 use lib.ListN.{length, getD}
+use lib.Seq.{ext-getD}
 use Rattle.gf2.specs.Bit.{eqb-true}
 use Rattle.table.specs.Codewords.{IsCodeword}
 use Rattle.table.specs.PacketCall.{partAt}
-use Rattle.table.specs.Table.{places, size, checks, refusal}
-use Rattle.repair.specs.Repair.{repairRefusal, repairBlock, repairMap}
-use Rattle.erasure.specs.Stopping.{isLost, Stopping}
-use Rattle.repair.specs.RepairLaws.{Fitting}
+use Rattle.table.specs.PacketLaws.{packets-length, packets-joined, packet-at}
+use Rattle.table.specs.Packets.{packets, joined}
+use Rattle.table.specs.Table.{places, size}
+use Rattle.erasure.specs.Largest.{Largest, largest-only}
+use Rattle.erasure.specs.OutcomeLaws.{tally-lost}
+use Rattle.erasure.specs.Restoring.{outcome}
+use Rattle.erasure.specs.Stopping.{isLost, no-lost}
+use Rattle.repair.specs.Repair.{repairRefusal, repairReport, repairBlock, repairMap}
+use Rattle.repair.specs.RepairLaws.{Fitting, map-accepted}
 use Rattle.repair.specs.RepairTheorems.{Agree, Accepted, Repairing, accepted-repair, repairing}
 
--- a stopping set among the lost places of the map
-pub record Within (t map : List ℕ) (S : ℕ → Bool) : Type 0 where
-  pub stopping : Stopping (checks t) S
-  pub lost : (p : ℕ) → S p ≡ true → isLost map p ≡ true
-
--- a place in some such set stays lost; a lost place in none is restored as it was sent
-pub record Restores (t b map w : List ℕ) : Type 0 where
+-- repair of what arrived of the block w, L being the largest stopping set among the lost places
+pub record Restores (t b map w : List ℕ) (L : ℕ → Bool) : Type 0 where
   pub not-refused : repairRefusal t b map ≡ 0
-  pub none-inside : (p : ℕ) (S : ℕ → Bool) → Within t map S → S p ≡ true → getD (repairMap t b map) p 0 ≡ 1
-  pub all-outside : (p : ℕ) → p < places t → getD map p 0 ≡ 1 → ((S : ℕ → Bool) → Within t map S → S p ≡ false)
+  -- lost and not in L: restored, as it was sent
+  pub outside : (p : ℕ) → p < places t → getD map p 0 ≡ 1 → L p ≡ false
       → (getD (repairMap t b map) p 0 ≡ 2) × (partAt (size t) p (repairBlock t b map) ≡ partAt (size t) p w)
+  -- in L: stays lost
+  pub inside : (p : ℕ) → L p ≡ true → getD (repairMap t b map) p 0 ≡ 1
+  -- received: untouched
+  pub received : (p : ℕ) → p < places t → getD map p 0 ≡ 0
+      → (getD (repairMap t b map) p 0 ≡ 0) × (partAt (size t) p (repairBlock t b map) ≡ partAt (size t) p b)
+  -- nothing stays lost: the block that was sent
+  pub whole : repairReport t b map .lost ≡ 0 → repairBlock t b map ≡ w
 
-pub restores : (t b map w : List ℕ) → Fitting t b map → IsCodeword t w → Agree t b map w → Restores t b map w
-restores t b map w fits word agree = record {
-  not-refused = r .not-refused;
-  none-inside = λ p S h e. eqb-true (getD (repairMap t b map) p 0) 1 (a .largest S (h .stopping) (h .lost) p e);
-  all-outside = λ p l e out. let z : isLost (repairMap t b map) p ≡ false = out (isLost (repairMap t b map)) (record { stopping = a .stopping; lost = a .within }) in
-      let two : getD (repairMap t b map) p 0 ≡ 2 = ⊎-elim (λ k. absurd (true≢false (sym (ap (λ x. eqb x 1) k) ∙ z))) (λ k. k) (a .lost p e) in
-      (two, r .values p l (λ k. absurd (true≢false (sym (ap (λ x. eqb x 1) k) ∙ z))));
-}
-  where
-    r : Repairing t b map w
-    r = repairing t b map w fits word agree
+-- two blocks that agree in every packet
+same-packets : (n s : ℕ) (b w : List ℕ) → length b ≡ n * s → length w ≡ n * s → ((p : ℕ) → p < n → partAt s p b ≡ partAt s p w) → b ≡ w
+same-packets n s b w lb lw h = sym (packets-joined s n b lb)
+    ∙ ap joined (ext-getD [] (packets s n b) (packets s n w) (packets-length s n b ∙ sym (packets-length s n w))
+    (λ p l. let q : p < n = omega (arith, packets-length s n b) in packet-at s n b p q ∙ h p q ∙ sym (packet-at s n w p q)))
+    ∙ packets-joined s n w lw
 
-    a : Accepted t b map
-    a = accepted-repair t b map (r .not-refused)
+module _ (t b map w : List ℕ) (fits : Fitting t b map) (word : IsCodeword t w) (agree : Agree t b map w) where
+  r : Repairing t b map w
+  r = repairing t b map w fits word agree
+
+  a : Accepted t b map
+  a = accepted-repair t b map (r .not-refused)
+
+  -- a place that is not lost afterwards
+  found : (p : ℕ) → isLost (repairMap t b map) p ≡ false → getD (repairMap t b map) p 0 ≡ 1 → ⊥
+  found p z k = true≢false (sym (ap (λ x. eqb x 1) k) ∙ z)
+
+  -- where nothing stays lost
+  all-found : repairReport t b map .lost ≡ 0 → (p : ℕ) → isLost (repairMap t b map) p ≡ false
+  all-found h = rw (map-accepted t b map (r .not-refused)) (no-lost (outcome t b map .lost) (sym (tally-lost (outcome t b map .lost)) ∙ (rw (r .not-refused) at h)))
+
+  pub restores : (L : ℕ → Bool) → Largest t map L → Restores t b map w L
+  restores L l = record {
+    not-refused = r .not-refused;
+    outside = λ p k e out. let z : isLost (repairMap t b map) p ≡ false = largest-only t map (isLost (repairMap t b map)) L (a .stays) l p ∙ out in
+        (⊎-elim (λ y. absurd (found p z y)) (λ y. y) (a .lost p e), r .values p k (found p z));
+    inside = λ p e. eqb-true (getD (repairMap t b map) p 0) 1 (largest-only t map (isLost (repairMap t b map)) L (a .stays) l p ∙ e);
+    received = λ p k e. (a .received p k e .1, a .received p k e .0);
+    whole = λ h. same-packets (places t) (size t) (repairBlock t b map) w (a .whole h .size-fits) (word .size-fits) (λ p k. r .values p k (found p (all-found h p)));
+  }

@@ -1,46 +1,50 @@
 -- Verification (document 01, "Repair and the other calls"): "says that the block is a codeword, or gives the lowest check that
 -- fails". Checks are numbered from 0.
-use mathlib.Core.Bool.{true, false}
-use mathlib.Core.List.{List, [], _∷_}
+use mathlib.Core.Bool.{Bool, true, false}
+use mathlib.Core.List.{List, [], _∷_, _++_}
 use mathlib.Core.Option.{Option, none, some}
-use Prim.Native.Nat.{ℕ, suc, _*_}
-use lib.Dec.{eqb}
+use Prim.Native.Nat.{ℕ, zero, suc, _*_}
 use lib.ListN.{length}
 use Rattle.table.specs.Codewords.{zeroSum}
+use Rattle.table.specs.FirstCause.{firstCause, wrongLength}
 use Rattle.table.specs.Packets.{packets}
-use Rattle.table.specs.Table.{places, size, checks, refusal}
+use Rattle.table.specs.Table.{places, size, checks, tableCauses}
 use Rattle.verify.specs.declared.Verified.{Verified}
 use Rattle.verify.specs.declared.Verified.the-variants.{Refused, Codeword, Fails}
+
+-- document 01's number and values of an answer: the refusal, 0 for none; whether the block is a codeword; the lowest check that
+-- fails, if one does
+pub record Values : Type 0 where
+  pub refusal : ℕ
+  pub codeword : Bool
+  pub check : Option ℕ
+
+abbrev pub valuesOf : Verified → Values
+valuesOf (Refused r) = record { refusal = r; codeword = false; check = none }
+valuesOf Codeword = record { refusal = 0; codeword = true; check = none }
+valuesOf (Fails k) = record { refusal = 0; codeword = false; check = some k }
+
+-- ---- the call: table t and block b of any length and content
+-- the causes in their order, 1 to 5; 5: the block isn't n·s bytes
+abbrev pub verifyCauses : List ℕ → List ℕ → List (Bool × ℕ)
+verifyCauses t b = tableCauses t ++ ((wrongLength (length b) (places t * size t), 5) ∷ [])
+
+unfoldable pub verifyRefusal : List ℕ → List ℕ → ℕ
+verifyRefusal t b = firstCause (verifyCauses t b)
 
 -- the number of the lowest check that fails, counted from i
 abbrev pub failing : ℕ → List (List ℕ) → ℕ → List (List ℕ) → Option ℕ
 failing s b i [] = none
 failing s b i (c ∷ cs) = elim (zeroSum s b c) [ true ↦ failing s b (suc i) cs | false ↦ some i ]
 
-abbrev pub verdict : Option ℕ → Verified
-verdict none = Codeword
-verdict (some k) = Fails k
+abbrev pub verdict : Option ℕ → Values
+verdict none = valuesOf Codeword
+verdict (some k) = valuesOf (Fails k)
 
--- the first cause that holds, 1 to 4 and then 5, or the verdict
-unfoldable pub verification : List ℕ → List ℕ → Verified
-verification t b =
-    elim (eqb (refusal t) 0) [
-      | false ↦ Refused (refusal t)
-      | true ↦
-          elim (eqb (length b) (places t * size t)) [
-            | false ↦ Refused 5
-            | true ↦
-                verdict (failing (size t) (packets (size t) (places t) b) 0 (checks t))
-          ]
-    ]
+-- by the refusal's number, 0 for none
+abbrev pub verdictAt : ℕ → Option ℕ → Values
+verdictAt zero v = verdict v
+verdictAt (suc r) v = valuesOf (Refused (suc r))
 
--- document 01's number and values of an answer: the refusal, 0 for none; 1 for a codeword; the check that fails
-pub record Values : Type 0 where
-  pub refusal : ℕ
-  pub codeword : ℕ
-  pub check : ℕ
-
-abbrev pub valuesOf : Verified → Values
-valuesOf (Refused r) = record { refusal = r; codeword = 0; check = 0 }
-valuesOf Codeword = record { refusal = 0; codeword = 1; check = 0 }
-valuesOf (Fails k) = record { refusal = 0; codeword = 0; check = k }
+abbrev pub verification : List ℕ → List ℕ → Values
+verification t b = verdictAt (verifyRefusal t b) (failing (size t) (packets (size t) (places t) b) 0 (checks t))

@@ -1,22 +1,24 @@
 -- Verification passes a block if and only if every check sums to zero, and else gives the lowest that fails.
 use mathlib.Core.Path.{_≡_, refl, sym, ap, _∙_}
-use mathlib.Core.Bool.{Bool, true, false, true≢false}
+use mathlib.Core.Bool.{Bool, true, false, true≢false, false≢true}
 use mathlib.Core.List.{List, [], _∷_}
 use mathlib.Core.Logic.{_≢_}
 use mathlib.Core.Option.{Option, none, some}
 use Prim.Native.Nat.{ℕ, zero, suc, _+_, _*_, _<_}
 use native.Mathlib.Omega.{arith}
+use borrow.Author.Tests.{eq-eqb, ne-eqb, not-false}
 use lib.Dec.{eqb}
 use lib.ListN.{length, getD, take, replicate}
-use Rattle.gf2.specs.Bit.{eqb-true, eqb-self}
-use Rattle.table.specs.Codewords.{zeroSum, zero-sound, zero-complete}
-use Rattle.table.specs.Packets.{packets, packetSum}
-use Rattle.table.specs.Table.{places, size, checks, refusal}
-use Rattle.verify.specs.Verify.{failing, verdict, verification}
-use Rattle.verify.specs.declared.Verified.{Verified}
-use Rattle.verify.specs.declared.Verified.the-variants.{Refused}
+use Rattle.gf2.specs.Bit.{eqb-true}
 use Rattle.gf2.specs.Span.{byBool}
 use Rattle.gf2.specs.Width.{All, All.nil, All.cons}
+use Rattle.table.specs.Codewords.{zeroSum, zero-sound, zero-complete}
+use Rattle.table.specs.FirstCause.{firstCause, wrongLength, NoneHolds, none-holds, none-refuses, first-decides, rest-decides}
+use Rattle.table.specs.Packets.{packets, packetSum}
+use Rattle.table.specs.Table.{places, size, checks, tableCauses, refusal}
+use Rattle.verify.specs.Verify.{Values, valuesOf, verifyRefusal, failing, verdict, verdictAt, verification}
+use Rattle.verify.specs.declared.Verified.{Verified}
+use Rattle.verify.specs.declared.Verified.the-variants.{Refused, Codeword, Fails}
 
 -- none fails if and only if every check sums to zero
 pub verify-sound : (s : ℕ) (b : List (List ℕ)) (i : ℕ) (cs : List (List ℕ)) → failing s b i cs ≡ none → All (λ c. packetSum s b c ≡ replicate s 0) cs
@@ -47,42 +49,66 @@ verify-lowest s b i (c ∷ cs) k h = byBool (zeroSum s b c)
     inj p = cc
 
 -- ---- the call by cases
-abbrev answers : ℕ → Bool → Bool → Option ℕ → Verified
-answers r table block v = elim table [ false ↦ Refused r | true ↦ elim block [ false ↦ Refused 5 | true ↦ verdict v ] ]
+module _ (t b : List ℕ) where
+  -- what the checks say
+  abbrev pub lowest : Option ℕ
+  lowest = failing (size t) (packets (size t) (places t) b) 0 (checks t)
 
-by-answers : (t b : List ℕ) → verification t b ≡ answers (refusal t) (eqb (refusal t) 0) (eqb (length b) (places t * size t)) (failing (size t) (packets (size t) (places t) b) 0 (checks t))
-unfolding verification
-by-answers t b = refl
+  -- the causes beyond the table's
+  abbrev own : List (Bool × ℕ)
+  own = (wrongLength (length b) (places t * size t), 5) ∷ []
 
--- a verdict is given only where nothing refuses
-judged : (r : ℕ) (a b : Bool) (v : Option ℕ) (x : Verified) → answers r a b v ≡ x → ((q : ℕ) → x ≡ Refused q → ⊥) → (a ≡ true) × ((b ≡ true) × (verdict v ≡ x))
-judged r false b v x h k = absurd (k r (sym h))
-judged r true false v x h k = absurd (k 5 (sym h))
-judged r true true v x h k = (refl, (refl, h))
+  at-length : refusal t ≡ 0 → verifyRefusal t b ≡ firstCause own
+  unfolding verifyRefusal
+  at-length ok = rest-decides (none-holds (tableCauses t) refl ok) own
 
--- the verdict of a call that is not refused
-pub verification-is : (t b : List ℕ) → refusal t ≡ 0 → length b ≡ places t * size t → verification t b ≡ verdict (failing (size t) (packets (size t) (places t) b) 0 (checks t))
-verification-is t b ok l =
-    let e1 : eqb (refusal t) 0 ≡ true = ap (λ x. eqb x 0) ok in
-    let e2 : eqb (length b) (places t * size t) ≡ true = ap (λ x. eqb x (places t * size t)) l ∙ eqb-self (places t * size t) in
-    by-answers t b ∙ rw (e1, e2)
+  says : {r : ℕ} → verifyRefusal t b ≡ r → verification t b ≡ verdictAt r lowest
+  says e = ap (λ (r : ℕ). verdictAt r lowest) e
 
--- a table that is refused
-pub verification-refused : (t b : List ℕ) → refusal t ≢ 0 → verification t b ≡ Refused (refusal t)
-verification-refused t b ne =
-    let e : eqb (refusal t) 0 ≡ false = byBool (eqb (refusal t) 0) (λ z. absurd (ne (eqb-true (refusal t) 0 z))) (λ z. z) in
-    by-answers t b ∙ rw e
+  -- a table that is refused
+  pub verification-refused : refusal t ≢ 0 → verification t b ≡ valuesOf (Refused (refusal t))
+  unfolding verifyRefusal
+  verification-refused ne = says (first-decides (tableCauses t) own ne) ∙ refused (refusal t) ne
+    where
+      refused : (r : ℕ) → r ≢ 0 → verdictAt r lowest ≡ valuesOf (Refused r)
+      refused zero z = absurd (z refl)
+      refused (suc r) z = refl
 
--- a block of another length
-pub verification-short : (t b : List ℕ) → refusal t ≡ 0 → length b ≢ places t * size t → verification t b ≡ Refused 5
-verification-short t b ok ne =
-    let e1 : eqb (refusal t) 0 ≡ true = ap (λ x. eqb x 0) ok in
-    let e2 : eqb (length b) (places t * size t) ≡ false = byBool (eqb (length b) (places t * size t)) (λ z. absurd (ne (eqb-true _ _ z))) (λ z. z) in
-    by-answers t b ∙ rw (e1, e2)
+  -- a block of another length
+  pub verification-short : refusal t ≡ 0 → length b ≢ places t * size t → verification t b ≡ valuesOf (Refused 5)
+  verification-short ok ne = let five : firstCause own ≡ 5 = rw (ne-eqb (length b) (places t * size t) ne) in says (at-length ok ∙ five)
 
--- and the other way: a verdict says that nothing refuses
-pub verification-judged : (t b : List ℕ) (x : Verified) → verification t b ≡ x → ((q : ℕ) → x ≡ Refused q → ⊥)
-    → (refusal t ≡ 0) × ((length b ≡ places t * size t) × (verdict (failing (size t) (packets (size t) (places t) b) 0 (checks t)) ≡ x))
-verification-judged t b x h k =
-    let r = judged (refusal t) (eqb (refusal t) 0) (eqb (length b) (places t * size t)) (failing (size t) (packets (size t) (places t) b) 0 (checks t)) x (sym (by-answers t b) ∙ h) k in
-    (eqb-true (refusal t) 0 (r .0), (eqb-true (length b) (places t * size t) (r .1 .0), r .1 .1))
+  -- the verdict of a call that is not refused
+  pub verification-is : refusal t ≡ 0 → length b ≡ places t * size t → verification t b ≡ verdict lowest
+  verification-is ok l = let none : firstCause own ≡ 0 = rw (eq-eqb (length b) (places t * size t) l) in says (at-length ok ∙ none)
+
+  -- and the other way: a verdict says that nothing refuses
+  pub not-refused : verifyRefusal t b ≡ 0 → (refusal t ≡ 0) × (length b ≡ places t * size t)
+  unfolding verifyRefusal
+  not-refused h = let r = none-refuses (tableCauses t) refl own h in (r .0, right (none-holds own refl (r .1)))
+    where
+      right : NoneHolds own → length b ≡ places t * size t
+      right (cons e n) = eqb-true (length b) (places t * size t) (not-false (eqb (length b) (places t * size t)) e)
+
+-- the verdict that the values tell
+pub passed-at : (r : ℕ) (v : Option ℕ) → verdictAt r v .codeword ≡ true → (r ≡ 0) × (v ≡ none)
+passed-at zero none h = (refl, refl)
+passed-at zero (some k) h = absurd (false≢true h)
+passed-at (suc r) v h = absurd (false≢true h)
+
+pub failed-at : (r : ℕ) (v : Option ℕ) (k : ℕ) → verdictAt r v .check ≡ some k → (r ≡ 0) × (v ≡ some k)
+failed-at zero none k h = absurd (let z : _≡_ {A = ℕ} 0 1 = cc in omega arith)
+failed-at zero (some j) k h = (refl, h)
+failed-at (suc r) v k h = absurd (let z : _≡_ {A = ℕ} 0 1 = cc in omega arith)
+
+-- no two answers have the same values
+pub values-tell : (a b : Verified) → valuesOf a ≡ valuesOf b → a ≡ b
+values-tell (Refused r) (Refused q) h = ap (λ x. Refused (x .refusal)) h
+values-tell (Refused r) Codeword h = absurd (false≢true (ap (λ x. x .codeword) h))
+values-tell (Refused r) (Fails k) h = let e = ap (λ x. x .check) h in cc
+values-tell Codeword (Refused q) h = absurd (true≢false (ap (λ x. x .codeword) h))
+values-tell Codeword Codeword h = refl
+values-tell Codeword (Fails k) h = absurd (true≢false (ap (λ x. x .codeword) h))
+values-tell (Fails j) (Refused q) h = let e = ap (λ x. x .check) h in cc
+values-tell (Fails j) Codeword h = absurd (false≢true (ap (λ x. x .codeword) h))
+values-tell (Fails j) (Fails k) h = let e = ap (λ x. x .check) h in cc

@@ -6,7 +6,7 @@ ghost use lib.ListN.{length};
 ghost use Rattle.table.specs.Packets.{packets};
 ghost use Rattle.table.specs.Table.{checks};
 ghost use Rattle.table.specs.TableUse.{TableOf};
-ghost use Rattle.verify.specs.Verify.{failing, verdict, verification};
+ghost use Rattle.verify.specs.Verify.{valuesOf, failing, verdict, verification};
 
 // What verification says: a refusal, a codeword, or the lowest check that fails.
 pub enum Verified {
@@ -18,7 +18,7 @@ pub enum Verified {
 // what the m checks say of the block
 fn look_at_checks(t: &[u16], m: usize, n: usize, s: usize, block: &[u8]) -> Verified
     requires { ⌜ TableOf (now t) m n s × (length (now block) ≡ n * s) ⌝ }
-    ensures { λ r. ⌜ r ≡ verdict (failing s (packets s n (now (block .entry))) 0 (checks (now (t .entry)))) ⌝ }
+    ensures { λ r. ⌜ valuesOf r ≡ verdict (failing s (packets s n (now (block .entry))) 0 (checks (now (t .entry)))) ⌝ }
 {
     let mut at = 5 + m;
     let mut j = 0;
@@ -36,7 +36,7 @@ fn look_at_checks(t: &[u16], m: usize, n: usize, s: usize, block: &[u8]) -> Veri
 
 // Whether the block is a codeword, or the lowest check that fails.
 pub fn verify(t: &[u16], block: &[u8]) -> Verified
-    ensures { λ r. ⌜ r ≡ verification (now (t .entry)) (now (block .entry)) ⌝ }
+    ensures { λ r. ⌜ valuesOf r ≡ verification (now (t .entry)) (now (block .entry)) ⌝ }
 {
     let refusal = table::look_over(t);
     if refusal != 0 {

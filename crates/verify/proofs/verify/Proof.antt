@@ -1,4 +1,5 @@
 -- `verify::verify` meets its contract.
+use Rattle.verify.specs.Verify.{valuesOf}
 use Rattle.verify.specs.VerifyLaws.{verification-is, verification-refused, verification-short}
 use Rattle.verify.specs.declared.Verified.the-variants.{Refused}
 use Rattle.table.specs.TableUse.{table-of, words, block-small}
@@ -15,7 +16,7 @@ look-over-requires c κs = search needs
 returns : tie.Need-returns
 returns c =
     let e = c .before .look-over .ensures in
-    ap Refused e ∙ sym (verification-refused (c .before .before .before .before .args .t .now) (c .before .before .before .before .args .block .now) (λ z. c .if1 .taken (e ∙ z)))
+    ap (λ r. valuesOf (Refused r)) e ∙ sym (verification-refused (c .before .before .before .before .args .t .now) (c .before .before .before .before .args .block .now) (λ z. c .if1 .taken (e ∙ z)))
 
 shared-slice-read-wide : tie.Need-shared-slice-read-wide
 shared-slice-read-wide c = omega (arith, words (c .before .before .before .before .before .args .t .now) _ (c .before .before .look-over .ensures) (c .before .if1 .left))

@@ -1,0 +1,45 @@
+-- The causes of the planner in their order, and what an accepted planning tells.
+use mathlib.Core.Path.{_≡_, refl, sym, ap, _∙_}
+use mathlib.Core.Bool.{Bool, true, false, cond}
+use mathlib.Core.List.{List, [], _∷_}
+use Prim.Native.Nat.{ℕ, _≤_, _<_}
+use borrow.Author.Tests.{eq-eqb, ne-eqb, ltb-false, le-ltb, lt-ltb}
+use lib.Dec.{ltb}
+use Rattle.gf2.specs.Width.{All.cons}
+use Rattle.table.specs.FirstCause.{firstCause, NoneHolds, none-holds, none-refuses, first-decides, rest-decides}
+use Rattle.table.specs.Table.{tableCauses, refusal}
+use Rattle.plan.specs.Layout.{mostAside}
+use Rattle.rule.specs.Rule.{Plan}
+use Rattle.planner.specs.Planning.{leastPlan, workWords, planOf, wrongLengths, tooManyAside, planningRefusal}
+
+module _ (t : List ℕ) (planLength workLength : ℕ) where
+  -- the causes beyond the table's
+  abbrev own : List (Bool × ℕ)
+  own = (wrongLengths planLength workLength, 5) ∷ (tooManyAside t, 6) ∷ []
+
+  pub table-refused : (refusal t ≡ 0 → ⊥) → planningRefusal t planLength workLength ≡ refusal t
+  unfolding planningRefusal
+  table-refused h = first-decides (tableCauses t) own h
+
+  -- once the table is accepted
+  at-own : refusal t ≡ 0 → planningRefusal t planLength workLength ≡ firstCause own
+  unfolding planningRefusal
+  at-own ok = rest-decides (none-holds (tableCauses t) refl ok) own
+
+  pub plan-short : refusal t ≡ 0 → planLength < leastPlan → planningRefusal t planLength workLength ≡ 5
+  plan-short ok h = at-own ok ∙ rw (lt-ltb planLength leastPlan h)
+
+  pub work-wrong : refusal t ≡ 0 → leastPlan ≤ planLength → (workLength ≡ workWords → ⊥) → planningRefusal t planLength workLength ≡ 5
+  work-wrong ok h k = at-own ok ∙ rw (le-ltb planLength leastPlan h, ne-eqb workLength workWords k)
+
+  -- what is left then is 6 or nothing
+  pub gap-decides : (x : Bool) → refusal t ≡ 0 → leastPlan ≤ planLength → workLength ≡ workWords → tooManyAside t ≡ x → planningRefusal t planLength workLength ≡ cond x 6 0
+  gap-decides x ok h k e = at-own ok ∙ rw (le-ltb planLength leastPlan h, eq-eqb workLength workWords k) (ap (λ (y : Bool). cond y 6 0) e)
+
+  -- an accepted planning
+  pub accepted-planning : planningRefusal t planLength workLength ≡ 0 → (refusal t ≡ 0) × (planOf t .g ≤ mostAside)
+  unfolding planningRefusal
+  accepted-planning h = let r = none-refuses (tableCauses t) refl own h in (r .0, few (none-holds own refl (r .1)))
+    where
+      few : NoneHolds own → planOf t .g ≤ mostAside
+      few (cons w (cons a n)) = ltb-false mostAside (planOf t .g) a
