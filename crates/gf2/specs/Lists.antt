@@ -7,7 +7,7 @@ use Prim.Native.Nat.{ℕ, zero, suc, _+_, _-_, _<_, _≤_}
 use native.Mathlib.Omega.{arith}
 use lib.Dec.{eqb}
 use lib.ListN.{length, getD, set, replicate}
-use Rattle.gf2.specs.Bit.{eqb-true}
+use Rattle.gf2.specs.Bit.{eqb-true, eqb-false}
 use Rattle.gf2.specs.Fit.{below}
 use Rattle.gf2.specs.Places.{has, par, has-par, filter}
 use Rattle.gf2.specs.Span.{byBool}
@@ -84,6 +84,15 @@ highest-is (suc n) f p h = byBool (f n)
   where
     some-inj : {a b : ℕ} → _≡_ {A = Option ℕ} (some a) (some b) → a ≡ b
     some-inj e = cc
+
+pub highest-none : (n : ℕ) (f : ℕ → Bool) → highest n f ≡ none → (i : ℕ) → i < n → f i ≡ false
+highest-none zero f e i h = absurd (omega arith)
+highest-none (suc n) f e i h = byBool (f n)
+    (λ t. absurd (clash (rw (t, highest) at e)))
+    (λ t. byBool (eqb i n) (λ k. ap f (eqb-true i n k) ∙ t) (λ k. let q = eqb-false i n k in highest-none n f (rw (t, highest) at e) i (omega arith)))
+  where
+    clash : _≡_ {A = Option ℕ} (some n) none → ⊥
+    clash p = let z : _≡_ {A = ℕ} 0 1 = cc in omega arith
 
 abbrev pub allPass : {X : Type 0} → (X → Bool) → List X → Bool
 allPass f [] = true

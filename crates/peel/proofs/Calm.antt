@@ -10,8 +10,7 @@ use lib.Seq.{getD-take, getD-drop}
 use lib.Dec.{eqb, ltb}
 use borrow.Author.Tests.{eq-eqb, ltb-true, ltb-false}
 use Rattle.gf2.specs.Bit.{eqb-true, eqb-false}
-use Rattle.gf2.specs.Elim.{highest-none}
-use Rattle.gf2.specs.Lists.{highest}
+use Rattle.gf2.specs.Lists.{highest, highest-none}
 use Rattle.gf2.specs.Places.{has}
 use Rattle.gf2.specs.Span.{byBool}
 use Rattle.rule.specs.Rule.{inOneOnly}

@@ -11,8 +11,8 @@ use Rattle.table.specs.ChecksLaws.{checks-are, check-length, valid, each-check}
 use Rattle.table.specs.Table.{number, places, checks, ones, total, refusal}
 use Rattle.rule.specs.Buffers.{Chosen, peeling, solved}
 use Rattle.rule.specs.Rule.{kept, peel, solvedOf, setAsideOf, PeelEvent}
-use Rattle.rows.specs.Row.{keptOf, Kept}
-use Rattle.rows.proofs.Link.{kept-numbers}
+use Rattle.keep.specs.Kept.{keptOf, Kept}
+use Rattle.peel.proofs.KeptNumbers.{kept-numbers}
 use Rattle.peel.specs.Choice.{ChoiceOf}
 use Rattle.peel.specs.Turn.{weight, Numbers, Peeled}
 use Rattle.peel.proofs.First.{kept-all, kept-few}

@@ -19,7 +19,7 @@ use Rattle.gf2.specs.Width.{All, All.nil, All.cons, all-map}
 use Rattle.table.specs.Checks.{check, from, offset, Checks}
 use Rattle.table.specs.Table.{total}
 use Rattle.rule.specs.Rule.{count}
-use Rattle.rows.specs.Row.{keptOf}
+use Rattle.keep.specs.Kept.{keptOf}
 use Rattle.live.specs.Live.{Tally, Noted}
 use Rattle.live.proofs.Laws.{tally-more}
 use Rattle.peel.specs.Turn.{lives, weight, Ready, Numbers, Zeros, Entered, First, Peeled}

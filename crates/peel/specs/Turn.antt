@@ -12,7 +12,7 @@ use Rattle.table.specs.Checks.{check, offset, Places}
 use Rattle.rule.specs.Rule.{Solved, count, inOneOnly, first, without, heaviest, greatest, peel, solvedOf, setAsideOf}
 use Rattle.gf2.specs.Places.{has}
 use Rattle.live.specs.Live.{Tally, Noted}
-use Rattle.rows.specs.Row.{keptOf}
+use Rattle.keep.specs.Kept.{keptOf}
 use Rattle.peel.specs.declared.Event.{Event}
 use Rattle.peel.specs.declared.Event.the-variants.{Took, Aside}
 

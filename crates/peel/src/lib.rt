@@ -6,7 +6,7 @@ ghost use lib.ListN.{length, getD, take, drop, replicate};
 ghost use Rattle.table.specs.Checks.{check, offset, Checks, Starts};
 ghost use mathlib.Core.List.{map};
 ghost use Rattle.table.specs.Table.{total, number, places, refusal};
-ghost use Rattle.rows.specs.Row.{keptOf};
+ghost use Rattle.keep.specs.Kept.{keptOf};
 ghost use Rattle.live.specs.Live.{Calm};
 ghost use Rattle.peel.specs.Choice.{ChoiceOf};
 ghost use Rattle.peel.specs.Turn.{lives, less, heaviestFrom, weight, In, Ready, Picked, Removed, Peeled, Numbers, Zeros, Entered, First};
@@ -264,7 +264,7 @@ pub fn choose_checks(
     ensures { λ r. ⌜ ChoiceOf (now (t .entry)) (now (order .exit)) (now (owns .exit)) (now (aside .exit)) (r .kept) (r .ones) (r .taken) (r .aside) × (now (work .exit) ≡ replicate 8192 0) ⌝ }
 {
     let mut ids = [0u16; 512];
-    let k = rows::keep_checks(t, m, n, work, &mut ids);
+    let k = keep::keep_checks(t, m, n, work, &mut ids);
     let ones = ones_of(t, m, &ids, k);
     let c = peel_kept(t, m, n, starts, &ids, k, order, owns, aside);
     Choice {

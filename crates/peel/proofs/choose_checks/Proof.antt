@@ -13,7 +13,6 @@ use Rattle.peel.proofs.choose_checks.Reads as reads
 use Rattle.peel.proofs.choose_checks.Lts as lts
 use Rattle.peel.proofs.ones_of.Reads as ones-of-reads
 use Rattle.peel.proofs.peel_kept.Reads as peel-kept-reads
-use Rattle.rows.proofs.keep_checks.Reads as keep-checks-reads
 
 -- src/lib.rt:240:46
 slice-aggregate-keep-checks : tie.Need-slice-aggregate-keep-checks

@@ -1,5 +1,5 @@
 use Rattle.table.specs.Table.{total}
-use Rattle.rows.specs.Row.{keptOf}
+use Rattle.keep.specs.Kept.{keptOf}
 use Rattle.peel.specs.Turn.{weight}
 use Rattle.peel.proofs.First.{ones-start, ones-turn, number-at, number-low, numbers-room}
 use Prim.Native.Nat.{ℕ, zero, suc, _+_, _-_, _*_, _/_, _%_, _^_, _≤_, _<_}
