@@ -1,2 +1,3 @@
 pub mod Row
 pub mod RowLaws
+pub mod Front

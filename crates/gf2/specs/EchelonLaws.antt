@@ -1,7 +1,7 @@
 -- Laws of rows by their highest places: a row reduced from its highest place down is zero just if it is the sum of some of the rows.
 use mathlib.Core.Path.{_≡_, refl, sym, ap, ap₂, _∙_, subst}
 use mathlib.Core.Bool.{Bool, true, false, _||_, true≢false, false≢true}
-use mathlib.Core.List.{List, [], _∷_}
+use mathlib.Core.List.{List, [], _∷_, _++_, append-assoc}
 use Prim.Native.Nat.{ℕ, zero, suc, _+_, _-_, _^_, _<_, _≤_}
 use native.Mathlib.Omega.{arith}
 use lib.Bits.{bitXor, xor-lt, xor-zero-l}
@@ -11,13 +11,13 @@ use lib.Pow.{pow-lt, pow-pos, pow-mono}
 use lib.Seq.{getD-drop, getD-take}
 use borrow.Author.Tests.{ltb-true, ltb-false}
 use Rattle.gf2.specs.Bit.{bit, bit-adds, bit-zero, bit-high, eqb-true, eqb-false}
-use Rattle.gf2.specs.Echelon.{Short, Bits, Lead, rowsOf, sums, down}
+use Rattle.gf2.specs.Echelon.{Short, Bits, Lead, rowsOf, sums, down, path}
 use Rattle.gf2.specs.Fit.{isZero, isZero-sound}
-use Rattle.gf2.specs.Group.{XorGroup, bxor, cancel-mid, cancel-r, left-comm}
+use Rattle.gf2.specs.Group.{XorGroup, bxor, sumOver, zr, cancel-mid, cancel-r, left-comm}
 use Rattle.gf2.specs.Lists.{below-of, map-all}
 use Rattle.gf2.specs.Places.{rowOf}
 use Rattle.gf2.specs.Span.{byBool, Span, span-zero, span-add, span-head, span-tail, isSum-sound, isSum-complete}
-use Rattle.gf2.specs.Width.{All, All.nil, All.cons}
+use Rattle.gf2.specs.Width.{All, All.nil, All.cons, all-map}
 
 -- ---- a row that has no place from l on
 pub short-more : {l k x : ℕ} → Short l x → l ≤ k → Short k x
@@ -118,28 +118,80 @@ down-in f (suc p) x = byBool (bit p x)
     (span-add XorGroup (span-tail XorGroup (down-in f p (bitXor (f p) x))) (subst (Span XorGroup (rowsOf f (suc p))) (sym (cancel-r XorGroup (f p) x)) (span-head XorGroup))))))
     (λ b. rw (b, down) (span-tail XorGroup (down-in f p x)))
 
+-- .. the sum of those that lead the places of the path
+pub down-path : (f : ℕ → ℕ) (n x : ℕ) → down f n x ≡ bitXor x (sumOver XorGroup f (path f n x))
+unfolding down path
+down-path f zero x = sym (zr XorGroup x)
+down-path f (suc p) x = byBool (bit p x)
+    (λ b. byBool (isZero (f p))
+    (λ z. rw (b, down, path, z) (sym (zr XorGroup x)))
+    (λ z. rw (b, down, path, z) (down-path f p (bitXor (f p) x) ∙ XorGroup .assoc (f p) x _ ∙ left-comm XorGroup (f p) x _)))
+    (λ b. rw (b, down, path) (down-path f p x))
+
+-- the places of the path lead rows and lie below n
+pub path-leads : (f : ℕ → ℕ) (n x : ℕ) → All (λ q. isZero (f q) ≡ false) (path f n x)
+unfolding path
+path-leads f zero x = nil
+path-leads f (suc p) x = byBool (bit p x)
+    (λ b. byBool (isZero (f p))
+    (λ z. rw (b, path, z) nil)
+    (λ z. rw (b, path, z) (cons z (path-leads f p (bitXor (f p) x)))))
+    (λ b. rw (b, path) (path-leads f p x))
+
+pub path-low : (f : ℕ → ℕ) (n x : ℕ) → All (λ q. q < n) (path f n x)
+unfolding path
+path-low f zero x = nil
+path-low f (suc p) x = byBool (bit p x)
+    (λ b. byBool (isZero (f p))
+    (λ z. rw (b, path, z) nil)
+    (λ z. rw (b, path, z) (cons {x = p} (omega arith) (all-map (λ q l. less q l) (path-low f p (bitXor (f p) x))))))
+    (λ b. rw (b, path) (all-map (λ q l. less q l) (path-low f p x)))
+  where
+    less : (q : ℕ) → q < p → q < suc p
+    less q l = omega arith
+
+-- ---- on the way from place n down to place l: x becomes y, and ps is the path so far
+pub record Passed (f : ℕ → ℕ) (n x l y : ℕ) (ps : List ℕ) : Type 0 where
+  pub row : down f n x ≡ down f l y
+  pub way : path f n x ≡ ps ++ path f l y
+
+pub passed-then : {f : ℕ → ℕ} {n x m y l z : ℕ} {ps qs : List ℕ} → Passed f n x m y ps → Passed f m y l z qs → Passed f n x l z (ps ++ qs)
+passed-then {f} {l = l} {z = z} {ps = ps} {qs = qs} a b = record { row = a .row ∙ b .row; way = a .way ∙ ap (λ r. ps ++ r) (b .way) ∙ sym (append-assoc ps qs (path f l z)) }
+
 -- places that x does not have are passed over
-pub down-skip : (f : ℕ → ℕ) (x l n : ℕ) → l ≤ n → Short l x → down f n x ≡ down f l x
-unfolding down
-down-skip f x l zero h s = let e : l ≡ 0 = omega arith in rw e
-down-skip f x l (suc n) h s = byBool (eqb l (suc n))
-    (λ k. let e : l ≡ suc n = eqb-true l (suc n) k in rw e)
-    (λ k. let e = eqb-false l (suc n) k in rw (s .above n (omega arith), down) (down-skip f x l n (omega arith) s))
+pub passed-skip : (f : ℕ → ℕ) (x l n : ℕ) → l ≤ n → Short l x → Passed f n x l x []
+unfolding down path
+passed-skip f x l zero h s = let e : l ≡ 0 = omega arith in record { row = rw e; way = rw e }
+passed-skip f x l (suc n) h s = byBool (eqb l (suc n))
+    (λ k. let e : l ≡ suc n = eqb-true l (suc n) k in record { row = rw e; way = rw e })
+    (λ k. let e = eqb-false l (suc n) k in
+    let b = s .above n (omega arith) in
+    let r = passed-skip f x l n (omega arith) s in
+    record { row = rw (b, down) (r .row); way = rw (b, path) (r .way) })
 
--- a row that has the highest place is added; where none has it, the end
-pub down-step : (f : ℕ → ℕ) (x l : ℕ) → 0 < l → bit (l - 1) x ≡ true → isZero (f (l - 1)) ≡ false → down f l x ≡ down f (l - 1) (bitXor (f (l - 1)) x)
-unfolding down
-down-step f x zero h b z = absurd (omega arith)
-down-step f x (suc p) h b z = let e : suc p - 1 ≡ p = omega arith in rw (e, rw e at b, down, rw e at z)
+-- a row that leads the highest place is added
+pub passed-step : (f : ℕ → ℕ) (x l : ℕ) → 0 < l → bit (l - 1) x ≡ true → isZero (f (l - 1)) ≡ false → Passed f l x (l - 1) (bitXor (f (l - 1)) x) ((l - 1) ∷ [])
+unfolding down path
+passed-step f x zero h b z = absurd (omega arith)
+passed-step f x (suc p) h b z =
+    let e : suc p - 1 ≡ p = omega arith in
+    record { row = rw (e, rw e at b, down, rw e at z); way = rw (e, rw e at b, path, rw e at z) }
 
-pub down-stop : (f : ℕ → ℕ) (x l : ℕ) → 0 < l → bit (l - 1) x ≡ true → isZero (f (l - 1)) ≡ true → down f l x ≡ x
-unfolding down
-down-stop f x zero h b z = absurd (omega arith)
-down-stop f x (suc p) h b z = let e : suc p - 1 ≡ p = omega arith in rw (rw e at b, down, rw e at z)
+-- the end: no row leads the highest place, or there is none
+pub record Ended (f : ℕ → ℕ) (l x : ℕ) : Type 0 where
+  pub row : down f l x ≡ x
+  pub way : path f l x ≡ []
 
-pub down-zero : (f : ℕ → ℕ) (x : ℕ) → down f 0 x ≡ x
-unfolding down
-down-zero f x = refl
+pub ended-stop : (f : ℕ → ℕ) (x l : ℕ) → 0 < l → bit (l - 1) x ≡ true → isZero (f (l - 1)) ≡ true → Ended f l x
+unfolding down path
+ended-stop f x zero h b z = absurd (omega arith)
+ended-stop f x (suc p) h b z =
+    let e : suc p - 1 ≡ p = omega arith in
+    record { row = rw (rw e at b, down, rw e at z); way = rw (rw e at b, path, rw e at z) }
+
+pub ended-zero : (f : ℕ → ℕ) (x : ℕ) → Ended f 0 x
+unfolding down path
+ended-zero f x = record { row = refl; way = refl }
 
 -- ---- one row more
 or-four : (a b c d : Bool) → ((a || b) || (c || d)) ≡ ((a || c) || (b || d))

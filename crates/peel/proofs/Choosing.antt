@@ -11,13 +11,14 @@ use Rattle.table.specs.ChecksLaws.{checks-are, check-length, valid, each-check}
 use Rattle.table.specs.Table.{number, places, checks, ones, total, refusal}
 use Rattle.rule.specs.Buffers.{Chosen, peeling, solved}
 use Rattle.rule.specs.Rule.{kept, peel, solvedOf, setAsideOf, PeelEvent}
-use Rattle.keep.specs.Kept.{keptOf, Kept}
+use Rattle.bits.specs.Front.{Front}
+use Rattle.keep.specs.Kept.{keptOf}
 use Rattle.peel.proofs.KeptNumbers.{kept-numbers}
 use Rattle.peel.specs.Choice.{ChoiceOf}
 use Rattle.peel.specs.Turn.{weight, Numbers, Peeled}
 use Rattle.peel.proofs.First.{kept-all, kept-few}
 
-pub numbers-of : {t : List ℕ} {m : ℕ} {ids e : List ℕ} {r : ℕ} → Kept t m ids e r → Numbers t m e r
+pub numbers-of : {t : List ℕ} {m : ℕ} {ids e : List ℕ} {r : ℕ} → Front (keptOf t m) ids e r → Numbers t m e r
 numbers-of {t} {m} {ids} {e} {r} k = record {
   count = k .count;
   list = ap₂ (λ (i : ℕ) (l : List ℕ). take i l) (k .count) (k .list) ∙ take-append-seam (keptOf t m) (drop (length (keptOf t m)) ids);

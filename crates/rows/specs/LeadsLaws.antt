@@ -39,7 +39,7 @@ owners-lead {w} {owner} o = record {
 -- a change of row k is not seen
 module _ {w owner e : List ℕ} {k y : ℕ} (o : Owners w owner k) (d : RowPut w k y e) where
   pub row-named : (p : ℕ) → 0 < getD owner p 0 → row e (getD owner p 0 - 1) ≡ row w (getD owner p 0 - 1)
-  row-named p h = let f = o .few p in row-other d (getD owner p 0 - 1) (λ (q : getD owner p 0 - 1 ≡ k). omega arith)
+  row-named p h = row-other d (getD owner p 0 - 1) (λ (q : getD owner p 0 - 1 ≡ k). o .apart p (omega arith))
 
   pub leads-kept : leads e owner ≡ leads w owner
   leads-kept = fun-ext (λ p. named (getD owner p 0)
@@ -47,7 +47,7 @@ module _ {w owner e : List ℕ} {k y : ℕ} (o : Owners w owner k) (d : RowPut w
       (λ z. leads-at e owner p z ∙ row-named p z ∙ sym (leads-at w owner p z)))
 
   pub owners-kept : Owners e owner k
-  owners-kept = record { few = o .few; lead = λ p h. subst (λ (x : ℕ). Bits x (p + 1)) (sym (row-named p h)) (o .lead p h) }
+  owners-kept = record { room = λ p. let r = o .room p in let l = d .len in omega arith; apart = o .apart; lead = λ p h. subst (λ (x : ℕ). Bits x (p + 1)) (sym (row-named p h)) (o .lead p h) }
 
 -- a row put in and then reduced
 pub lowered-as : {w owner e f : List ℕ} {k n x r : ℕ} → Owners w owner k → RowPut w k x e → Lowered e owner k n (row e k) f r → Lowered w owner k n x f r

@@ -2,8 +2,8 @@
 use Prim.Native.Nat.{ℕ}
 use mathlib.Core.Path.{ap, _∙_}
 use lib.ListN.{replicate}
-use Rattle.gf2.specs.Lists.{getD-zeros}
 use borrow.Author.Needs.{needs}
+use Rattle.gf2.specs.Lists.{getD-zeros}
 use Rattle.keep.proofs.keep_checks.Statement.{statement}
 use Rattle.keep.proofs.keep_checks.Tie as tie
 
@@ -13,7 +13,7 @@ slice-aggregate-keep c = search needs
 keep-requires : tie.Need-keep-requires
 keep-requires c κs =
     let p = c .before .before .before .before .before .before .pre in
-    (p .0, p .1, p .0 .narrow, getD-zeros 1024, p .2)
+    (p .0, ((p .1 .0, p .0 .narrow, p .1 .1), getD-zeros 1024))
 
 clear-work-requires : tie.Need-clear-work-requires
 clear-work-requires c κs = search needs

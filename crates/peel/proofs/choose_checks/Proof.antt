@@ -26,7 +26,7 @@ keep-checks-requires c κs =
     let v = table-valid t (p .0) (p .1) (p .2) in
     let f = v .few in
     let l = p .4 in
-    (v, omega arith, f)
+    (v, (omega arith, f))
 
 -- src/lib.rt:241:30
 slice-aggregate-ones-of : tie.Need-slice-aggregate-ones-of
