@@ -48,10 +48,10 @@ add-low-requires c κs =
     let e = c .before .before .wide .ensures in
     let z = pos-of-ne-zero (c .before .if1 .left) in
     let f = p .owners .room (s .l - 1) in
-    (omega arith, omega arith, omega arith, rw e (own-bits (p .owners) (s .inv) (c .before .before .before .before .loop-test .taken) (omega arith) .most))
+    (omega arith, omega arith, omega arith, rw e (own-bits (p .owners) (s .inv) (omega arith) (omega arith) .most))
 
 sub-noted : tie.Need-sub-noted Inv-loop μ-loop
-sub-noted c = omega (arith, c .before .before .before .before .before .before .before .loop-test .taken)
+sub-noted c = let m = c .before .before .before .before .before .before .before .before .loop .inv .most in omega (arith, c .before .before .before .before .before .before .before .loop-test .taken)
 
 cast-noted : tie.Need-cast-noted Inv-loop μ-loop
 cast-noted c = let m = c .before .before .before .before .before .before .before .before .loop .inv .most in let few = c .before .before .before .before .before .before .before .before .before .before .before .before .before .before .pre .0 .most in omega (arith, c .before .before .before .before .before .before .before .loop-test .taken)
@@ -88,20 +88,20 @@ bits-of-requires-2 c κs =
     let g = c .before .before .w .given in
     let e = c .before .before .before .before .before .before .wide .ensures in
     let z = pos-of-ne-zero (c .before .before .before .before .before .if1 .left) in
-    (omega arith, omega arith, next-short (p .owners) (s .inv) (c .before .before .before .before .before .before .before .before .loop-test .taken) (omega arith) (rw e at (c .before .before .before .add-low .ensures)))
+    (omega arith, omega arith, next-short (p .owners) (s .inv) (omega (arith, c .before .before .before .before .before .before .before .before .loop-test .taken)) (omega arith) (rw e at (c .before .before .before .add-low .ensures)))
 
 loop-less : tie.Need-loop-less Inv-loop μ-loop
 loop-less c =
     let e = c .before .before .before .before .before .before .before .wide .ensures in
     let z = pos-of-ne-zero (c .before .before .before .before .before .before .if1 .left) in
-    next-less (c .before .before .before .before .before .before .before .before .before .before .before .before .before .before .before .before .pre .0 .owners) (c .before .before .before .before .before .before .before .before .before .before .loop .inv) (c .before .before .before .before .before .before .before .before .before .loop-test .taken) (omega arith) (rw e at (c .before .before .before .before .add-low .ensures)) (c .bits-of2 .ensures)
+    next-less (c .before .before .before .before .before .before .before .before .before .before .before .before .before .before .before .before .pre .0 .owners) (c .before .before .before .before .before .before .before .before .before .before .loop .inv) (omega (arith, c .before .before .before .before .before .before .before .before .before .loop-test .taken)) (omega arith) (rw e at (c .before .before .before .before .add-low .ensures)) (c .bits-of2 .ensures)
 
 loop-again : tie.Need-loop-again Inv-loop μ-loop
 loop-again c =
     let p = c .before .before .before .before .before .before .before .before .before .before .before .before .before .before .before .before .pre in
     let e = c .before .before .before .before .before .before .before .wide .ensures in
     let z = pos-of-ne-zero (c .before .before .before .before .before .before .if1 .left) in
-    lower-turn (p .0 .owners) (c .before .before .before .before .before .before .before .before .before .before .loop .inv) (c .before .before .before .before .before .before .before .before .before .loop-test .taken) (p .1) (omega arith) (rw e at (c .before .before .before .before .add-low .ensures)) (c .bits-of2 .ensures)
+    lower-turn (p .0 .owners) (c .before .before .before .before .before .before .before .before .before .before .loop .inv) (omega (arith, c .before .before .before .before .before .before .before .before .before .loop-test .taken)) (p .1) (omega arith) (rw e at (c .before .before .before .before .add-low .ensures)) (c .bits-of2 .ensures)
 
 same-length : tie.Need-same-length Inv-loop μ-loop
 same-length c = c .before .loop .inv .put .len
@@ -126,7 +126,7 @@ returns-2 c =
     let s = c .before .before .before .before .loop .inv in
     let w = c .before .wide .ensures in
     let free : getD (c .before .before .before .before .before .before .before .before .before .before .args .owner .now) (c .before .before .before .before .loop .l - 1) 0 ≡ 0 = omega (arith, c .if1 .taken) in
-    let end = stopped (c .before .before .before .before .before .before .before .before .before .before .pre .0 .owners) s (c .before .before .before .loop-test .taken) free in
+    let end = stopped (c .before .before .before .before .before .before .before .before .before .before .pre .0 .owners) s (omega arith) free in
     (lowered s end (λ _. free), told s end)
 
 pub reduce-spec : {M : Type 1} → statement M

@@ -1,53 +1,31 @@
 -- The bound from which the scan for a place in exactly one live check starts.
-use mathlib.Core.Path.{_≡_, refl, sym, ap, ap₂, _∙_, subst}
-use mathlib.Core.Bool.{Bool, true, false, cond, true≢false, false≢true}
-use mathlib.Core.List.{List, [], _∷_, _++_, map}
-use mathlib.Core.Option.{Option, none, some}
-use Prim.Native.Nat.{ℕ, zero, suc, _+_, _-_, _<_, _≤_}
+use mathlib.Core.Path.{_≡_, sym, _∙_}
+use mathlib.Core.Bool.{Bool, true, false, true≢false, false≢true}
+use mathlib.Core.List.{List, [], _∷_, map}
+use mathlib.Core.Option.{none, some}
+use Prim.Native.Nat.{ℕ, suc, _+_, _<_}
 use native.Mathlib.Omega.{arith}
-use lib.ListN.{length, getD, take, drop, length-take}
+use lib.ListN.{length, getD, take, drop, length-take, List·getD-eq-default}
 use lib.Seq.{getD-take, getD-drop}
 use lib.Dec.{eqb, ltb}
 use borrow.Author.Tests.{eq-eqb, ltb-true, ltb-false}
-use Rattle.gf2.specs.Bit.{eqb-true, eqb-false}
-use Rattle.gf2.specs.Lists.{highest, highest-none}
+use Rattle.gf2.specs.Bit.{eqb-true}
+use Rattle.gf2.specs.Lists.{highest, highest-none, highest-upto, highest-over}
 use Rattle.gf2.specs.Places.{has}
 use Rattle.gf2.specs.Span.{byBool}
 use Rattle.rule.specs.Rule.{inOneOnly}
 use Rattle.live.specs.Live.{Tally, Forgot, Calm, Raised}
-use Rattle.live.proofs.Laws.{single-is}
+use Rattle.live.specs.TallyLaws.{single-is}
 
 -- a place in exactly one live check
 abbrev pub one : List ℕ → ℕ → Bool
 one c p = eqb (getD c p 0) 1
 
-highest-upto : (n k : ℕ) (f : ℕ → Bool) → k ≤ n → ((p : ℕ) → k ≤ p → f p ≡ false) → highest n f ≡ highest k f
-highest-upto zero k f l h = let e : k ≡ 0 = omega arith in rw e
-highest-upto (suc n) k f l h = byBool (eqb k (suc n))
-    (λ e. let q : k ≡ suc n = eqb-true k (suc n) e in rw q)
-    (λ e. let q = eqb-false k (suc n) e in rw (h n (omega arith), highest) (highest-upto n k f (omega arith) h))
-
-highest-over : (n : ℕ) (f : ℕ → Bool) (p q : ℕ) → highest n f ≡ some p → p < q → q < n → f q ≡ false
-highest-over zero f p q h a b = absurd (omega arith)
-highest-over (suc n) f p q h a b = byBool (f n)
-    (λ e. let z : n ≡ p = inj (rw (e, highest) at h) in absurd (omega arith))
-    (λ e. byBool (eqb q n)
-    (λ k. let z : q ≡ n = eqb-true q n k in rw z e)
-    (λ k. let z = eqb-false q n k in highest-over n f p q (rw (e, highest) at h) a (omega arith)))
-  where
-    inj : _≡_ {A = Option ℕ} (some n) (some p) → n ≡ p
-    inj z = cc
-
-getD-out : (l : List ℕ) (i : ℕ) → length l ≤ i → getD l i 0 ≡ 0
-getD-out [] i h = refl
-getD-out (x ∷ l) zero h = absurd (omega arith)
-getD-out (x ∷ l) (suc i) h = getD-out l i (omega arith)
-
 not-one : (c : List ℕ) (p : ℕ) → one c p ≡ false → getD c p 0 ≡ 1 → ⊥
 not-one c p h e = true≢false (sym (eq-eqb (getD c p 0) 1 e) ∙ h)
 
 pub calm-all : (c : List ℕ) (n : ℕ) → n ≡ length c → Calm c n
-calm-all c n e = record { most = omega arith; above = λ p l o. let z = getD-out c p (omega arith) in omega arith }
+calm-all c n e = record { most = omega arith; above = λ p l o. let z = List·getD-eq-default c 0 {n = p} (omega arith) in omega arith }
 
 pub calm-scan : {c : List ℕ} {top : ℕ} (n : ℕ) → n ≡ length c → Calm c top → highest n (one c) ≡ highest top (one c)
 calm-scan {c} {top} n e s = let m = s .most in highest-upto n top (one c) (omega arith) (λ p l. byBool (one c p) (λ o. absurd (s .above p l (eqb-true (getD c p 0) 1 o))) (λ o. o))
@@ -58,7 +36,7 @@ calm-place {g} {JS} {c} {x} n p e t l h = record {
   most = omega arith;
   above = λ q a o. byBool (ltb q n)
       (λ k. let b = ltb-true q n k in not-one c q (highest-over n (one c) p q (single-is g JS c x n t ∙ h) (omega arith) b) o)
-      (λ k. let b = ltb-false q n k in let z = getD-out c q (omega arith) in omega arith);
+      (λ k. let b = ltb-false q n k in let z = List·getD-eq-default c 0 {n = q} (omega arith) in omega arith);
 }
 
 pub calm-none : {g : ℕ → List ℕ} {JS c x : List ℕ} (n : ℕ) → n ≡ length c → Tally g JS c x → highest n (inOneOnly (map g JS)) ≡ none → Calm c 0
@@ -66,7 +44,7 @@ calm-none {g} {JS} {c} {x} n e t h = record {
   most = omega arith;
   above = λ q a o. byBool (ltb q n)
       (λ k. not-one c q (highest-none n (one c) (single-is g JS c x n t ∙ h) q (ltb-true q n k)) o)
-      (λ k. let b = ltb-false q n k in let z = getD-out c q (omega arith) in omega arith);
+      (λ k. let b = ltb-false q n k in let z = List·getD-eq-default c 0 {n = q} (omega arith) in omega arith);
 }
 
 -- a check leaves

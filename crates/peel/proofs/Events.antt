@@ -1,25 +1,24 @@
--- The whole peeling: what is written so far, and what the rest decides.
+-- All events of the peeling: what is written so far, and what the rest decides.
 use mathlib.Core.Path.{_≡_, refl, sym, ap, ap₂, _∙_, subst}
-use mathlib.Core.Bool.{Bool, true, false, cond}
 use mathlib.Core.List.{List, [], _∷_, _++_, map, append-assoc, append-nil}
-use mathlib.Core.Option.{Option, none, some}
-use Prim.Native.Nat.{ℕ, zero, suc, _+_, _-_, _*_, _<_, _≤_}
+use mathlib.Core.Option.{none, some}
+use Prim.Native.Nat.{ℕ, zero, suc, _+_, _-_, _<_}
 use native.Mathlib.Numerals.{add-one}
 use native.Mathlib.Omega.{arith}
-use lib.ListN.{length, getD, set, take, drop, length-set}
+use lib.ListN.{length, getD, set, take}
 use lib.Seq.{getD-set-same, getD-set-other, take-suc-set}
 use lib.Dec.{eqb}
 use Rattle.gf2.specs.Bit.{eqb-true, eqb-false}
-use Rattle.gf2.specs.Lists.{highest}
+use Rattle.gf2.specs.Lists.{highest, highest-lt}
 use Rattle.gf2.specs.Span.{byBool}
 use Rattle.rule.specs.Buffers.{solved}
-use Rattle.table.specs.Checks.{check, offset, Checks}
-use Rattle.rule.specs.Rule.{Solved, inOneOnly, first, without, heaviest, peel, solvedOf, setAsideOf, PeelEvent, took, aside}
+use Rattle.table.specs.Checks.{check, Checks}
+use Rattle.rule.specs.Rule.{Solved, inOneOnly, heaviest, peel, solvedOf, setAsideOf, PeelEvent, took, aside}
 use Rattle.gf2.specs.Places.{has}
 use Rattle.peel.specs.declared.Event.{Event}
 use Rattle.peel.specs.declared.Event.the-variants.{Took, Aside}
-use Rattle.peel.specs.Turn.{lives, less, In, Pick, Picked, Picked.by-place, Picked.by-weight, Ready, Removed, Low, Peeled}
-use Rattle.peel.proofs.Turns.{in-length, in-flag, highest-lt}
+use Rattle.peel.specs.Turn.{lives, less, In, Located, Pick, Picked, Picked.by-place, Picked.by-weight, Ready, Removed, Low, Peeled}
+use Rattle.peel.proofs.Turns.{in-length, in-flag}
 
 pub record PlaceSays (g : ℕ → List ℕ) (JS : List ℕ) (n p j : ℕ) : Type 0 where
   pub top : highest n (inOneOnly (map g JS)) ≡ some p
@@ -92,6 +91,16 @@ low-aside {m} {n} {order} {owns} {adj} {kt} {ka} j l hj la = record { numbers = 
 pub place-low : {g : ℕ → List ℕ} {JS : List ℕ} {n p j : ℕ} → PlaceSays g JS n p j → p < n
 place-low {g} {JS} {n} {p} y = highest-lt n (inOneOnly (map g JS)) p (y .top)
 
+-- every buffer is as long as it was
+pub record SameLengths (l₀ c₀ x₀ o₀ w₀ a₀ l c x o w a : List ℕ) : Type 0 where
+  pub live : length l ≡ length l₀
+  pub count : length c ≡ length c₀
+  pub names : length x ≡ length x₀
+  pub order : length o ≡ length o₀
+  pub owns : length w ≡ length w₀
+  pub aside : length a ≡ length a₀
+
+-- the state of the loop: taken checks have an own place, put are set aside, left are live
 pub record Going (t : List ℕ) (m n total : ℕ) (live₀ live count names order owns adj : List ℕ) (taken put left : ℕ) : Type 0 where
   pub ready : Ready t m n live count names
   pub size : left ≡ length (lives live 0 m)
@@ -155,5 +164,6 @@ pub go-stop : {t : List ℕ} {m n total : ℕ} {live₀ live count names order o
     → Going t m n total live₀ live count names order owns adj taken put 0 → Peeled (check t m) m n total (lives live₀ 0 m) order owns adj taken put
 go-stop s = let sm = s .sum in record { took = s .owned ∙ append-nil _; set-aside = s .by ∙ append-nil _; sum = omega arith; low = s .low }
 
-pub remove-ready : {t : List ℕ} {m n : ℕ} {live c x : List ℕ} → Checks t m n → Ready t m n live c x → Checks t m (length c) × Ready t m (length c) live c x
-remove-ready {t} {m} {n} {live} {c} {x} v r = (subst (λ (k : ℕ). Checks t m k) (r .counts) v, subst (λ (k : ℕ). Ready t m k live c x) (r .counts) r)
+-- n is the length of the counts
+pub remove-ready : {t : List ℕ} {m n : ℕ} {starts live c x : List ℕ} → Located t m n starts → Ready t m n live c x → Located t m (length c) starts × Ready t m (length c) live c x
+remove-ready {t} {m} {n} {starts} {live} {c} {x} l r = (subst (λ (k : ℕ). Located t m k starts) (r .counts) l, subst (λ (k : ℕ). Ready t m k live c x) (r .counts) r)

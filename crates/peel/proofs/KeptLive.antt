@@ -1,13 +1,13 @@
 -- The kept checks become live, from the last to the first.
 use mathlib.Core.Path.{_≡_, refl, sym, ap, ap₂, _∙_, subst}
-use mathlib.Core.Bool.{Bool, true, false, cond}
-use mathlib.Core.List.{List, [], _∷_, _++_, map}
+use mathlib.Core.Bool.{Bool, false, cond}
+use mathlib.Core.List.{List, [], _∷_, map}
 use Prim.Native.Nat.{ℕ, zero, suc, _+_, _-_, _<_, _≤_}
 use native.Mathlib.Omega.{arith}
-use lib.ListN.{length, getD, set, take, drop, length-set, length-take, length-drop, length-map, replicate, length-replicate}
-use lib.Seq.{getD-set-same, getD-set-other, getD-take, getD-drop, drop-cons, drop-length, length-take-le}
+use lib.ListN.{length, getD, take, drop, length-take, length-drop, length-map, replicate, length-replicate}
+use lib.Seq.{getD-set-same, getD-set-other, getD-take, drop-cons, drop-length, length-take-le}
 use lib.Dec.{eqb}
-use borrow.Author.Tests.{eq-eqb, ne-eqb}
+use borrow.Author.Tests.{ne-eqb}
 use Rattle.gf2.specs.Bit.{eqb-true, eqb-false, eqb-self}
 use Rattle.gf2.specs.Fit.{isZero}
 use Rattle.gf2.specs.Greedy.{choose}
@@ -16,12 +16,12 @@ use Rattle.gf2.specs.Lists.{getD-zeros}
 use Rattle.gf2.specs.Places.{has, rowOf}
 use Rattle.gf2.specs.Span.{byBool, isSum}
 use Rattle.gf2.specs.Width.{All, All.nil, All.cons, all-map}
-use Rattle.table.specs.Checks.{check, from, offset, Checks}
+use Rattle.table.specs.Checks.{check, from, offset}
 use Rattle.table.specs.Table.{total}
 use Rattle.rule.specs.Rule.{count}
 use Rattle.keep.specs.Kept.{keptOf}
 use Rattle.live.specs.Live.{Tally, Noted}
-use Rattle.live.proofs.Laws.{tally-more}
+use Rattle.live.specs.TallyLaws.{tally-more}
 use Rattle.peel.specs.Turn.{lives, weight, Ready, Numbers, Zeros, Entered, First, Peeled}
 
 -- ---- the kept numbers rise
