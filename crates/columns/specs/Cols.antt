@@ -1,11 +1,10 @@
 -- Columns of the set-aside checks, one number a place.
 use mathlib.Core.Path.{_≡_}
-use mathlib.Core.List.{List, [], _∷_, _++_, map}
-use Prim.Native.Nat.{ℕ, zero, suc, _+_, _<_, _≤_}
-use lib.ListN.{length, getD, take, drop}
+use mathlib.Core.List.{List}
+use Prim.Native.Nat.{ℕ, _+_, _<_, _≤_}
+use lib.ListN.{length, getD}
 use Rattle.gf2.specs.Fit.{column}
-use Rattle.table.specs.Checks.{check, offset, Places}
-use Rattle.rule.specs.Rule.{Solved, reduce}
+use Rattle.table.specs.Checks.{offset, Places}
 
 -- col holds the columns of the rows E
 pub record Columns (E col : List ℕ) : Type 0 where

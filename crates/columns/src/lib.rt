@@ -13,12 +13,6 @@ ghost use Rattle.columns.specs.Cols.{Columns, Taken};
 ghost use Rattle.columns.specs.Fitting.{Aside, Units, Lowest, mended, Mended, Tied, Scan, Ready};
 ghost use Rattle.gf2.specs.Places.{rowOf};
 
-fn wide(x: u16) -> usize
-    ensures { λ r. ⌜ r ≡ x ⌝ }
-{
-    x as usize
-}
-
 // c added into the columns of a check's places
 fn spread(col: &mut [u32], t: &[u16], at: usize, weight: usize, c: u32)
     requires { ⌜ Places (now t) at weight (length (now col)) ⌝ }
@@ -26,7 +20,7 @@ fn spread(col: &mut [u32], t: &[u16], at: usize, weight: usize, c: u32)
 {
     let mut i = 0;
     while i < weight {
-        let p = wide(t[at + i]);
+        let p = table::wide(t[at + i]);
         col[p] = col[p] ^ c;
         i += 1;
     }
@@ -39,8 +33,14 @@ pub fn fill_columns(col: &mut [u32], t: &[u16], m: usize, starts: &[u16], aside:
 {
     let mut i = 0;
     while i < g {
-        let j = wide(aside[i]);
-        spread(col, t, wide(starts[j]), wide(t[4 + j]), 1 << i);
+        let j = table::wide(aside[i]);
+        spread(
+            col,
+            t,
+            table::wide(starts[j]),
+            table::wide(t[4 + j]),
+            1 << i,
+        );
         i += 1;
     }
 }
@@ -65,12 +65,19 @@ pub fn push_all(
     taken: usize,
 )
     requires { ⌜ Taken (now t) m (length (now col)) (now starts) (now order) (now owns) taken ⌝ }
-    ensures { λ _. ⌜ ((E : List ℕ) → Columns E (now (col .entry)) → Columns (map (reduce (solved (check (now (t .entry)) m) (now (order .entry)) (now (owns .entry)) taken)) E) (now (col .exit))) ⌝ }
+    ensures { λ _. ⌜ ((E : List ℕ) → Columns E (now (col .entry))
+        → Columns (map (reduce (solved (check (now (t .entry)) m) (now (order .entry)) (now (owns .entry)) taken)) E) (now (col .exit))) ⌝ }
 {
     let mut k = 0;
     while k < taken {
-        let j = wide(order[k]);
-        push(col, t, wide(starts[j]), wide(t[4 + j]), wide(owns[k]));
+        let j = table::wide(order[k]);
+        push(
+            col,
+            t,
+            table::wide(starts[j]),
+            table::wide(t[4 + j]),
+            table::wide(owns[k]),
+        );
         k += 1;
     }
 }
@@ -142,7 +149,9 @@ fn tie(masks: &mut [u32], g: usize, i: usize, k: usize, c: u32)
 // one column: a free mask that sees it is tied to its place, if there is one; how many masks are then free
 fn fit_one(masks: &mut [u32], fitted: &mut [u16], g: usize, free: usize, p: usize, c: u32) -> usize
     requires { ⌜ (g ≤ length (now masks)) × (g ≤ length (now fitted)) × (free ≤ g) × (p < 1024) ⌝ }
-    ensures { λ r. ⌜ (r ≤ free) × ((f : ℕ → ℕ) → (W : List ℕ) → f p ≡ c → Scan f W g (p + 1) free (now (masks .entry)) (now (fitted .entry)) → Scan f W g p r (now (masks .exit)) (now (fitted .exit))) ⌝ }
+    ensures fewer { λ r. ⌜ r ≤ free ⌝ }
+    ensures scan { λ r. ⌜ ((f : ℕ → ℕ) → (W : List ℕ) → f p ≡ c → Scan f W g (p + 1) free (now (masks .entry)) (now (fitted .entry))
+        → Scan f W g p r (now (masks .exit)) (now (fitted .exit))) ⌝ }
 {
     let i = find(masks, free, c);
     if i < free {
@@ -165,7 +174,8 @@ fn from_top(n: usize, k: usize) -> usize
 // every column, from the highest place down; each mask is then its place's row of the inverse, places ascending
 pub fn fit(col: &[u32], n: usize, g: usize, masks: &mut [u32], fitted: &mut [u16]) -> usize
     requires { ⌜ (n ≤ length (now col)) × (n ≤ 1024) × (g ≤ length (now masks)) × (g ≤ length (now fitted)) ⌝ }
-    ensures { λ r. ⌜ ((f : ℕ → ℕ) → (W : List ℕ) → ((p : ℕ) → p < n → f p ≡ getD (now (col .entry)) p 0) → Scan f W g n g (now (masks .entry)) (now (fitted .entry)) → Scan f W g 0 r (now (masks .exit)) (now (fitted .exit))) ⌝ }
+    ensures { λ r. ⌜ ((f : ℕ → ℕ) → (W : List ℕ) → ((p : ℕ) → p < n → f p ≡ getD (now (col .entry)) p 0)
+        → Scan f W g n g (now (masks .entry)) (now (fitted .entry)) → Scan f W g 0 r (now (masks .exit)) (now (fitted .exit))) ⌝ }
 {
     let mut free = g;
     let mut k = 0;
@@ -192,7 +202,8 @@ pub fn fit_places(
     rows: &mut [u32],
 )
     requires { ⌜ Ready (now t) m n (now starts) (now order) (now owns) taken (now aside) g × (g ≤ length (now fitted)) × (g ≤ length (now rows)) ⌝ }
-    ensures { λ _. ⌜ Fitted n (solved (check (now (t .entry)) m) (now (order .entry)) (now (owns .entry)) taken) (map (check (now (t .entry)) m) (take g (now (aside .entry)))) g (now (fitted .exit)) (now (rows .exit)) ⌝ }
+    ensures { λ _. ⌜ Fitted n (solved (check (now (t .entry)) m) (now (order .entry)) (now (owns .entry)) taken)
+        (map (check (now (t .entry)) m) (take g (now (aside .entry)))) g (now (fitted .exit)) (now (rows .exit)) ⌝ }
 {
     let mut col = [0u32; 1024];
     fill_columns(&mut col, t, m, starts, aside, g);

@@ -3,7 +3,7 @@ use mathlib.Core.Path.{_≡_, refl, sym, ap, ap₂, _∙_, subst}
 use mathlib.Core.Bool.{Bool, true, false, cond, false≢true, true≢false}
 use mathlib.Core.List.{List, [], _∷_, _++_, map}
 use Prim.Native.Nat.{ℕ, zero, suc, _+_, _*_, _/_, _%_, _^_, _≤_, _<_}
-use native.Mathlib.Nat.{mod-lt, pow-suc, mul-mod-left, mul-div-cancel, div-add-mod', div-one, div-div-eq-div-mul, mul-comm}
+use native.Mathlib.Nat.{mod-lt, pow-suc, mul-mod-left, mul-div-cancel, div-add-mod', div-one, div-div-eq-div-mul, div-eq-of-lt, mul-comm}
 use native.Mathlib.Omega.{arith}
 use lib.Arith.{digits-div, digits-mod}
 use lib.Bits.{bitXor, differ}
@@ -91,3 +91,7 @@ bit-pow (suc p) (suc q) = rw (pow-suc 2 q, mul-div-cancel (2 ^ q) two-pos) (bit-
 pub bit-is : (p r : ℕ) → bit p r ≡ odd (r / 2 ^ p % 2)
 bit-is zero r = ap (λ x. odd (x % 2)) (sym (div-one r))
 bit-is (suc p) r = bit-is p (r / 2) ∙ ap (λ x. odd (x % 2)) (div-div-eq-div-mul r 2 (2 ^ p) ∙ ap (λ x. r / x) (mul-comm 2 (2 ^ p) ∙ sym (pow-suc 2 p)))
+
+-- no digit beyond the highest
+pub bit-high : (q x : ℕ) → x < 2 ^ q → bit q x ≡ false
+bit-high q x h = bit-is q x ∙ ap (λ (y : ℕ). odd (y % 2)) (div-eq-of-lt h)

@@ -1,5 +1,6 @@
 pub mod Bit
-pub mod Elim
+pub mod Echelon
+pub mod EchelonLaws
 pub mod Fit
 pub mod Greedy
 pub mod Group

@@ -7,7 +7,7 @@ use Prim.Native.Nat.{ℕ, zero, suc, _+_, _-_, _<_, _≤_}
 use native.Mathlib.Omega.{arith}
 use lib.Dec.{eqb}
 use lib.ListN.{length, getD, set, replicate}
-use Rattle.gf2.specs.Bit.{eqb-true}
+use Rattle.gf2.specs.Bit.{eqb-true, eqb-false}
 use Rattle.gf2.specs.Fit.{below}
 use Rattle.gf2.specs.Places.{has, par, has-par, filter}
 use Rattle.gf2.specs.Span.{byBool}
@@ -76,14 +76,52 @@ abbrev pub highest : ℕ → (ℕ → Bool) → Option ℕ
 highest zero f = none
 highest (suc k) f = elim (f k) [ true ↦ some k | false ↦ highest k f ]
 
+some-inj : {a b : ℕ} → _≡_ {A = Option ℕ} (some a) (some b) → a ≡ b
+some-inj e = cc
+
 pub highest-is : (n : ℕ) (f : ℕ → Bool) (p : ℕ) → highest n f ≡ some p → f p ≡ true
 highest-is zero f p h = cc
 highest-is (suc n) f p h = byBool (f n)
     (λ e. let q : n ≡ p = some-inj (rw (e, highest) at h) in subst (λ x. f x ≡ true) q e)
     (λ e. highest-is n f p (rw (e, highest) at h))
+
+-- none below n passes
+pub highest-none : (n : ℕ) (f : ℕ → Bool) → highest n f ≡ none → (i : ℕ) → i < n → f i ≡ false
+highest-none zero f e i h = absurd (omega arith)
+highest-none (suc n) f e i h = byBool (f n)
+    (λ t. absurd (clash (rw (t, highest) at e)))
+    (λ t. byBool (eqb i n) (λ k. ap f (eqb-true i n k) ∙ t) (λ k. let q = eqb-false i n k in highest-none n f (rw (t, highest) at e) i (omega arith)))
   where
-    some-inj : {a b : ℕ} → _≡_ {A = Option ℕ} (some a) (some b) → a ≡ b
-    some-inj e = cc
+    clash : _≡_ {A = Option ℕ} (some n) none → ⊥
+    clash p = let z : _≡_ {A = ℕ} 0 1 = cc in omega arith
+
+pub highest-lt : (n : ℕ) (f : ℕ → Bool) (p : ℕ) → highest n f ≡ some p → p < n
+highest-lt zero f p h = let z : _≡_ {A = ℕ} 0 1 = cc in absurd (omega arith)
+highest-lt (suc n) f p h = byBool (f n)
+    (λ e. let q : n ≡ p = some-inj (rw (e, highest) at h) in omega arith)
+    (λ e. let q = highest-lt n f p (rw (e, highest) at h) in omega arith)
+
+pub highest-same : (n : ℕ) (f g : ℕ → Bool) → ((p : ℕ) → p < n → f p ≡ g p) → highest n f ≡ highest n g
+highest-same zero f g h = refl
+highest-same (suc n) f g h = byBool (g n)
+    (λ e. rw (h n (omega arith) ∙ e, highest, e, highest))
+    (λ e. rw (h n (omega arith) ∙ e, highest, e, highest) (highest-same n f g (λ p z. h p (omega arith))))
+
+-- none from k on passes: the scan may start at k
+pub highest-upto : (n k : ℕ) (f : ℕ → Bool) → k ≤ n → ((p : ℕ) → k ≤ p → f p ≡ false) → highest n f ≡ highest k f
+highest-upto zero k f l h = let e : k ≡ 0 = omega arith in rw e
+highest-upto (suc n) k f l h = byBool (eqb k (suc n))
+    (λ e. let q : k ≡ suc n = eqb-true k (suc n) e in rw q)
+    (λ e. let q = eqb-false k (suc n) e in rw (h n (omega arith), highest) (highest-upto n k f (omega arith) h))
+
+-- none above the highest passes
+pub highest-over : (n : ℕ) (f : ℕ → Bool) (p q : ℕ) → highest n f ≡ some p → p < q → q < n → f q ≡ false
+highest-over zero f p q h a b = absurd (omega arith)
+highest-over (suc n) f p q h a b = byBool (f n)
+    (λ e. let z : n ≡ p = some-inj (rw (e, highest) at h) in absurd (omega arith))
+    (λ e. byBool (eqb q n)
+    (λ k. let z : q ≡ n = eqb-true q n k in rw z e)
+    (λ k. let z = eqb-false q n k in highest-over n f p q (rw (e, highest) at h) a (omega arith)))
 
 abbrev pub allPass : {X : Type 0} → (X → Bool) → List X → Bool
 allPass f [] = true

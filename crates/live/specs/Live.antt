@@ -1,16 +1,14 @@
 -- For each place, the number of live checks that hold it, and the exclusive-or of their numbers.
 use mathlib.Core.Path.{_≡_}
-use mathlib.Core.Bool.{Bool, true, false, cond}
-use mathlib.Core.List.{List, [], _∷_, _++_, map}
+use mathlib.Core.Bool.{cond}
+use mathlib.Core.List.{List, map}
 use mathlib.Core.Option.{Option, none, some}
-use Prim.Native.Nat.{ℕ, zero, suc, _+_, _-_, _*_, _<_, _≤_}
-use lib.ListN.{length, getD, take, drop}
+use Prim.Native.Nat.{ℕ, _+_, _-_, _<_, _≤_}
 use lib.Bits.{bitXor}
-use lib.Dec.{eqb}
+use lib.ListN.{length, getD}
 use Rattle.gf2.specs.Group.{XorGroup, sumOver}
-use Rattle.gf2.specs.Lists.{highest}
-use Rattle.rule.specs.Rule.{count, inOneOnly}
 use Rattle.gf2.specs.Places.{has}
+use Rattle.rule.specs.Rule.{count}
 use Rattle.live.specs.declared.Found.{Found}
 use Rattle.live.specs.declared.Found.the-variants.{At, Nothing}
 
@@ -19,13 +17,18 @@ pub record Upd (f : ℕ → ℕ) (c₀ ps c : List ℕ) : Type 0 where
   pub len : length c ≡ length c₀
   pub each : (p : ℕ) → getD c p 0 ≡ cond (has p ps) (f (getD c₀ p 0)) (getD c₀ p 0)
 
-pub record Noted (c₀ x₀ ps : List ℕ) (j : ℕ) (c x : List ℕ) : Type 0 where
-  pub counts : Upd (λ a. a + 1) c₀ ps c
+-- f is done to the count of each place of ps, and j is added to its name
+pub record Marked (f : ℕ → ℕ) (c₀ x₀ ps : List ℕ) (j : ℕ) (c x : List ℕ) : Type 0 where
+  pub counts : Upd f c₀ ps c
   pub names : Upd (λ a. bitXor a j) x₀ ps x
 
-pub record Forgot (c₀ x₀ ps : List ℕ) (j : ℕ) (c x : List ℕ) : Type 0 where
-  pub counts : Upd (λ a. a - 1) c₀ ps c
-  pub names : Upd (λ a. bitXor a j) x₀ ps x
+-- check j, with the places ps, becomes live
+abbrev pub Noted : (c₀ x₀ ps : List ℕ) (j : ℕ) (c x : List ℕ) → Type 0
+Noted = Marked (λ a. a + 1)
+
+-- .. and is no longer live
+abbrev pub Forgot : (c₀ x₀ ps : List ℕ) (j : ℕ) (c x : List ℕ) → Type 0
+Forgot = Marked (λ a. a - 1)
 
 unfoldable pub found : Option ℕ → Found
 found (some p) = At p

@@ -1,23 +1,24 @@
 -- From numbers to the checks of the rule.
-use mathlib.Core.Path.{_≡_, refl, sym, ap, ap₂, _∙_, subst}
-use mathlib.Core.List.{List, [], _∷_, _++_, map}
-use Prim.Native.Nat.{ℕ, zero, suc, _+_, _-_, _<_, _≤_}
+use mathlib.Core.Path.{_≡_, refl, sym, ap, ap₂, _∙_}
+use mathlib.Core.List.{List, map}
+use Prim.Native.Nat.{ℕ, _+_, _<_, _≤_}
 use native.Mathlib.Omega.{arith}
 use lib.ListN.{length, getD, take, drop, length-map}
 use lib.Seq.{take-append-seam, length-take-le}
 use Rattle.gf2.specs.Width.{All, All.nil, All.cons}
-use Rattle.table.specs.Checks.{check, from, Valid, Checks}
+use Rattle.table.specs.Checks.{check, Valid, Checks}
 use Rattle.table.specs.ChecksLaws.{checks-are, check-length, valid, each-check}
 use Rattle.table.specs.Table.{number, places, checks, ones, total, refusal}
-use Rattle.rule.specs.Buffers.{Chosen, peeling, solved}
-use Rattle.rule.specs.Rule.{kept, peel, solvedOf, setAsideOf, PeelEvent}
-use Rattle.rows.specs.Row.{keptOf, Kept}
-use Rattle.rows.proofs.Link.{kept-numbers}
+use Rattle.rule.specs.Buffers.{peeling, solved}
+use Rattle.rule.specs.Rule.{kept, peel, solvedOf, setAsideOf}
+use Rattle.bits.specs.Front.{Front}
+use Rattle.keep.specs.Kept.{keptOf}
+use Rattle.peel.proofs.KeptNumbers.{kept-numbers}
 use Rattle.peel.specs.Choice.{ChoiceOf}
 use Rattle.peel.specs.Turn.{weight, Numbers, Peeled}
-use Rattle.peel.proofs.First.{kept-all, kept-few}
+use Rattle.peel.proofs.KeptLive.{kept-all, kept-few}
 
-pub numbers-of : {t : List ℕ} {m : ℕ} {ids e : List ℕ} {r : ℕ} → Kept t m ids e r → Numbers t m e r
+pub numbers-of : {t : List ℕ} {m : ℕ} {ids e : List ℕ} {r : ℕ} → Front (keptOf t m) ids e r → Numbers t m e r
 numbers-of {t} {m} {ids} {e} {r} k = record {
   count = k .count;
   list = ap₂ (λ (i : ℕ) (l : List ℕ). take i l) (k .count) (k .list) ∙ take-append-seam (keptOf t m) (drop (length (keptOf t m)) ids);

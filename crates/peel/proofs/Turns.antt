@@ -1,9 +1,9 @@
 -- Laws of one turn.
 use mathlib.Core.Path.{_≡_, refl, sym, ap, ap₂, _∙_, subst}
-use mathlib.Core.Bool.{Bool, true, false, cond, true≢false, false≢true}
-use mathlib.Core.List.{List, [], _∷_, _++_, map}
+use mathlib.Core.Bool.{Bool, true, false, cond, true≢false}
+use mathlib.Core.List.{List, [], _∷_, map}
 use mathlib.Core.Option.{Option, none, some}
-use Prim.Native.Nat.{ℕ, zero, suc, _+_, _-_, _*_, _<_, _≤_, max}
+use Prim.Native.Nat.{ℕ, zero, suc, _+_, _-_, _<_, _≤_, max}
 use native.Mathlib.Nat.{suc-inj}
 use native.Mathlib.Numerals.{add-one}
 use native.Mathlib.Omega.{arith}
@@ -13,19 +13,17 @@ use lib.Bits.{bitXor, xor-zero-r, xor-zero-l}
 use lib.Dec.{eqb, leb}
 use borrow.Author.Tests.{leb-true, leb-false, le-leb, lt-leb, eq-eqb, ne-eqb}
 use Rattle.gf2.specs.Group.{XorGroup, sumOver}
-use Rattle.table.specs.Checks.{check, offset, Places, Checks}
+use Rattle.table.specs.Checks.{check, offset, Checks}
 use Rattle.gf2.specs.Bit.{eqb-true, eqb-false, eqb-self}
 use Rattle.gf2.specs.Lists.{highest, highest-is}
-use Rattle.rule.specs.Rule.{Solved, count, inOneOnly, first, without, heaviest, greatest, peel, solvedOf, setAsideOf, PeelEvent, took, aside}
+use Rattle.rule.specs.Rule.{count, first, without, heaviest, greatest}
 use Rattle.gf2.specs.Places.{has}
 use Rattle.gf2.specs.Span.{byBool}
-use Rattle.gf2.specs.Width.{All, All.nil, All.cons, all-map}
+use Rattle.gf2.specs.Width.{All, All.nil, All.cons}
 use Rattle.live.specs.Live.{Tally, Forgot, found}
-use Rattle.live.specs.declared.Found.{Found}
 use Rattle.live.specs.declared.Found.the-variants.{At, Nothing}
-use Rattle.peel.specs.declared.Event.{Event}
 use Rattle.peel.specs.declared.Event.the-variants.{Took, Aside}
-use Rattle.live.proofs.Laws.{Out, Out.here as ohere, Out.there as othere, tally-less, highest-same, single-is}
+use Rattle.live.specs.TallyLaws.{Out, Out.here as ohere, Out.there as othere, tally-less, single-is}
 use Rattle.peel.specs.Turn.{lives, less, heaviestFrom, weight, In, In.here, In.there, Pick, Picked, Picked.by-place, Picked.by-weight, Ready, Removed}
 
 -- ---- a place in one live check names it
@@ -168,15 +166,6 @@ found-none (some q) e = no e where
   no : At q ≡ Nothing → some q ≡ none
   no z = let y : _≡_ {A = ℕ} 0 1 = cc in absurd (omega arith)
 found-none none e = refl
-
-pub highest-lt : (n : ℕ) (f : ℕ → Bool) (p : ℕ) → highest n f ≡ some p → p < n
-highest-lt zero f p h = let z : _≡_ {A = ℕ} 0 1 = cc in absurd (omega arith)
-highest-lt (suc n) f p h = byBool (f n)
-    (λ e. let q : n ≡ p = one (rw (e, highest) at h) in omega arith)
-    (λ e. let q = highest-lt n f p (rw (e, highest) at h) in omega arith)
-  where
-    one : _≡_ {A = Option ℕ} (some n) (some p) → n ≡ p
-    one q = cc
 
 pub picked-place : (g : ℕ → List ℕ) (n p : ℕ) {JS c x : List ℕ} → Tally g JS c x → highest n (λ q. eqb (getD c q 0) 1) ≡ some p → Picked g JS n (Took p (getD x p 0))
 picked-place g n p {JS} {c} {x} s e =

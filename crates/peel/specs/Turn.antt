@@ -8,11 +8,11 @@ use lib.ListN.{length, getD, set, take, drop}
 use lib.Dec.{eqb, leb}
 use Rattle.gf2.specs.Lists.{highest}
 use Rattle.rule.specs.Buffers.{solved}
-use Rattle.table.specs.Checks.{check, offset, Places}
+use Rattle.table.specs.Checks.{check, Checks, Starts}
 use Rattle.rule.specs.Rule.{Solved, count, inOneOnly, first, without, heaviest, greatest, peel, solvedOf, setAsideOf}
 use Rattle.gf2.specs.Places.{has}
 use Rattle.live.specs.Live.{Tally, Noted}
-use Rattle.rows.specs.Row.{keptOf}
+use Rattle.keep.specs.Kept.{keptOf}
 use Rattle.peel.specs.declared.Event.{Event}
 use Rattle.peel.specs.declared.Event.the-variants.{Took, Aside}
 
@@ -31,6 +31,7 @@ unfoldable pub heaviestFrom : (ℕ → ℕ) → ℕ → ℕ → List ℕ → ℕ
 heaviestFrom f b w [] = b
 heaviestFrom f b w (j ∷ JS) = elim (leb w (f j)) [ true ↦ heaviestFrom f j (f j + 1) JS | false ↦ heaviestFrom f b w JS ]
 
+-- j is one of them
 pub data In (j : ℕ) : List ℕ → Type 0 where
   here : {JS : List ℕ} → In j (j ∷ JS)
   there : {i : ℕ} {JS : List ℕ} → In j JS → In j (i ∷ JS)
@@ -42,22 +43,37 @@ pub record Pick (g : ℕ → List ℕ) (f : List ℕ → Bool) (JS : List ℕ) (
   pub is-first : first f (map g JS) ≡ g j
   pub is-rest : without f (map g JS) ≡ map g (less j JS)
 
+-- the next event: the highest place in exactly one live check, and that check; else the first of greatest weight
 pub data Picked (g : ℕ → List ℕ) (JS : List ℕ) (n : ℕ) : Event → Type 0 where
   by-place : {p j : ℕ} → highest n (inOneOnly (map g JS)) ≡ some p → Pick g (has p) JS j → Picked g JS n (Took p j)
   by-weight : {j : ℕ} → highest n (inOneOnly (map g JS)) ≡ none → Pick g (heaviest (map g JS)) JS j → Picked g JS n (Aside j)
 
+-- the checks of t, and where each one's places start
+pub record Located (t : List ℕ) (m n : ℕ) (starts : List ℕ) : Type 0 where
+  pub checks : Checks t m n
+  pub starts-at : Starts t m starts
+
+-- flags, counts and names tell which checks are live
 pub record Ready (t : List ℕ) (m n : ℕ) (live count names : List ℕ) : Type 0 where
   pub flags : m ≤ length live
   pub counts : n ≡ length count
   pub named : n ≤ length names
   pub tally : Tally (check t m) (lives live 0 m) count names
 
+-- the weight of check j
 unfoldable pub weight : List ℕ → ℕ → ℕ
 weight t j = getD t (4 + j) 0
 
+-- check j is no longer live
 pub record Removed (t : List ℕ) (m n j : ℕ) (live₀ live count names : List ℕ) : Type 0 where
   pub ready : Ready t m n live count names
   pub list : lives live 0 m ≡ less j (lives live₀ 0 m)
+
+-- room for the events of m checks
+pub record Room (m : ℕ) (order owns aside : List ℕ) : Type 0 where
+  pub taken : m ≤ length order
+  pub places : m ≤ length owns
+  pub put : m ≤ length aside
 
 -- the numbers written so far: kt checks and their own places, ka checks set aside
 pub record Low (m n : ℕ) (order owns aside : List ℕ) (kt ka : ℕ) : Type 0 where
@@ -81,6 +97,15 @@ pub record Numbers (t : List ℕ) (m : ℕ) (ids : List ℕ) (k : ℕ) : Type 0 
 -- nothing but zeros
 pub record Zeros (l : List ℕ) : Type 0 where
   pub each : (i : ℕ) → getD l i 0 ≡ 0
+
+-- no check is live yet
+pub record Fresh (m n : ℕ) (live count names : List ℕ) : Type 0 where
+  pub flags : m ≤ length live
+  pub counts : n ≡ length count
+  pub named : n ≤ length names
+  pub none-live : Zeros live
+  pub none-counted : Zeros count
+  pub none-named : Zeros names
 
 -- check j is live too
 pub record Entered (t : List ℕ) (m j : ℕ) (live₀ count₀ names₀ live count names : List ℕ) : Type 0 where

@@ -1,25 +1,20 @@
 // Steps 2 and 3: own places, and checks set aside.
 use live::Found;
 ghost use mathlib.Core.Path.{_≡_};
-ghost use Prim.Native.Nat.{ℕ, _+_, _*_, _≤_, _<_};
-ghost use lib.ListN.{length, getD, take, drop, replicate};
-ghost use Rattle.table.specs.Checks.{check, offset, Checks, Starts};
 ghost use mathlib.Core.List.{map};
+ghost use Prim.Native.Nat.{ℕ, _+_, _≤_, _<_};
+ghost use lib.ListN.{length, getD, replicate};
+ghost use Rattle.table.specs.Checks.{check, Checks, Starts};
 ghost use Rattle.table.specs.Table.{total, number, places, refusal};
-ghost use Rattle.rows.specs.Row.{keptOf};
+ghost use Rattle.keep.specs.Kept.{keptOf};
 ghost use Rattle.live.specs.Live.{Calm};
 ghost use Rattle.peel.specs.Choice.{ChoiceOf};
-ghost use Rattle.peel.specs.Turn.{lives, less, heaviestFrom, weight, In, Ready, Picked, Removed, Peeled, Numbers, Zeros, Entered, First};
+ghost use Rattle.peel.specs.Turn.{lives, heaviestFrom, weight, In, Located, Ready, Picked, Removed, Room, Peeled};
+ghost use Rattle.peel.specs.Turn.{Numbers, Fresh, Entered, First};
 
 pub enum Event {
     Took(usize, usize),
     Aside(usize),
-}
-
-fn wide(x: u16) -> usize
-    ensures { λ r. ⌜ r ≡ x ⌝ }
-{
-    x as usize
 }
 
 // the first live check of greatest weight, or m
@@ -32,7 +27,7 @@ fn heaviest_of(t: &[u16], m: usize, live: &[u8]) -> usize
     let mut i = 0;
     while i < m {
         if live[i] == 1 {
-            let k = wide(t[4 + i]);
+            let k = table::wide(t[4 + i]);
             if w <= k {
                 best = i;
                 w = k + 1;
@@ -53,11 +48,14 @@ fn pick(
     names: &[u16],
     top: usize,
 ) -> Event
-    requires { ⌜ Checks (now t) m n × Ready (now t) m n (now live) (now count) (now names) × (0 < length (lives (now live) 0 m)) × Calm (now count) top ⌝ }
+    requires checks { ⌜ Checks (now t) m n ⌝ }
+    requires ready { ⌜ Ready (now t) m n (now live) (now count) (now names) ⌝ }
+    requires live { ⌜ 0 < length (lives (now live) 0 m) ⌝ }
+    requires calm { ⌜ Calm (now count) top ⌝ }
     ensures { λ r. ⌜ Picked (check (now (t .entry)) m) (lives (now (live .entry)) 0 m) n r ⌝ }
 {
     match live::single(count, top) {
-        Found::At(p) => Event::Took(p, wide(names[p])),
+        Found::At(p) => Event::Took(p, table::wide(names[p])),
         Found::Nothing => Event::Aside(heaviest_of(t, m, live)),
     }
 }
@@ -73,11 +71,16 @@ fn remove(
     j: usize,
     top: usize,
 ) -> usize
-    requires { ⌜ Checks (now t) m (length (now count)) × Ready (now t) m (length (now count)) (now live) (now count) (now names) × Starts (now t) m (now starts) × In j (lives (now live) 0 m) × Calm (now count) top ⌝ }
-    ensures { λ r. ⌜ Removed (now (t .entry)) m (length (now (count .entry))) j (now (live .entry)) (now (live .exit)) (now (count .exit)) (now (names .exit)) × Calm (now (count .exit)) r ⌝ }
+    requires located { ⌜ Located (now t) m (length (now count)) (now starts) ⌝ }
+    requires ready { ⌜ Ready (now t) m (length (now count)) (now live) (now count) (now names) ⌝ }
+    requires live { ⌜ In j (lives (now live) 0 m) ⌝ }
+    requires calm { ⌜ Calm (now count) top ⌝ }
+    ensures removed { λ _. ⌜ Removed (now (t .entry)) m (length (now (count .entry))) j (now (live .entry))
+        (now (live .exit)) (now (count .exit)) (now (names .exit)) ⌝ }
+    ensures calm { λ r. ⌜ Calm (now (count .exit)) r ⌝ }
 {
-    let at = wide(starts[j]);
-    let weight = wide(t[4 + j]);
+    let at = table::wide(starts[j]);
+    let weight = table::wide(t[4 + j]);
     live[j] = 0;
     live::forget(count, names, t, at, weight, j as u16);
     live::raise(count, t, at, weight, top)
@@ -102,8 +105,12 @@ pub fn peel_checks(
     aside: &mut [u16],
     total: usize,
 ) -> Counts
-    requires { ⌜ Checks (now t) m n × Ready (now t) m n (now live) (now count) (now names) × Starts (now t) m (now starts) × (total ≡ length (lives (now live) 0 m)) × (total ≤ m) × (m ≤ length (now order)) × (m ≤ length (now owns)) × (m ≤ length (now aside)) ⌝ }
-    ensures { λ r. ⌜ Peeled (check (now (t .entry)) m) m n total (lives (now (live .entry)) 0 m) (now (order .exit)) (now (owns .exit)) (now (aside .exit)) (r .taken) (r .aside) ⌝ }
+    requires located { ⌜ Located (now t) m n (now starts) ⌝ }
+    requires ready { ⌜ Ready (now t) m n (now live) (now count) (now names) ⌝ }
+    requires total { ⌜ (total ≡ length (lives (now live) 0 m)) × (total ≤ m) ⌝ }
+    requires room { ⌜ Room m (now order) (now owns) (now aside) ⌝ }
+    ensures { λ r. ⌜ Peeled (check (now (t .entry)) m) m n total (lives (now (live .entry)) 0 m)
+        (now (order .exit)) (now (owns .exit)) (now (aside .exit)) (r .taken) (r .aside) ⌝ }
 {
     let mut taken = 0;
     let mut put = 0;
@@ -142,11 +149,21 @@ fn enter(
     starts: &[u16],
     j: usize,
 )
-    requires { ⌜ Checks (now t) m (length (now count)) × Starts (now t) m (now starts) × (j < m) × (m ≤ length (now live)) × (length (now count) ≤ length (now names)) × ((p : ℕ) → getD (now count) p 0 ≤ m) ⌝ }
-    ensures { λ _. ⌜ Entered (now (t .entry)) m j (now (live .entry)) (now (count .entry)) (now (names .entry)) (now (live .exit)) (now (count .exit)) (now (names .exit)) ⌝ }
+    requires located { ⌜ Located (now t) m (length (now count)) (now starts) ⌝ }
+    requires room { ⌜ (j < m) × (m ≤ length (now live)) × (length (now count) ≤ length (now names)) ⌝ }
+    requires counts { ⌜ ((p : ℕ) → getD (now count) p 0 ≤ m) ⌝ }
+    ensures { λ _. ⌜ Entered (now (t .entry)) m j (now (live .entry)) (now (count .entry)) (now (names .entry))
+        (now (live .exit)) (now (count .exit)) (now (names .exit)) ⌝ }
 {
     live[j] = 1;
-    live::note(count, names, t, wide(starts[j]), wide(t[4 + j]), j as u16);
+    live::note(
+        count,
+        names,
+        t,
+        table::wide(starts[j]),
+        table::wide(t[4 + j]),
+        j as u16,
+    );
 }
 
 // the kept checks become live
@@ -160,13 +177,15 @@ fn first_tally(
     ids: &[u16],
     k: usize,
 )
-    requires { ⌜ Checks (now t) m (length (now count)) × Starts (now t) m (now starts) × Numbers (now t) m (now ids) k × (m ≤ length (now live)) × (length (now count) ≤ length (now names)) × Zeros (now live) × Zeros (now count) × Zeros (now names) ⌝ }
+    requires located { ⌜ Located (now t) m (length (now count)) (now starts) ⌝ }
+    requires kept { ⌜ Numbers (now t) m (now ids) k ⌝ }
+    requires fresh { ⌜ Fresh m (length (now count)) (now live) (now count) (now names) ⌝ }
     ensures { λ _. ⌜ First (now (t .entry)) m (length (now (count .entry))) (now (live .exit)) (now (count .exit)) (now (names .exit)) ⌝ }
 {
     let mut i = k;
     while 0 < i {
         i -= 1;
-        let j = wide(ids[i]);
+        let j = table::wide(ids[i]);
         enter(live, count, names, t, m, starts, j);
     }
 }
@@ -180,8 +199,8 @@ fn ones_of(t: &[u16], m: usize, ids: &[u16], k: usize) -> usize
     let mut i = k;
     while 0 < i {
         i -= 1;
-        let j = wide(ids[i]);
-        sum += wide(t[4 + j]);
+        let j = table::wide(ids[i]);
+        sum += table::wide(t[4 + j]);
     }
     sum
 }
@@ -201,8 +220,12 @@ fn peel_live(
     owns: &mut [u16],
     aside: &mut [u16],
 ) -> Counts
-    requires { ⌜ Checks (now t) m n × Starts (now t) m (now starts) × Numbers (now t) m (now ids) k × (n ≡ length (now count)) × (n ≤ length (now names)) × (m ≤ length (now live)) × Zeros (now live) × Zeros (now count) × Zeros (now names) × (m ≤ length (now order)) × (m ≤ length (now owns)) × (m ≤ length (now aside)) ⌝ }
-    ensures { λ r. ⌜ Peeled (check (now (t .entry)) m) m n k (keptOf (now (t .entry)) m) (now (order .exit)) (now (owns .exit)) (now (aside .exit)) (r .taken) (r .aside) ⌝ }
+    requires located { ⌜ Located (now t) m n (now starts) ⌝ }
+    requires kept { ⌜ Numbers (now t) m (now ids) k ⌝ }
+    requires fresh { ⌜ Fresh m n (now live) (now count) (now names) ⌝ }
+    requires room { ⌜ Room m (now order) (now owns) (now aside) ⌝ }
+    ensures { λ r. ⌜ Peeled (check (now (t .entry)) m) m n k (keptOf (now (t .entry)) m)
+        (now (order .exit)) (now (owns .exit)) (now (aside .exit)) (r .taken) (r .aside) ⌝ }
 {
     first_tally(live, count, names, t, m, starts, ids, k);
     peel_checks(t, m, n, starts, live, count, names, order, owns, aside, k)
@@ -220,8 +243,11 @@ fn peel_kept(
     owns: &mut [u16],
     aside: &mut [u16],
 ) -> Counts
-    requires { ⌜ Checks (now t) m n × Starts (now t) m (now starts) × Numbers (now t) m (now ids) k × (m ≤ length (now order)) × (m ≤ length (now owns)) × (m ≤ length (now aside)) ⌝ }
-    ensures { λ r. ⌜ Peeled (check (now (t .entry)) m) m n k (keptOf (now (t .entry)) m) (now (order .exit)) (now (owns .exit)) (now (aside .exit)) (r .taken) (r .aside) ⌝ }
+    requires located { ⌜ Located (now t) m n (now starts) ⌝ }
+    requires kept { ⌜ Numbers (now t) m (now ids) k ⌝ }
+    requires room { ⌜ Room m (now order) (now owns) (now aside) ⌝ }
+    ensures { λ r. ⌜ Peeled (check (now (t .entry)) m) m n k (keptOf (now (t .entry)) m)
+        (now (order .exit)) (now (owns .exit)) (now (aside .exit)) (r .taken) (r .aside) ⌝ }
 {
     let mut live = [0u8; 512];
     let mut count = [0u16; 1024];
@@ -260,11 +286,14 @@ pub fn choose_checks(
     owns: &mut [u16],
     aside: &mut [u16],
 ) -> Choice
-    requires { ⌜ (refusal (now t) ≡ 0) × (m ≡ number (now t)) × (n ≡ places (now t)) × Starts (now t) m (now starts) × (length (now work) ≡ 8192) × (512 ≤ length (now order)) × (512 ≤ length (now owns)) × (512 ≤ length (now aside)) ⌝ }
-    ensures { λ r. ⌜ ChoiceOf (now (t .entry)) (now (order .exit)) (now (owns .exit)) (now (aside .exit)) (r .kept) (r .ones) (r .taken) (r .aside) × (now (work .exit) ≡ replicate 8192 0) ⌝ }
+    requires { ⌜ (refusal (now t) ≡ 0) × (m ≡ number (now t)) × (n ≡ places (now t)) × Starts (now t) m (now starts)
+        × (length (now work) ≡ 8192) × (512 ≤ length (now order)) × (512 ≤ length (now owns)) × (512 ≤ length (now aside)) ⌝ }
+    ensures choice { λ r. ⌜ ChoiceOf (now (t .entry)) (now (order .exit)) (now (owns .exit)) (now (aside .exit))
+        (r .kept) (r .ones) (r .taken) (r .aside) ⌝ }
+    ensures work { λ _. ⌜ now (work .exit) ≡ replicate 8192 0 ⌝ }
 {
     let mut ids = [0u16; 512];
-    let k = rows::keep_checks(t, m, n, work, &mut ids);
+    let k = keep::keep_checks(t, m, n, work, &mut ids);
     let ones = ones_of(t, m, &ids, k);
     let c = peel_kept(t, m, n, starts, &ids, k, order, owns, aside);
     Choice {

@@ -1,3 +1,4 @@
+-- `columns::fill_columns` meets its contract: the columns are those of the first i set-aside checks.
 use mathlib.Core.List.{map}
 use Rattle.gf2.specs.Places.{rowOf}
 use Rattle.table.specs.Checks.{check, offset, Places}

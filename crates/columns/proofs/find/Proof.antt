@@ -1,3 +1,4 @@
+-- `columns::find` meets its contract: no mask below i sees the column.
 use Rattle.columns.specs.Dot.{dot}
 use Rattle.columns.proofs.Masks.{blind-more}
 use Prim.Native.Nat.{ℕ, _-_, _≤_, _<_}

@@ -1,3 +1,4 @@
+-- `columns::fit` meets its contract: `Scan` holds at each turn.
 use Rattle.columns.specs.Fitting.{Scan}
 use Prim.Native.Nat.{ℕ, _+_, _-_, _≤_, _<_}
 use mathlib.Core.Path.{_≡_, refl, _∙_}

@@ -1,5 +1,5 @@
+-- `columns::fit_one` meets its contract.
 use Rattle.columns.proofs.Scanning.{one-skipped, one-taken}
-use Prim.Native.Nat.{_-_}
 use native.Mathlib.Omega.{arith}
 use borrow.Author.Needs.{needs}
 use Rattle.columns.proofs.fit_one.Statement.{statement}

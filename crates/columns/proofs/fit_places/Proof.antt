@@ -1,5 +1,5 @@
+-- `columns::fit_places` meets its contract.
 use Rattle.columns.proofs.Inverse.{asks-aside, asks-taken, no-columns, all-fitted}
-use Prim.Native.Nat.{_-_}
 use native.Mathlib.Omega.{arith}
 use borrow.Author.Needs.{needs}
 use Rattle.columns.proofs.fit_places.Statement.{statement}

@@ -1,3 +1,4 @@
+-- `columns::mend` meets its contract: i masks are mended.
 use Rattle.columns.proofs.Masks.{Part, part-none, part-turn, part-all}
 use Prim.Native.Nat.{_-_, _≤_}
 use mathlib.Core.Path.{_≡_}

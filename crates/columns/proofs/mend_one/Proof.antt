@@ -1,5 +1,5 @@
+-- `columns::mend_one` meets its contract.
 use Rattle.columns.proofs.Masks.{mended-on, mended-off}
-use Prim.Native.Nat.{_-_}
 use mathlib.Core.Path.{sym, _∙_}
 use borrow.Author.Needs.{needs}
 use Rattle.columns.proofs.mend_one.Statement.{statement}

@@ -1,4 +1,5 @@
-use mathlib.Core.List.{map}
+-- `columns::push_all` meets its contract: k solved checks are put in.
+use mathlib.Core.List.{map, List}
 use Rattle.rule.specs.Rule.{reduce}
 use Rattle.rule.specs.Buffers.{solved}
 use Rattle.table.specs.Checks.{check, offset, Places}
@@ -6,7 +7,6 @@ use Rattle.columns.specs.Cols.{Columns}
 use Rattle.columns.proofs.Laws.{start, turn}
 use Prim.Native.Nat.{ℕ, _+_, _-_, _≤_, _<_}
 use mathlib.Core.Path.{_≡_, refl, _∙_}
-use mathlib.Core.List.{List}
 use native.Mathlib.Omega.{arith}
 use lib.ListN.{length, getD}
 use Rattle.columns.proofs.push_all.Statement.{statement}

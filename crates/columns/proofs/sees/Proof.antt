@@ -1,5 +1,5 @@
+-- `columns::sees` meets its contract.
 use Rattle.columns.proofs.Dots.{seen}
-use Prim.Native.Nat.{_-_}
 use Rattle.columns.proofs.sees.Statement.{statement}
 use Rattle.columns.proofs.sees.Tie as tie
 

@@ -1,10 +1,11 @@
-use lib.Bits.{bitXor}
-use Rattle.live.specs.Live.{Upd}
-use Rattle.live.proofs.Laws.{upd-none, upd-turn, in-part, part-at, part-up}
-use Prim.Native.Nat.{ℕ, _-_, _≤_, _<_}
-use mathlib.Core.Path.{_≡_, refl, sym, _∙_}
+-- `columns::spread` meets its contract: i places are marked.
+use Prim.Native.Nat.{_-_, _≤_, _<_}
+use mathlib.Core.Path.{_≡_, refl}
 use native.Mathlib.Omega.{arith}
-use lib.ListN.{getD, take, drop}
+use lib.Bits.{bitXor}
+use lib.ListN.{length, take, drop}
+use Rattle.live.specs.Live.{Upd}
+use Rattle.live.specs.MarkLaws.{upd-none, upd-turn, place-low}
 use Rattle.columns.proofs.spread.Statement.{statement}
 use Rattle.columns.proofs.spread.Tie as tie
 
@@ -29,33 +30,24 @@ shared-slice-read-wide c = omega arith
 wide-requires : tie.Need-wide-requires Inv-loop μ-loop
 wide-requires c κs = omega arith
 
-mul-col : tie.Need-mul-col Inv-loop μ-loop
-mul-col c =
-    let s = c .before .before .before .loop in
-    let b = c .before .before .before .before .before .before .pre .below (s .i) (omega arith) in
-    let l = s .inv .1 .len in
+-- the place lies in the list
+in-range : (c : tie.After-wide Inv-loop μ-loop) → c .wide .result < length (c .before .before .before .loop .col)
+in-range c =
+    let l = c .before .before .before .loop .inv .1 .len in
+    let p = place-low (c .before .before .before .before .before .before .pre) (c .before .before .loop-test .taken) _ (c .wide .ensures) in
     omega arith
+
+mul-col : tie.Need-mul-col Inv-loop μ-loop
+mul-col c = let r = in-range c in omega arith
 
 slice-read-col : tie.Need-slice-read-col Inv-loop μ-loop
-slice-read-col c =
-    let s = c .before .before .before .before .loop in
-    let b = c .before .before .before .before .before .before .before .pre .below (s .i) (omega arith) in
-    let l = s .inv .1 .len in
-    omega arith
+slice-read-col c = let r = in-range (c .before) in omega arith
 
 mul-col-2 : tie.Need-mul-col-2 Inv-loop μ-loop
-mul-col-2 c =
-    let s = c .before .before .before .before .loop in
-    let b = c .before .before .before .before .before .before .before .pre .below (s .i) (omega arith) in
-    let l = s .inv .1 .len in
-    omega arith
+mul-col-2 c = let r = in-range (c .before) in omega arith
 
 slice-write-col : tie.Need-slice-write-col Inv-loop μ-loop
-slice-write-col c =
-    let s = c .before .before .before .before .loop in
-    let b = c .before .before .before .before .before .before .before .pre .below (s .i) (omega arith) in
-    let l = s .inv .1 .len in
-    omega arith
+slice-write-col c = let r = in-range (c .before) in omega arith
 
 add-i : tie.Need-add-i Inv-loop μ-loop
 add-i c = omega arith
@@ -64,26 +56,13 @@ loop-less : tie.Need-loop-less Inv-loop μ-loop
 loop-less c = omega arith
 
 loop-again : tie.Need-loop-again Inv-loop μ-loop
-loop-again c =
-    let s = c .before .before .before .before .loop in
-    let a = c .before .before .before .before .before .before .before .args in
-    let ps = c .before .before .before .before .before .before .before .pre in
-    let less = c .before .before .before .loop-test .taken in
-    let e = c .before .wide .ensures in
-    let g = e ∙ sym (part-at (a .t .now) (a .at) (a .weight) _ (s .i) ps less) in
-    let b = ps .below (s .i) less in
-    let up : (k : ℕ) → k < s .i → getD (drop (a .at) (a .t .now)) k 0 < c .before .wide .result = rw e (part-up (a .t .now) (a .at) (a .weight) _ (s .i) ps less) in
-    let ins = in-part (a .t .now) (a .at) (a .weight) _ (s .i) ps less in
-    (omega arith, upd-turn _ (s .i) _ _ ins g (omega arith) up refl (s .inv .1))
+loop-again c = (omega arith, upd-turn (c .before .before .before .before .before .before .before .pre) (c .before .before .before .loop-test .taken) _ (c .before .wide .ensures) _ (omega arith) refl (c .before .before .before .before .loop .inv .1))
 
 same-length : tie.Need-same-length Inv-loop μ-loop
 same-length c = c .before .loop .inv .1 .len
 
 returns : tie.Need-returns Inv-loop μ-loop
-returns c =
-    let s = c .before .loop in
-    let e : s .i ≡ c .before .before .before .before .args .weight = omega arith in
-    rw e at (s .inv .1)
+returns c = let e : c .before .loop .i ≡ c .before .before .before .before .args .weight = omega arith in rw e at (c .before .loop .inv .1)
 
 pub spread-spec : {M : Type 1} → statement M
 spread-spec =

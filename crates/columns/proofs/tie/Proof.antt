@@ -1,5 +1,5 @@
+-- `columns::tie` meets its contract.
 use Rattle.columns.proofs.Masks.{tied}
-use Prim.Native.Nat.{_-_}
 use native.Mathlib.Omega.{arith}
 use lib.ListN.{length-set}
 use borrow.Author.Needs.{needs}

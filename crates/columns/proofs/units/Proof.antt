@@ -1,3 +1,4 @@
+-- `columns::units` meets its contract: i masks are units.
 use Rattle.columns.proofs.Masks.{units-more}
 use Rattle.columns.proofs.Laws.{unit-word}
 use Prim.Native.Nat.{ℕ, _-_, _^_, _≤_, _<_}

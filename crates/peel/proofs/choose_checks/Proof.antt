@@ -1,25 +1,16 @@
+-- `peel::choose_checks` meets its contract.
 use Rattle.peel.proofs.Choosing.{numbers-of, table-valid, table-checks, choice}
-use Prim.Native.Nat.{ℕ, zero, suc, _+_, _-_, _*_, _/_, _%_, _^_, _≤_, _<_}
-use mathlib.Core.Path.{_≡_, refl, sym, ap, ap₂, _∙_, subst}
-use mathlib.Core.Bool.{Bool, true, false}
-use mathlib.Core.List.{List, [], _∷_, _++_}
-use mathlib.Core.Logic.{⊎-elim}
+use Prim.Native.Nat.{ℕ}
+use mathlib.Core.Path.{ap, _∙_}
 use native.Mathlib.Omega.{arith}
-use lib.ListN.{length, replicate}
+use lib.ListN.{replicate}
 use borrow.Author.Needs.{needs}
 use Rattle.peel.proofs.choose_checks.Statement.{statement}
 use Rattle.peel.proofs.choose_checks.Tie as tie
-use Rattle.peel.proofs.choose_checks.Reads as reads
-use Rattle.peel.proofs.choose_checks.Lts as lts
-use Rattle.peel.proofs.ones_of.Reads as ones-of-reads
-use Rattle.peel.proofs.peel_kept.Reads as peel-kept-reads
-use Rattle.rows.proofs.keep_checks.Reads as keep-checks-reads
 
--- src/lib.rt:240:46
 slice-aggregate-keep-checks : tie.Need-slice-aggregate-keep-checks
 slice-aggregate-keep-checks c = search needs
 
--- src/lib.rt:240:9
 keep-checks-requires : tie.Need-keep-checks-requires
 keep-checks-requires c κs =
     let p = c .before .before .before .before .before .before .before .before .pre in
@@ -27,13 +18,11 @@ keep-checks-requires c κs =
     let v = table-valid t (p .0) (p .1) (p .2) in
     let f = v .few in
     let l = p .4 in
-    (v, omega arith, f)
+    (v, (omega arith, f))
 
--- src/lib.rt:241:30
 slice-aggregate-ones-of : tie.Need-slice-aggregate-ones-of
 slice-aggregate-ones-of c = search needs
 
--- src/lib.rt:241:9
 ones-of-requires : tie.Need-ones-of-requires
 ones-of-requires c κs =
     let p = c .before .before .before .before .before .before .before .before .before .before .before .before .before .pre in
@@ -41,36 +30,29 @@ ones-of-requires c κs =
     let v = table-valid t (p .0) (p .1) (p .2) in
     (v .few, v .weights, numbers-of (c .before .before .before .before .keep-checks .ensures .0))
 
--- src/lib.rt:242:40
 slice-aggregate-peel-kept : tie.Need-slice-aggregate-peel-kept
 slice-aggregate-peel-kept c = search needs
 
--- src/lib.rt:242:9
 peel-kept-requires : tie.Need-peel-kept-requires
 peel-kept-requires c κs =
     let p = c .before .before .before .before .before .before .before .before .before .before .before .before .before .before .before .before .before .before .pre in
     let t = c .before .before .before .before .before .before .before .before .before .before .before .before .before .before .before .before .before .before .args .t .now in
     let v = table-checks t (p .0) (p .1) (p .2) in
     let f = v .few in
-    (v, p .3, numbers-of (c .before .before .before .before .before .before .before .before .before .keep-checks .ensures .0), omega arith, omega arith, omega arith)
+    (record { checks = v; starts-at = p .3 }, (numbers-of (c .before .before .before .before .before .before .before .before .before .keep-checks .ensures .0), record { taken = omega arith; places = omega arith; put = omega arith }))
 
--- src/lib.rt:226:1
 same-length : tie.Need-same-length
 same-length c = search needs
 
--- src/lib.rt:226:1
 same-length-2 : tie.Need-same-length-2
 same-length-2 c = search needs
 
--- src/lib.rt:226:1
 same-length-3 : tie.Need-same-length-3
 same-length-3 c = search needs
 
--- src/lib.rt:226:1
 same-length-4 : tie.Need-same-length-4
 same-length-4 c = search needs
 
--- src/lib.rt:226:1
 returns : tie.Need-returns
 returns c =
     let p = c .before .before .before .before .before .before .before .before .before .before .before .before .before .before .before .before .before .before .before .before .before .before .before .before .before .pre in

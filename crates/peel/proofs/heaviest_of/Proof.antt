@@ -1,18 +1,12 @@
+-- `peel::heaviest_of` meets its contract: the rest of the scan decides.
 use Rattle.peel.specs.Turn.{lives, heaviestFrom, weight}
 use Rattle.peel.proofs.Turns.{lives-hit, lives-miss, lives-end, hv-up, hv-keep, weight-is}
-use Prim.Native.Nat.{ℕ, zero, suc, _+_, _-_, _*_, _/_, _%_, _^_, _≤_, _<_}
-use mathlib.Core.Path.{_≡_, refl, sym, ap, ap₂, _∙_, subst}
-use mathlib.Core.Bool.{Bool, true, false}
-use mathlib.Core.List.{List, [], _∷_, _++_}
+use Prim.Native.Nat.{_+_, _-_, _≤_}
+use mathlib.Core.Path.{_≡_, sym, ap, _∙_}
 use mathlib.Core.Logic.{⊎-elim}
 use native.Mathlib.Omega.{arith}
-use lib.ListN.{length, getD, set, take, drop, length-set}
-use borrow.Author.Needs.{needs}
 use Rattle.peel.proofs.heaviest_of.Statement.{statement}
 use Rattle.peel.proofs.heaviest_of.Tie as tie
-use Rattle.peel.proofs.heaviest_of.Reads as reads
-use Rattle.peel.proofs.heaviest_of.Lts as lts
-use Rattle.peel.proofs.wide.Reads as wide-reads
 
 abbrev Inv-loop : tie.InvT-loop
 Inv-loop t m live best₀ w₀ i₀ best w i = (i ≤ m) × (heaviestFrom (weight t) m 0 (lives live 0 m) ≡ heaviestFrom (weight t) best w (lives live i (m - i)))
@@ -20,43 +14,33 @@ Inv-loop t m live best₀ w₀ i₀ best w i = (i ≤ m) × (heaviestFrom (weigh
 abbrev μ-loop : tie.MeasureT-loop
 μ-loop t m live best₀ w₀ i₀ best w i = m - i
 
--- src/lib.rt:28:5
 loop-holds : tie.Need-loop-holds Inv-loop μ-loop
 loop-holds c = let e : c .before .before .args .m - 0 ≡ c .before .before .args .m = omega arith in (omega arith, rw e)
 
--- src/lib.rt:29:12
 shared-slice-read-if1 : tie.Need-shared-slice-read-if1 Inv-loop μ-loop
 shared-slice-read-if1 c = omega arith
 
--- src/lib.rt:30:28
 add-wide : tie.Need-add-wide Inv-loop μ-loop
 add-wide c = omega arith
 
--- src/lib.rt:30:26
 mul-wide : tie.Need-mul-wide Inv-loop μ-loop
 mul-wide c = omega arith
 
--- src/lib.rt:30:26
 shared-slice-read-wide : tie.Need-shared-slice-read-wide Inv-loop μ-loop
 shared-slice-read-wide c = omega arith
 
--- src/lib.rt:30:17
 wide-requires : tie.Need-wide-requires Inv-loop μ-loop
 wide-requires c κs = omega arith
 
--- src/lib.rt:33:21
 add-w : tie.Need-add-w Inv-loop μ-loop
 add-w c = omega (arith, c .before .before .shared-slice-known4 .given (4 + c .before .before .before .before .before .before .loop .i))
 
--- src/lib.rt:36:9
 add-i : tie.Need-add-i Inv-loop μ-loop
 add-i c = omega arith
 
--- src/lib.rt:28:5
 loop-less : tie.Need-loop-less Inv-loop μ-loop
 loop-less c = omega arith
 
--- src/lib.rt:28:5
 loop-again : tie.Need-loop-again Inv-loop μ-loop
 loop-again c =
     let s = c .before .before .before .loop in
@@ -70,7 +54,6 @@ loop-again c =
     (λ u. (omega arith, s .inv .1 ∙ ap (heaviestFrom _ _ _) (lives-miss _ (s .i) _ h (u .0 .left)) ∙ rw (u .1, u .2))))
     (c .if1 .came)
 
--- src/lib.rt:21:1
 returns : tie.Need-returns Inv-loop μ-loop
 returns c =
     let s = c .before .loop in

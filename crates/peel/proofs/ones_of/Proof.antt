@@ -1,20 +1,15 @@
+-- `peel::ones_of` meets its contract: the sum is that of the kept checks from i on.
 use Rattle.table.specs.Table.{total}
-use Rattle.rows.specs.Row.{keptOf}
+use Rattle.keep.specs.Kept.{keptOf}
 use Rattle.peel.specs.Turn.{weight}
-use Rattle.peel.proofs.First.{ones-start, ones-turn, number-at, number-low, numbers-room}
-use Prim.Native.Nat.{ℕ, zero, suc, _+_, _-_, _*_, _/_, _%_, _^_, _≤_, _<_}
-use mathlib.Core.Path.{_≡_, refl, sym, ap, ap₂, _∙_, subst}
-use mathlib.Core.Bool.{Bool, true, false}
-use mathlib.Core.List.{List, [], _∷_, _++_, map}
-use mathlib.Core.Logic.{⊎-elim}
+use Rattle.peel.proofs.KeptLive.{ones-start, ones-turn, number-at, number-low, numbers-room}
+use Prim.Native.Nat.{_+_, _-_, _*_, _≤_}
+use mathlib.Core.Path.{_≡_, _∙_}
+use mathlib.Core.List.{map}
 use native.Mathlib.Omega.{arith}
-use lib.ListN.{length, getD, set, take, drop, length-set}
-use borrow.Author.Needs.{needs}
+use lib.ListN.{drop}
 use Rattle.peel.proofs.ones_of.Statement.{statement}
 use Rattle.peel.proofs.ones_of.Tie as tie
-use Rattle.peel.proofs.ones_of.Reads as reads
-use Rattle.peel.proofs.ones_of.Lts as lts
-use Rattle.peel.proofs.wide.Reads as wide-reads
 
 abbrev Inv-loop : tie.InvT-loop
 Inv-loop t m ids k sum₀ i₀ sum i = (i ≤ k) × (sum + 65536 * i ≤ 65536 * k) × (sum ≡ total (map (weight t) (drop i (keptOf t m))))
@@ -22,63 +17,51 @@ Inv-loop t m ids k sum₀ i₀ sum i = (i ≤ k) × (sum + 65536 * i ≤ 65536 *
 abbrev μ-loop : tie.MeasureT-loop
 μ-loop t m ids k sum₀ i₀ sum i = i
 
--- src/lib.rt:166:5
 loop-holds : tie.Need-loop-holds Inv-loop μ-loop
 loop-holds c = (omega arith, omega arith, ones-start (c .before .before .pre .2))
 
--- src/lib.rt:167:9
 sub-i : tie.Need-sub-i Inv-loop μ-loop
 sub-i c = omega arith
 
--- src/lib.rt:168:22
 mul-wide : tie.Need-mul-wide Inv-loop μ-loop
 mul-wide c = let r = numbers-room (c .before .before .before .before .pre .2) .0 in omega arith
 
--- src/lib.rt:168:22
 shared-slice-read-wide : tie.Need-shared-slice-read-wide Inv-loop μ-loop
 shared-slice-read-wide c = let r = numbers-room (c .before .before .before .before .before .pre .2) .0 in omega arith
 
--- src/lib.rt:168:13
 wide-requires : tie.Need-wide-requires Inv-loop μ-loop
 wide-requires c κs = omega arith
 
--- src/lib.rt:169:23
 add-wide : tie.Need-add-wide Inv-loop μ-loop
 add-wide c =
     let low = number-low (c .before .before .before .loop .i - 1) (c .before .before .before .before .before .before .pre .2) (omega arith) in
     let w = c .wide .ensures in
     omega arith
 
--- src/lib.rt:169:21
 mul-wide-2 : tie.Need-mul-wide-2 Inv-loop μ-loop
 mul-wide-2 c =
     let low = number-low (c .before .before .before .loop .i - 1) (c .before .before .before .before .before .before .pre .2) (omega arith) in
     let w = c .wide .ensures in
     omega arith
 
--- src/lib.rt:169:21
 shared-slice-read-wide-2 : tie.Need-shared-slice-read-wide-2 Inv-loop μ-loop
 shared-slice-read-wide-2 c =
     let low = number-low (c .before .before .before .before .loop .i - 1) (c .before .before .before .before .before .before .before .pre .2) (omega arith) in
     let w = c .before .wide .ensures in
     omega arith
 
--- src/lib.rt:169:16
 wide-requires-2 : tie.Need-wide-requires-2 Inv-loop μ-loop
 wide-requires-2 c κs = omega arith
 
--- src/lib.rt:169:9
 add-sum : tie.Need-add-sum Inv-loop μ-loop
 add-sum c =
     let r = numbers-room (c .before .before .before .before .before .before .before .before .pre .2) .1 in
     let w = c .wide2 .ensures in
     omega (arith, c .before .shared-slice-known4 .given (4 + c .before .before .wide .result))
 
--- src/lib.rt:166:5
 loop-less : tie.Need-loop-less Inv-loop μ-loop
 loop-less c = omega arith
 
--- src/lib.rt:166:5
 loop-again : tie.Need-loop-again Inv-loop μ-loop
 loop-again c =
     let p = c .before .before .before .before .before .before .before .before .pre in
@@ -88,7 +71,6 @@ loop-again c =
     let e = c .before .before .wide .ensures ∙ number-at (s .i - 1) (p .2) (omega arith) in
     (omega arith, omega (arith, c .before .shared-slice-known4 .given (4 + c .before .before .wide .result)), ones-turn _ _ (s .i) (c .before .before .wide .result) (s .sum) (c .wide2 .result) (omega arith) (omega arith) e w (s .inv .2))
 
--- src/lib.rt:160:1
 returns : tie.Need-returns Inv-loop μ-loop
 returns c =
     let e : c .before .loop .i ≡ 0 = omega arith in

@@ -1,0 +1,195 @@
+-- The loop over the checks keeps those of the rule: `Keeps` holds at each turn.
+use mathlib.Core.Path.{_≡_, refl, sym, ap, ap₂, _∙_, subst}
+use mathlib.Core.Bool.{Bool, true, false, _||_}
+use mathlib.Core.List.{List, [], _∷_, _++_, append-assoc, append-nil}
+use Prim.Native.Nat.{ℕ, suc, _+_, _*_, _-_, _^_, _<_, _≤_}
+use native.Mathlib.Numerals.{add-one}
+use native.Mathlib.Omega.{arith}
+use lib.Bits.{bitXor}
+use lib.Dec.{eqb}
+use lib.ListN.{length, getD, set, take, drop}
+use lib.Seq.{getD-set-same, getD-set-other}
+use Rattle.gf2.specs.Bit.{bits-zero, eqb-true, eqb-false}
+use Rattle.gf2.specs.Echelon.{Bits, rowsOf, sums, down}
+use Rattle.gf2.specs.EchelonLaws.{bit-nonzero, down-test, down-in, one-more, sums-shift, sums-none}
+use Rattle.gf2.specs.Fit.{isZero}
+use Rattle.gf2.specs.Greedy.{choose, onto}
+use Rattle.gf2.specs.Group.{XorGroup}
+use Rattle.gf2.specs.Places.{rowOf}
+use Rattle.gf2.specs.Span.{byBool}
+use Rattle.table.specs.Checks.{offset, check, from}
+use Rattle.bits.specs.Front.{Front, front-none, front-more}
+use Rattle.bits.specs.Row.{row}
+use Rattle.bits.specs.RowLaws.{row-lt}
+use Rattle.rows.specs.Leads.{leads, Owners, Lowered}
+use Rattle.rows.specs.LeadsLaws.{leads-none, leads-at, named, owners-lead, row-named, leads-kept, owners-kept}
+use Rattle.keep.specs.Kept.{keptOf}
+
+-- ---- numbers in a row
+from-cons : (i m : ℕ) → i < m → from i (m - i) ≡ i ∷ from (i + 1) (m - (i + 1))
+unfolding from
+from-cons i m h =
+    let e : m - i ≡ suc (m - (i + 1)) = omega arith in
+    ap (from i) e ∙ ap (λ (k : ℕ). i ∷ from k (m - (i + 1))) (sym (add-one i))
+
+from-none : (i m : ℕ) → m ≤ i → from i (m - i) ≡ []
+unfolding from
+from-none i m h = let e : m - i ≡ 0 = omega arith in rw e
+
+offset-more : (t : List ℕ) (i : ℕ) → offset t (i + 1) ≡ offset t i + getD t (4 + i) 0
+unfolding offset
+offset-more t i = ap (offset t) (add-one i)
+
+abbrev pub checkRow : List ℕ → ℕ → ℕ → ℕ
+checkRow t m j = rowOf (check t m j)
+
+-- the rows of the checks ps, the last one first
+abbrev pub keptRows : (ℕ → ℕ) → List ℕ → List ℕ
+keptRows f ps = onto XorGroup isZero f [] ps
+
+onto-last : (f : ℕ → ℕ) (R ps : List ℕ) (i : ℕ) → onto XorGroup isZero f R (ps ++ (i ∷ [])) ≡ f i ∷ onto XorGroup isZero f R ps
+onto-last f R [] i = refl
+onto-last f R (p ∷ ps) i = onto-last f (f p ∷ R) ps i
+
+-- ---- the state of the loop: ps are the numbers kept so far
+pub record Keeps (t : List ℕ) (m n : ℕ) (ids₀ w owner ids : List ℕ) (k i at : ℕ) : Type 0 where
+  pub ps : List ℕ
+  pub front : Front ps ids₀ ids k
+  pub few : k ≤ i
+  pub here : at ≡ 5 + m + offset t i
+  pub owned : (p : ℕ) → getD owner p 0 ≤ k
+  pub lead : (p : ℕ) → 0 < getD owner p 0 → Bits (row w (getD owner p 0 - 1)) (p + 1)
+  pub same : (x : ℕ) → sums (rowsOf (leads w owner) n) x ≡ sums (keptRows (checkRow t m) ps) x
+  pub decides : choose XorGroup isZero (checkRow t m) [] (from 0 m) ≡ ps ++ choose XorGroup isZero (checkRow t m) (keptRows (checkRow t m) ps) (from i (m - i))
+
+pub start : (t : List ℕ) (m n : ℕ) (ids w owner : List ℕ) → ((p : ℕ) → getD owner p 0 ≡ 0) → Keeps t m n ids w owner ids 0 0 (5 + m)
+unfolding offset
+start t m n ids w owner z =
+    let e : m - 0 ≡ m = omega arith in
+    record {
+      ps = [];
+      front = front-none ids;
+      few = omega arith;
+      here = omega arith;
+      owned = λ p. let h = z p in omega arith;
+      lead = λ p h. let q = z p in absurd (omega arith);
+      same = sums-none n (λ p. leads-none w owner p (z p));
+      decides = rw e;
+    }
+
+-- each named row lies before row k
+pub owners : {t : List ℕ} {m n : ℕ} {ids₀ w owner ids : List ℕ} {k i at : ℕ} → Keeps t m n ids₀ w owner ids k i at → k * 16 ≤ length w → Owners w owner k
+owners s room = record { room = λ p. let h = s .owned p in omega arith; apart = λ p e. let h = s .owned p in omega arith; lead = s .lead }
+
+module _ {t : List ℕ} {m n : ℕ} {ids₀ w owner ids e : List ℕ} {k i at : ℕ} (l : ℕ) (s : Keeps t m n ids₀ w owner ids k i at) (room : k * 16 ≤ length w) (more : i < m)
+    (d : Lowered w owner k n (checkRow t m i) e l) where
+  abbrev f : ℕ → ℕ
+  f = checkRow t m
+
+  abbrev y : ℕ
+  y = down (leads w owner) n (f i)
+
+  abbrev K : List ℕ
+  K = keptRows f (s .ps)
+
+  abbrev R : List ℕ
+  R = from (i + 1) (m - (i + 1))
+
+  o : Owners w owner k
+  o = owners s room
+
+  next : at + getD t (4 + i) 0 ≡ 5 + m + offset t (i + 1)
+  next = omega (arith, offset-more t i, s .here)
+
+  test : isZero y ≡ sums K (f i)
+  test = down-test (owners-lead o) n (f i) ∙ s .same (f i)
+
+  pub turn-miss : (0 < l → ⊥) → Keeps t m n ids₀ e owner ids k (i + 1) (at + getD t (4 + i) 0)
+  turn-miss h =
+      let z : l ≡ 0 = omega (arith, h) in
+      let lt : y < 2 ^ (16 * 64) = subst (λ (v : ℕ). v < 2 ^ (16 * 64)) (d .put .here) (row-lt e k) in
+      let nil : y ≡ 0 = bits-zero (16 * 64) y lt (λ q _. d .bits .most .above q (omega arith)) in
+      let c : sums K (f i) ≡ true = sym test ∙ ap isZero nil in
+      let fw = s .few in
+      record {
+        ps = s .ps;
+        front = s .front;
+        few = omega arith;
+        here = next;
+        owned = s .owned;
+        lead = owners-kept o (d .put) .lead;
+        same = λ x. ap (λ (F : ℕ → ℕ). sums (rowsOf F n) x) (leads-kept o (d .put)) ∙ s .same x;
+        decides = s .decides ∙ ap (λ (r : List ℕ). s .ps ++ r) (ap (choose XorGroup isZero f K) (from-cons i m more) ∙ rw (c, choose));
+      }
+
+  module _ (hit : 0 < l) (lo : l ≤ length owner) (li : k < length ids₀) where
+    abbrev q : ℕ
+    q = l - 1
+
+    abbrev own : List ℕ
+    own = set owner q (k + 1)
+
+    own-here : getD own q 0 ≡ k + 1
+    own-here = getD-set-same owner q (k + 1) 0 (omega arith)
+
+    own-other : (p : ℕ) → (p ≡ q → ⊥) → getD own p 0 ≡ getD owner p 0
+    own-other p h = getD-set-other owner q p (k + 1) 0 h
+
+    here-row : leads e own q ≡ y
+    here-row =
+        let o = own-here in
+        let g : getD own q 0 - 1 ≡ k = omega arith in
+        leads-at e own q (omega arith) ∙ ap (row e) g ∙ d .put .here
+
+    other-row : (p : ℕ) → (p ≡ q → ⊥) → leads e own p ≡ leads w owner p
+    other-row p h = let b = own-other p h in named (getD owner p 0)
+        (λ z. leads-none e own p (b ∙ z) ∙ sym (leads-none w owner p z))
+        (λ z. leads-at e own p (omega arith) ∙ ap (λ (v : ℕ). row e (v - 1)) b ∙ row-named o (d .put) p z ∙ sym (leads-at w owner p z))
+
+    new-owned : (p : ℕ) → getD own p 0 ≤ k + 1
+    new-owned p = byBool (eqb p q)
+        (λ a. let b : p ≡ q = eqb-true p q a in let h = own-here in rw b (omega arith))
+        (λ a. let b = own-other p (eqb-false p q a) in let c = s .owned p in omega arith)
+
+    new-lead : (p : ℕ) → 0 < getD own p 0 → Bits (row e (getD own p 0 - 1)) (p + 1)
+    new-lead p h = byBool (eqb p q)
+        (λ a. let b : p ≡ q = eqb-true p q a in
+        let g : getD own p 0 - 1 ≡ k = omega (arith, own-here, ap (λ (j : ℕ). getD own j 0) b) in
+        let v : p + 1 ≡ l = omega arith in
+        subst (λ (u : ℕ). Bits (row e (getD own p 0 - 1)) u) (sym v) (subst (λ (u : ℕ). Bits u l) (sym (ap (row e) g ∙ d .put .here)) (d .bits)))
+        (λ a. let b = own-other p (eqb-false p q a) in
+        let z : 0 < getD owner p 0 = omega arith in
+        subst (λ (u : ℕ). Bits u (p + 1)) (sym (ap (λ (v : ℕ). row e (v - 1)) b ∙ row-named o (d .put) p z)) (s .lead p z))
+
+    pub turn-hit : Keeps t m n ids₀ e own (set ids k i) (k + 1) (i + 1) (at + getD t (4 + i) 0)
+    turn-hit =
+        let mo = d .most in
+        let c : sums K (f i) ≡ false = sym test ∙ bit-nonzero q y (d .bits .last hit) in
+        let kr = onto-last f [] (s .ps) i in
+        let fw = s .few in
+        record {
+          ps = s .ps ++ (i ∷ []);
+          front = front-more i (s .front) li;
+          few = omega arith;
+          here = next;
+          owned = new-owned;
+          lead = new-lead;
+          same = λ x. one-more q y n (omega arith) other-row here-row (leads-none w owner q (d .free hit)) x
+              ∙ ap (λ (v : Bool). sums (rowsOf (leads w owner) n) x || v) (sums-shift (rowsOf (leads w owner) n) y (f i) x (down-in (leads w owner) n (f i)))
+              ∙ ap₂ _||_ (s .same x) (s .same (bitXor (f i) x))
+              ∙ sym (ap (λ (L : List ℕ). sums L x) kr);
+          decides = s .decides ∙ ap (λ (r : List ℕ). s .ps ++ r) (ap (choose XorGroup isZero f K) (from-cons i m more) ∙ rw (c, choose))
+              ∙ sym (append-assoc (s .ps) (i ∷ []) (choose XorGroup isZero f (f i ∷ K) R))
+              ∙ sym (ap (λ (L : List ℕ). (s .ps ++ (i ∷ [])) ++ choose XorGroup isZero f L R) kr);
+        }
+
+pub stop : {t : List ℕ} {m n : ℕ} {ids₀ w owner ids : List ℕ} {k at : ℕ} → Keeps t m n ids₀ w owner ids k m at → Front (keptOf t m) ids₀ ids k
+unfolding keptOf
+stop {t} {m} {n} {ids₀} {w} {owner} {ids} {k} s =
+    let b : keptOf t m ≡ s .ps = s .decides ∙ ap (λ (r : List ℕ). s .ps ++ choose XorGroup isZero (checkRow t m) (keptRows (checkRow t m) (s .ps)) r) (from-none m m (omega arith)) ∙ append-nil (s .ps) in
+    subst (λ (l : List ℕ). Front l ids₀ ids k) (sym b) (s .front)
+
+pub told : {w owner e : List ℕ} {k n r : ℕ} (t : List ℕ) (m i : ℕ) {at wt : ℕ} → at ≡ 5 + m + offset t i → wt ≡ getD t (4 + i) 0
+    → Lowered w owner k n (rowOf (take wt (drop at t))) e r → Lowered w owner k n (checkRow t m i) e r
+unfolding check
+told {w} {owner} {e} {k} {n} {r} t m i a b d = subst (λ (x : ℕ). Lowered w owner k n x e r) (ap₂ (λ (x y : ℕ). rowOf (take x (drop y t))) b a) d

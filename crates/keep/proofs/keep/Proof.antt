@@ -1,0 +1,193 @@
+-- `keep::keep` meets its contract: `Keeps` holds at each turn.
+use Prim.Native.Nat.{_+_, _-_, _*_, _<_, _≤_}
+use mathlib.Core.Path.{_≡_, refl, sym, ap, _∙_}
+use mathlib.Core.Logic.{⊎-elim}
+use native.Mathlib.Omega.{arith}
+use lib.ListN.{length, length-set}
+use Rattle.bits.specs.Front.{front-length}
+use Rattle.keep.proofs.Keeping.{Keeps, start, owners, turn-hit, turn-miss, stop, told}
+use Rattle.keep.proofs.keep.Statement.{statement}
+use Rattle.keep.proofs.keep.Tie as tie
+
+abbrev Inv-loop : tie.InvT-loop
+Inv-loop t m n w₀ owner₀ ids₀ noted₀ k₀ i₀ at₀ w owner ids noted k i at =
+    (i ≤ m) × (length w ≡ length w₀) × (length owner ≡ length owner₀) × (length noted ≡ 1024) × Keeps t m n ids₀ w owner ids k i at
+
+abbrev μ-loop : tie.MeasureT-loop
+μ-loop t m n w₀ owner₀ ids₀ noted₀ k₀ i₀ at₀ w owner ids noted k i at = m - i
+
+add-at : tie.Need-add-at Inv-loop μ-loop
+add-at c = let f = c .before .before .before .before .pre .0 .few in omega arith
+
+loop-holds : tie.Need-loop-holds Inv-loop μ-loop
+loop-holds c = (omega arith, refl, refl, refl, start _ _ _ _ _ _ (c .before .before .before .before .pre .1 .1))
+
+add-wide : tie.Need-add-wide Inv-loop μ-loop
+add-wide c = let v = c .before .before .before .before .before .before .pre .0 .weights in omega arith
+
+mul-wide : tie.Need-mul-wide Inv-loop μ-loop
+mul-wide c = let v = c .before .before .before .before .before .before .pre .0 .weights in omega arith
+
+shared-slice-read-wide : tie.Need-shared-slice-read-wide Inv-loop μ-loop
+shared-slice-read-wide c = let v = c .before .before .before .before .before .before .before .pre .0 .weights in omega arith
+
+wide-requires : tie.Need-wide-requires Inv-loop μ-loop
+wide-requires c κs = omega arith
+
+slice-aggregate-eliminate : tie.Need-slice-aggregate-eliminate Inv-loop μ-loop
+slice-aggregate-eliminate c = sym (c .before .before .before .before .before .before .loop .inv .3)
+
+eliminate-requires : tie.Need-eliminate-requires Inv-loop μ-loop
+eliminate-requires c κs =
+    let s = c .before .before .before .before .before .before .loop in
+    let p = c .before .before .before .before .before .before .before .before .before .before .before .pre in
+    let v = p .0 in
+    let less = c .before .before .before .before .before .loop-test .taken in
+    let r = v .room (s .i) less in
+    let h = s .inv .4 .here in
+    let f = s .inv .4 .few in
+    let nar = v .narrow in
+    let room = p .1 .0 in
+    let w = c .before .before .before .wide .ensures in
+    let l1 = s .inv .1 in
+    let l2 = s .inv .2 in
+    let l3 = s .inv .3 in
+    ((omega arith, nar, omega arith, omega arith), (owners (s .inv .4) (omega arith), (omega arith, λ j z. v .below (s .at + j) (omega arith) (omega arith))))
+
+-- a row more: its number and its lead are in range
+in-range : (c : tie.Then1 Inv-loop μ-loop) → (c .before .before .before .before .before .before .before .before .before .before .before .loop .k < 512) × (c .before .before .before .before .eliminate .result ≤ length (c .before .before .before .before .before .before .before .before .before .before .before .loop .owner)) × (c .before .before .before .before .before .before .before .before .before .before .before .loop .k < length (c .before .before .before .before .before .before .before .before .before .before .before .loop .ids))
+in-range c =
+    let s = c .before .before .before .before .before .before .before .before .before .before .before .loop in
+    let p = c .before .before .before .before .before .before .before .before .before .before .before .before .before .before .before .before .pre in
+    let room = p .1 .0 in
+    let less = c .before .before .before .before .before .before .before .before .before .before .loop-test .taken in
+    let few = s .inv .4 .few in
+    let most = p .0 .few in
+    let own = s .inv .2 in
+    let lead = c .before .before .before .before .eliminate .ensures .most in
+    let long = front-length (s .inv .4 .front) (omega arith) in
+    (omega arith, omega arith, omega arith)
+
+add-owner : tie.Need-add-owner Inv-loop μ-loop
+add-owner c = let b = in-range c in omega arith
+
+cast-owner : tie.Need-cast-owner Inv-loop μ-loop
+cast-owner c = let b = in-range c in omega arith
+
+sub-owner : tie.Need-sub-owner Inv-loop μ-loop
+sub-owner c = omega (arith, c .if1 .taken)
+
+mul-owner : tie.Need-mul-owner Inv-loop μ-loop
+mul-owner c = let b = in-range c in omega (arith, c .if1 .taken)
+
+slice-write-owner : tie.Need-slice-write-owner Inv-loop μ-loop
+slice-write-owner c = let b = in-range c in omega (arith, c .if1 .taken)
+
+cast-ids : tie.Need-cast-ids Inv-loop μ-loop
+cast-ids c = let f = c .before .before .before .before .before .before .before .before .before .before .before .before .before .before .before .before .pre .0 .few in omega (arith, c .before .before .before .before .before .before .before .before .before .before .loop-test .taken)
+
+mul-ids : tie.Need-mul-ids Inv-loop μ-loop
+mul-ids c = let b = in-range c in omega arith
+
+slice-write-ids : tie.Need-slice-write-ids Inv-loop μ-loop
+slice-write-ids c = let b = in-range c in omega arith
+
+add-k : tie.Need-add-k Inv-loop μ-loop
+add-k c = let b = in-range c in omega arith
+
+add-at-2 : tie.Need-add-at-2 Inv-loop μ-loop
+add-at-2 c =
+    let s = c .before .before .before .before .before .before .before .before .before .before .before .loop in
+    let less = c .before .before .before .before .before .before .before .before .before .before .loop-test .taken in
+    let r = c .before .before .before .before .before .before .before .before .before .before .before .before .before .before .before .before .pre .0 .room (s .i) less in
+    let h = s .inv .4 .here in
+    let w = c .before .before .before .before .before .before .before .before .wide .ensures in
+    omega arith
+
+add-i : tie.Need-add-i Inv-loop μ-loop
+add-i c = omega (arith, c .before .before .before .before .before .before .before .before .before .before .loop-test .taken)
+
+loop-less : tie.Need-loop-less Inv-loop μ-loop
+loop-less c = omega (arith, c .before .before .before .before .before .before .before .before .before .before .loop-test .taken)
+
+loop-again : tie.Need-loop-again Inv-loop μ-loop
+loop-again c =
+    let s = c .before .before .before .before .before .before .before .before .before .before .before .loop in
+    let p = c .before .before .before .before .before .before .before .before .before .before .before .before .before .before .before .before .pre in
+    let wd = c .before .before .before .before .before .before .before .before .wide .ensures in
+    let d = told _ _ _ (s .inv .4 .here) wd (c .before .before .before .before .eliminate .ensures) in
+    let long = d .put .len ∙ s .inv .1 in
+    let less = c .before .before .before .before .before .before .before .before .before .before .loop-test .taken in
+    let few = s .inv .4 .few in
+    let own = s .inv .2 in
+    let len = s .inv .1 in
+    let room = p .1 .0 in
+    let mo = d .most in
+    let noted = c .before .noted2 .given in
+    ⊎-elim
+    (λ u. (
+      omega arith,
+      long,
+      ap length (u .1) ∙ simp length-set own,
+      noted,
+      rw (u .1, u .2, u .3, wd) (turn-hit _ (s .inv .4) (omega arith) less d (u .0 .taken) (omega arith) (omega arith)),
+    ))
+    (λ u. (
+      omega arith,
+      long,
+      ap length (u .1) ∙ own,
+      noted,
+      rw (u .1, u .2, u .3, wd) (turn-miss _ (s .inv .4) (omega arith) less d (λ z. omega (arith, u .0 .left, z))),
+    ))
+    (c .if1 .came)
+
+same-length : tie.Need-same-length Inv-loop μ-loop
+same-length c = c .before .loop .inv .1
+
+same-length-2 : tie.Need-same-length-2 Inv-loop μ-loop
+same-length-2 c = c .before .loop .inv .2
+
+same-length-3 : tie.Need-same-length-3 Inv-loop μ-loop
+same-length-3 c =
+    let s = c .before .loop .inv in
+    let few = s .4 .few in
+    let room = c .before .before .before .before .before .before .pre .1 .0 in
+    front-length (s .4 .front) (omega arith)
+
+returns : tie.Need-returns Inv-loop μ-loop
+returns c =
+    let s = c .before .loop in
+    let e : s .i ≡ c .before .before .before .before .before .before .args .m = omega arith in
+    stop (rw e at (s .inv .4))
+
+pub keep-spec : {M : Type 1} → statement M
+keep-spec =
+    tie.close
+    (tie.spec
+    Inv-loop
+    μ-loop
+    add-at
+    loop-holds
+    add-wide
+    mul-wide
+    shared-slice-read-wide
+    wide-requires
+    slice-aggregate-eliminate
+    eliminate-requires
+    add-owner
+    cast-owner
+    sub-owner
+    mul-owner
+    slice-write-owner
+    cast-ids
+    mul-ids
+    slice-write-ids
+    add-k
+    add-at-2
+    add-i
+    loop-less
+    loop-again
+    same-length
+    same-length-2
+    same-length-3
+    returns)
