@@ -8,6 +8,7 @@ use borrow.Author.Tests.{eq-eqb, ne-eqb, le-leb, lt-leb, lt-ltb, le-ltb}
 use lib.Dec.{eqb, ltb, leb}
 use lib.ListN.{length, drop, replicate}
 use Rattle.table.specs.Table.{refusal, tooShort, beyondLimits, badLengths, badPlaces}
+use Rattle.plan.specs.Layout.{mostAside, leastPlan}
 use Rattle.rule.specs.Buffers.{peeling}
 use Rattle.rule.specs.Rule.{setAsideOf}
 use Rattle.planner.specs.Planning.{workWords, planningRefusal, planOf, numbersOf, refusedBy, answerAt, plans, planAnswer, planAfter, workAfter, Answer}
@@ -68,34 +69,34 @@ module _ (t P W : List ℕ) where
       pos zero z = absurd (z refl)
       pos (suc x) z = omega arith
 
-  plans-plan : refusal t ≡ 0 → leb 15360 (length P) ≡ false → plans t P W ≡ 5
+  plans-plan : refusal t ≡ 0 → leb leastPlan (length P) ≡ false → plans t P W ≡ 5
   unfolding planningRefusal
   plans-plan a b = rw (eq-eqb (refusal t) 0 a, planningRefusal, b)
 
-  plans-work : refusal t ≡ 0 → leb 15360 (length P) ≡ true → eqb (length W) 8192 ≡ false → plans t P W ≡ 5
+  plans-work : refusal t ≡ 0 → leb leastPlan (length P) ≡ true → eqb (length W) workWords ≡ false → plans t P W ≡ 5
   unfolding planningRefusal
   plans-work a b c = rw (eq-eqb (refusal t) 0 a, planningRefusal, b, c)
 
-  plans-gap : (x : Bool) → refusal t ≡ 0 → leb 15360 (length P) ≡ true → eqb (length W) 8192 ≡ true → ltb 32 (planOf t .g) ≡ x → plans t P W ≡ cond x 6 0
+  plans-gap : (x : Bool) → refusal t ≡ 0 → leb leastPlan (length P) ≡ true → eqb (length W) workWords ≡ true → ltb mostAside (planOf t .g) ≡ x → plans t P W ≡ cond x 6 0
   unfolding planningRefusal
   plans-gap true a b c d = rw (eq-eqb (refusal t) 0 a, planningRefusal, b, c, d)
   plans-gap false a b c d = rw (eq-eqb (refusal t) 0 a, planningRefusal, b, c, d)
 
-  pub short-plan : refusal t ≡ 0 → length P < 15360 → Outcome t P W (refusedBy 5) P W
-  short-plan a b = stays 5 (plans-plan a (lt-leb 15360 (length P) b)) (omega arith) (omega arith)
+  pub short-plan : refusal t ≡ 0 → length P < leastPlan → Outcome t P W (refusedBy 5) P W
+  short-plan a b = stays 5 (plans-plan a (lt-leb leastPlan (length P) b)) (omega arith) (omega arith)
 
-  pub wrong-work : refusal t ≡ 0 → 15360 ≤ length P → (length W ≡ 8192 → ⊥) → Outcome t P W (refusedBy 5) P W
-  wrong-work a b c = stays 5 (plans-work a (le-leb 15360 (length P) b) (ne-eqb (length W) 8192 c)) (omega arith) (omega arith)
+  pub wrong-work : refusal t ≡ 0 → leastPlan ≤ length P → (length W ≡ workWords → ⊥) → Outcome t P W (refusedBy 5) P W
+  wrong-work a b c = stays 5 (plans-work a (le-leb leastPlan (length P) b) (ne-eqb (length W) workWords c)) (omega arith) (omega arith)
 
-  pub many-aside : refusal t ≡ 0 → 15360 ≤ length P → length W ≡ 8192 → 32 < planOf t .g → Outcome t P W (refusedBy 6) P (replicate 8192 0)
+  pub many-aside : refusal t ≡ 0 → leastPlan ≤ length P → length W ≡ workWords → mostAside < planOf t .g → Outcome t P W (refusedBy 6) P (replicate workWords 0)
   many-aside a b c d =
-      let e = plans-gap true a (le-leb 15360 (length P) b) (eq-eqb (length W) 8192 c) (lt-ltb 32 (planOf t .g) d) in
+      let e = plans-gap true a (le-leb leastPlan (length P) b) (eq-eqb (length W) workWords c) (lt-ltb mostAside (planOf t .g) d) in
       record { answer = rw e; plan-is = sym (ap (planAt t P) e); work-is = sym (ap (workAt W) e) }
 
-  pub served : refusal t ≡ 0 → 15360 ≤ length P → length W ≡ 8192 → planOf t .g ≤ 32
-      → Outcome t P W (answerAt 0 t) (numbersOf t ++ drop (length (numbersOf t)) P) (replicate 8192 0)
+  pub served : refusal t ≡ 0 → leastPlan ≤ length P → length W ≡ workWords → planOf t .g ≤ mostAside
+      → Outcome t P W (answerAt 0 t) (numbersOf t ++ drop (length (numbersOf t)) P) (replicate workWords 0)
   served a b c d =
-      let e = plans-gap false a (le-leb 15360 (length P) b) (eq-eqb (length W) 8192 c) (le-ltb 32 (planOf t .g) d) in
+      let e = plans-gap false a (le-leb leastPlan (length P) b) (eq-eqb (length W) workWords c) (le-ltb mostAside (planOf t .g) d) in
       record { answer = rw e; plan-is = sym (ap (planAt t P) e); work-is = sym (ap (workAt W) e) }
 
 pub gap-is : (t : List ℕ) → planOf t .g ≡ length (setAsideOf (peeling t))

@@ -5,27 +5,17 @@ use mathlib.Core.List.{List, [], _∷_, _++_}
 use Prim.Native.Nat.{ℕ, zero, suc, _+_}
 use lib.Dec.{eqb, ltb, leb}
 use lib.ListN.{length, drop, replicate}
-use Rattle.table.specs.Table.{places, size, checks, refusal}
+use Rattle.table.specs.Table.{refusal}
 use Rattle.plan.specs.Step.{addSteps}
-use Rattle.plan.specs.Layout.{planNumbers, mostAside}
-use Rattle.rule.specs.Rule.{plan, Plan}
+use Rattle.plan.specs.Layout.{mostAside}
+pub use Rattle.plan.specs.Layout.{leastPlan}
+use Rattle.rule.specs.Rule.{Plan}
+unfoldable pub use Rattle.rule.specs.PlanOf.{planOf, numbersOf}
 use Rattle.planner.specs.declared.Planned.{Planned}
-
--- "the planner's plan at least 15,360 numbers"
-abbrev pub leastPlan : ℕ
-leastPlan = 15360
 
 -- "work exactly 8,192 64-bit words"
 abbrev pub workWords : ℕ
 workWords = 8192
-
--- the rule's plan of a table
-unfoldable pub planOf : List ℕ → Plan
-planOf t = plan (places t) (checks t)
-
--- its numbers
-unfoldable pub numbersOf : List ℕ → List ℕ
-numbersOf t = planNumbers (places t) (size t) (planOf t .g) (planOf t .M) (planOf t .info) (planOf t .list)
 
 -- the first cause that holds: 1 to 4; 5, a buffer of wrong length; 6, "more than 32 checks set aside"
 unfoldable pub planningRefusal : List ℕ → ℕ → ℕ → ℕ
