@@ -1,31 +1,23 @@
--- The steps of one check, one set-aside check and one fitted place after the other.
+-- The steps of the solved checks, of the checks set aside and of the fitted places, one after the other.
 use mathlib.Core.Path.{_≡_, refl, sym, ap, ap₂, _∙_}
 use mathlib.Core.List.{List, [], _∷_, _++_, map}
 use Prim.Native.Nat.{ℕ, zero, suc, _+_, _-_, _<_, _≤_}
 use native.Mathlib.Numerals.{add-one}
 use native.Mathlib.Omega.{arith}
-use lib.ListN.{length, getD, take, drop, length-map, length-append, drop-of-length-le}
+use lib.ListN.{length, getD, take, drop, drop-of-length-le, replicate}
 use lib.Seq.{drop-cons, getD-take, length-take-le}
 use Rattle.gf2.specs.Lists.{rev, eqb-lt}
 use Rattle.gf2.specs.Places.{has, minus}
 use Rattle.gf2.specs.Span.{byBool}
 use Rattle.table.specs.Checks.{check, offset, Places, Checks}
 use Rattle.table.specs.Table.{places, number}
-use Rattle.plan.specs.declared.Step.{Step}
 use Rattle.plan.specs.Step.{pack}
 use Rattle.rule.specs.Rule.{Solved, clearAndAdd, solvingSteps, scratchSteps, slotsNamed}
 use Rattle.rule.specs.Buffers.{solved, maskBits}
 use Rattle.emit.specs.Emit.{marked, solvedIn, asideIn, fittingRows, Readable}
-use Rattle.emit.proofs.Laws.{Left, left-room, left-length}
+use Rattle.emit.specs.MarkLaws.{solving-same, none-marked}
+use Rattle.emit.specs.WroteLaws.{packed-append}
 use Rattle.emit.proofs.Sums.{part-length, part-at}
-
--- ---- packed steps
-pub packed-append : (a b : List Step) → map pack (a ++ b) ≡ map pack a ++ map pack b
-packed-append [] b = refl
-packed-append (x ∷ a) b = ap (λ r. pack x ∷ r) (packed-append a b)
-
-pub packed-length : (a : List Step) → length (map pack a) ≡ length a
-packed-length a = length-map a pack
 
 -- ---- a check as code reads it
 check-is : (t : List ℕ) (m j start weight : ℕ) → start ≡ 5 + m + offset t j → weight ≡ getD t (4 + j) 0 → take weight (drop start t) ≡ check t m j
@@ -129,6 +121,6 @@ fits-next n g fitted rows j h =
     ∙ packed-append (clearAndAdd (getD fitted j 0) (slotsNamed n (maskBits g (getD rows j 0)))) _
     ∙ ap (λ k. map pack (clearAndAdd (getD fitted j 0) (slotsNamed n (maskBits g (getD rows j 0)))) ++ map pack (fittingRows n g fitted rows k (g - (j + 1)))) (sym (add-one j))
 
--- the next steps have room
-pub left-steps : {l : List ℕ} {at : ℕ} {ws e : List ℕ} {k : ℕ} (room : at + length ws ≤ length l) (a : List Step) (rest : List ℕ) → Left l at ws (map pack a ++ rest) e k → k + length a ≤ length e
-left-steps room a rest w = let r = left-room room w in let n = left-length room w in let p = packed-length a in let s = length-append (map pack a) rest in omega arith
+-- where nothing is marked no place is left out
+pub whole-is : (us : List Solved) → solvingSteps (marked (replicate 1024 0)) us ≡ solvingSteps [] us
+whole-is us = solving-same (marked (replicate 1024 0)) [] us (none-marked 1024)

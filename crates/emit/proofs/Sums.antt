@@ -11,7 +11,7 @@ use Rattle.gf2.specs.Places.{minus}
 use Rattle.plan.specs.declared.Step.the-variants.{Add}
 use Rattle.plan.specs.Step.{pack}
 use Rattle.emit.specs.Emit.{marked}
-use Rattle.emit.proofs.Marks.{has-marked, minus-in, minus-out}
+use Rattle.emit.specs.MarkLaws.{has-marked, minus-in, minus-out}
 
 -- the add steps of the places c
 abbrev pub adds : ℕ → List ℕ → List ℕ → List ℕ

@@ -6,8 +6,8 @@ use Prim.Native.Nat.{ℕ, _+_, _-_, _<_, _≤_}
 use borrow.Author.Tests.{eq-eqb, ne-eqb, lt-ltb, le-ltb}
 use lib.Dec.{eqb, ltb}
 use lib.ListN.{length, getD}
-use Rattle.table.specs.Table.{outside}
-use Rattle.plan.specs.Layout.{planPlaces, planSize, planGap, planKept, infoCount, stepCount, badCounts}
+use Rattle.table.specs.Table.{mostPlaces, mostBytes, mostChecks, outside}
+use Rattle.plan.specs.Layout.{mostAside, mostSteps, headCount, leastNumbers, planPlaces, planSize, planGap, planKept, infoCount, stepCount, stepsAt, badCounts}
 use Rattle.plan.specs.LookOver.{badLengths, badLimits}
 
 pub outside-zero : (most x : ℕ) → x ≡ 0 → true ≡ outside most x
@@ -20,49 +20,49 @@ module _ (w : List ℕ) where
   pub lengths-info : (infoCount w ≡ planPlaces w - planKept w → ⊥) → true ≡ badLengths w
   lengths-info a = rw (ne-eqb (infoCount w) (planPlaces w - planKept w) a)
 
-  pub lengths-short : infoCount w ≡ planPlaces w - planKept w → length w < 7 + infoCount w → true ≡ badLengths w
-  lengths-short a b = rw (eq-eqb (infoCount w) (planPlaces w - planKept w) a, lt-ltb (length w) (7 + infoCount w) b)
+  pub lengths-short : infoCount w ≡ planPlaces w - planKept w → length w < stepsAt w → true ≡ badLengths w
+  lengths-short a b = rw (eq-eqb (infoCount w) (planPlaces w - planKept w) a, lt-ltb (length w) (stepsAt w) b)
 
-  pub lengths-steps : infoCount w ≡ planPlaces w - planKept w → 7 + infoCount w ≤ length w → 13344 < stepCount w → true ≡ badLengths w
+  pub lengths-steps : infoCount w ≡ planPlaces w - planKept w → stepsAt w ≤ length w → mostSteps < stepCount w → true ≡ badLengths w
   lengths-steps a b d =
-      rw (eq-eqb (infoCount w) (planPlaces w - planKept w) a, le-ltb (length w) (7 + infoCount w) b, lt-ltb 13344 (stepCount w) d)
+      rw (eq-eqb (infoCount w) (planPlaces w - planKept w) a, le-ltb (length w) (stepsAt w) b, lt-ltb mostSteps (stepCount w) d)
 
-  pub lengths-last : infoCount w ≡ planPlaces w - planKept w → 7 + infoCount w ≤ length w → stepCount w ≤ 13344
-      → not (eqb (length w) (7 + infoCount w + stepCount w)) ≡ badLengths w
+  pub lengths-last : infoCount w ≡ planPlaces w - planKept w → stepsAt w ≤ length w → stepCount w ≤ mostSteps
+      → not (eqb (length w) (stepsAt w + stepCount w)) ≡ badLengths w
   lengths-last a b d =
-      rw (eq-eqb (infoCount w) (planPlaces w - planKept w) a, le-ltb (length w) (7 + infoCount w) b, le-ltb 13344 (stepCount w) d)
+      rw (eq-eqb (infoCount w) (planPlaces w - planKept w) a, le-ltb (length w) (stepsAt w) b, le-ltb mostSteps (stepCount w) d)
 
-  pub limits-places : outside 1024 (planPlaces w) ≡ true → true ≡ badLimits w
+  pub limits-places : outside mostPlaces (planPlaces w) ≡ true → true ≡ badLimits w
   limits-places a = rw a
 
-  module _ (a : outside 1024 (planPlaces w) ≡ false) where
-    pub limits-size : outside 1024 (planSize w) ≡ true → true ≡ badLimits w
+  module _ (a : outside mostPlaces (planPlaces w) ≡ false) where
+    pub limits-size : outside mostBytes (planSize w) ≡ true → true ≡ badLimits w
     limits-size b = rw (a, b)
 
-    module _ (b : outside 1024 (planSize w) ≡ false) where
-      pub limits-gap : 32 < planGap w → true ≡ badLimits w
-      limits-gap d = rw (a, b, lt-ltb 32 (planGap w) d)
+    module _ (b : outside mostBytes (planSize w) ≡ false) where
+      pub limits-gap : mostAside < planGap w → true ≡ badLimits w
+      limits-gap d = rw (a, b, lt-ltb mostAside (planGap w) d)
 
-      module _ (d : planGap w ≤ 32) where
+      module _ (d : planGap w ≤ mostAside) where
         pub limits-aside : planKept w < planGap w → true ≡ badLimits w
-        limits-aside e = rw (a, b, le-ltb 32 (planGap w) d, lt-ltb (planKept w) (planGap w) e)
+        limits-aside e = rw (a, b, le-ltb mostAside (planGap w) d, lt-ltb (planKept w) (planGap w) e)
 
         module _ (e : planGap w ≤ planKept w) where
           pub limits-kept : planPlaces w < planKept w → true ≡ badLimits w
-          limits-kept f = rw (a, b, le-ltb 32 (planGap w) d, le-ltb (planKept w) (planGap w) e, lt-ltb (planPlaces w) (planKept w) f)
+          limits-kept f = rw (a, b, le-ltb mostAside (planGap w) d, le-ltb (planKept w) (planGap w) e, lt-ltb (planPlaces w) (planKept w) f)
 
           module _ (f : planKept w ≤ planPlaces w) where
-            pub limits-checks : 512 < planKept w → true ≡ badLimits w
-            limits-checks h = rw (a, b, le-ltb 32 (planGap w) d, le-ltb (planKept w) (planGap w) e, le-ltb (planPlaces w) (planKept w) f, lt-ltb 512 (planKept w) h)
+            pub limits-checks : mostChecks < planKept w → true ≡ badLimits w
+            limits-checks h = rw (a, b, le-ltb mostAside (planGap w) d, le-ltb (planKept w) (planGap w) e, le-ltb (planPlaces w) (planKept w) f, lt-ltb mostChecks (planKept w) h)
 
-            pub limits-last : planKept w ≤ 512 → badLengths w ≡ badLimits w
-            limits-last h = rw (a, b, le-ltb 32 (planGap w) d, le-ltb (planKept w) (planGap w) e, le-ltb (planPlaces w) (planKept w) f, le-ltb 512 (planKept w) h)
+            pub limits-last : planKept w ≤ mostChecks → badLengths w ≡ badLimits w
+            limits-last h = rw (a, b, le-ltb mostAside (planGap w) d, le-ltb (planKept w) (planGap w) e, le-ltb (planPlaces w) (planKept w) f, le-ltb mostChecks (planKept w) h)
 
-  pub counts-short : length w < 7 → true ≡ badCounts w
-  counts-short a = rw (lt-ltb (length w) 7 a)
+  pub counts-short : length w < leastNumbers → true ≡ badCounts w
+  counts-short a = rw (lt-ltb (length w) leastNumbers a)
 
-  pub counts-first : 7 ≤ length w → (getD w 0 0 ≡ 4 → ⊥) → true ≡ badCounts w
-  counts-first a b = rw (le-ltb (length w) 7 a, ne-eqb (getD w 0 0) 4 b)
+  pub counts-first : leastNumbers ≤ length w → (getD w 0 0 ≡ headCount → ⊥) → true ≡ badCounts w
+  counts-first a b = rw (le-ltb (length w) leastNumbers a, ne-eqb (getD w 0 0) headCount b)
 
-  pub counts-last : 7 ≤ length w → getD w 0 0 ≡ 4 → badLimits w ≡ badCounts w
-  counts-last a b = rw (le-ltb (length w) 7 a, eq-eqb (getD w 0 0) 4 b)
+  pub counts-last : leastNumbers ≤ length w → getD w 0 0 ≡ headCount → badLimits w ≡ badCounts w
+  counts-last a b = rw (le-ltb (length w) leastNumbers a, eq-eqb (getD w 0 0) headCount b)

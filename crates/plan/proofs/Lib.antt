@@ -1,4 +1,5 @@
 pub mod Counts
 pub mod Decoding
+pub mod HeadWritten
 pub mod Marking
 pub mod Passing

@@ -16,7 +16,7 @@ use Rattle.gf2.specs.Span.{byBool}
 use Rattle.plan.specs.declared.Decoded.the-variants.{Valid, Invalid}
 use Rattle.plan.specs.declared.Step.{Step}
 use Rattle.plan.specs.declared.Step.the-variants.{Clear, Add}
-use Rattle.plan.specs.Layout.{goodStep, infoIn, stepsIn, slots, planRefusal, badCounts, planPlaces, planGap, infoCount}
+use Rattle.plan.specs.Layout.{goodStep, infoIn, stepsIn, slots, planRefusal, badCounts, planPlaces, planGap, stepsAt}
 use Rattle.table.specs.Table.{rising}
 use Rattle.plan.specs.LookOver.{Marks, isMarked, writable, goodStepBy}
 use Rattle.plan.specs.Step.{unpack, decodedOf}
@@ -79,9 +79,9 @@ module _ (k : ℕ) (I marks : List ℕ) (long : k ≤ length marks) (m : Marks I
   same-pass (w ∷ ws) = ap₂ _&&_ (same-good (unpack w)) (same-pass ws)
 
 -- the look-over's pass over a plan's steps
-pub same-steps : (w m : List ℕ) (n g i : ℕ) → n ≡ planPlaces w → g ≡ planGap w → i ≡ infoCount w → slots w ≤ length m → Marks (infoIn w) m
-    → allPass (λ x. goodStepBy (n + g) (isMarked m) (unpack x)) (drop (7 + i) w) ≡ allPass (λ x. goodStep (slots w) (infoIn w) (unpack x)) (stepsIn w)
-same-steps w m n g i a b c long marks = rw (a, b, c) (same-pass (slots w) (infoIn w) m long marks (stepsIn w))
+pub same-steps : (w m : List ℕ) (n g at : ℕ) → n ≡ planPlaces w → g ≡ planGap w → at ≡ stepsAt w → slots w ≤ length m → Marks (infoIn w) m
+    → allPass (λ x. goodStepBy (n + g) (isMarked m) (unpack x)) (drop at w) ≡ allPass (λ x. goodStep (slots w) (infoIn w) (unpack x)) (stepsIn w)
+same-steps w m n g at a b c long marks = rw (a, b, c) (same-pass (slots w) (infoIn w) m long marks (stepsIn w))
 
 -- ---- the whole
 module _ (w : List ℕ) where

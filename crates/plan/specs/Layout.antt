@@ -22,11 +22,35 @@ mostAside = 32
 abbrev pub mostSteps : ℕ
 mostSteps = 13344
 
+-- "the planner's plan at least 15,360 numbers"
+abbrev pub leastPlan : ℕ
+leastPlan = 15360
+
 -- ---- writing
+-- the first number says how many follow it in the first section
+abbrev pub headCount : ℕ
+headCount = 4
+
+abbrev pub planHead : ℕ → ℕ → ℕ → ℕ → List ℕ
+planHead n s g M = headCount ∷ n ∷ s ∷ g ∷ M ∷ []
+
+abbrev pub infoNumbers : List ℕ → List ℕ
+infoNumbers info = length info ∷ info
+
+abbrev pub stepNumbers : List Step → List ℕ
+stepNumbers steps = length steps ∷ map pack steps
+
 abbrev pub planNumbers : ℕ → ℕ → ℕ → ℕ → List ℕ → List Step → List ℕ
-planNumbers n s g M info steps = 4 ∷ n ∷ s ∷ g ∷ M ∷ length info ∷ (info ++ (length steps ∷ map pack steps))
+planNumbers n s g M info steps = planHead n s g M ++ (infoNumbers info ++ stepNumbers steps)
 
 -- ---- reading
+-- where the count of information places stands, and where they start
+abbrev pub infoCountAt : ℕ
+infoCountAt = headCount + 1
+
+abbrev pub infoAt : ℕ
+infoAt = infoCountAt + 1
+
 abbrev pub planPlaces : List ℕ → ℕ
 planPlaces w = getD w 1 0
 
@@ -41,17 +65,25 @@ planKept w = getD w 4 0
 
 -- the count of information places
 abbrev pub infoCount : List ℕ → ℕ
-infoCount w = getD w 5 0
+infoCount w = getD w infoCountAt 0
 
 abbrev pub infoIn : List ℕ → List ℕ
-infoIn w = take (infoCount w) (drop 6 w)
+infoIn w = take (infoCount w) (drop infoAt w)
 
--- the count of steps
+-- the count of steps, right behind the information places
 abbrev pub stepCount : List ℕ → ℕ
-stepCount w = getD w (6 + infoCount w) 0
+stepCount w = getD w (infoAt + infoCount w) 0
+
+-- where the steps start
+abbrev pub stepsAt : List ℕ → ℕ
+stepsAt w = infoAt + 1 + infoCount w
 
 abbrev pub stepsIn : List ℕ → List ℕ
-stepsIn w = drop (7 + infoCount w) w
+stepsIn w = drop (stepsAt w) w
+
+-- a plan of no information places and no steps has this many numbers
+abbrev pub leastNumbers : ℕ
+leastNumbers = infoAt + 1
 
 -- slots 0 to n − 1 are places, n to n + g − 1 are scratch
 abbrev pub slots : List ℕ → ℕ
@@ -64,10 +96,10 @@ stepsOf w = unpackAll (stepsIn w)
 -- ---- cause 9
 -- "wrong counts or length, n or s beyond limits, g over 32 or over M, M over n or 512, over 13,344 steps"
 abbrev pub badCounts : List ℕ → Bool
-badCounts w = ltb (length w) 7 || (not (eqb (getD w 0 0) 4) || (outside mostPlaces (planPlaces w) || (outside mostBytes (planSize w)
+badCounts w = ltb (length w) leastNumbers || (not (eqb (getD w 0 0) headCount) || (outside mostPlaces (planPlaces w) || (outside mostBytes (planSize w)
     || (ltb mostAside (planGap w) || (ltb (planKept w) (planGap w) || (ltb (planPlaces w) (planKept w) || (ltb mostChecks (planKept w)
-    || (not (eqb (infoCount w) (planPlaces w - planKept w)) || (ltb (length w) (7 + infoCount w) || (ltb mostSteps (stepCount w)
-    || not (eqb (length w) (7 + infoCount w + stepCount w))))))))))))
+    || (not (eqb (infoCount w) (planPlaces w - planKept w)) || (ltb (length w) (stepsAt w) || (ltb mostSteps (stepCount w)
+    || not (eqb (length w) (stepsAt w + stepCount w))))))))))))
 
 -- "an unknown kind, a slot outside, clear with from above 0, a slot added into itself, or an information place written",
 -- for k slots and the information places I

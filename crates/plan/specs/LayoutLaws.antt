@@ -5,17 +5,17 @@ use mathlib.Core.List.{List, [], _∷_}
 use mathlib.Core.Option.{Option, none, some}
 use Prim.Native.Nat.{ℕ, zero, suc, _+_, _-_, _<_, _≤_}
 use native.Mathlib.Omega.{arith}
-use borrow.Author.Tests.{ltb-true, ltb-false, leb-true, eqb-true, eqb-false, not-true, not-false}
+use borrow.Author.Tests.{ltb-true, ltb-false, leb-true, eqb-true, eqb-false, not-true, not-false, lt-ltb, ne-eqb}
 use lib.Dec.{eqb, ltb, leb}
 use lib.ListN.{length, getD, drop, length-drop}
 use lib.Seq.{length-take-le, getD-drop}
 use Rattle.gf2.specs.Lists.{allPass}
 use Rattle.gf2.specs.Places.{has}
 use Rattle.gf2.specs.Span.{byBool}
-use Rattle.table.specs.Table.{outside, rising}
+use Rattle.table.specs.Table.{mostPlaces, mostBytes, mostChecks, outside, rising}
 use Rattle.plan.specs.declared.Step.{Step}
 use Rattle.plan.specs.declared.Step.the-variants.{Clear, Add}
-use Rattle.plan.specs.Layout.{planPlaces, planSize, planGap, planKept, infoCount, infoIn, stepCount, stepsIn, slots, stepsOf, badCounts, goodStep, wellFormed, planRefusal}
+use Rattle.plan.specs.Layout.{mostAside, mostSteps, headCount, leastNumbers, planPlaces, planSize, planGap, planKept, infoAt, infoCount, infoIn, stepCount, stepsAt, stepsIn, slots, stepsOf, badCounts, goodStep, wellFormed, planRefusal}
 use Rattle.plan.specs.Step.{unpack, unpackAll, SlotsBelow}
 
 -- ---- tests
@@ -41,18 +41,18 @@ and-right false b e = absurd (false≢true e)
 
 -- ---- the counts
 pub record Counted (w : List ℕ) : Type 0 where
-  pub first : getD w 0 0 ≡ 4
+  pub first : getD w 0 0 ≡ headCount
   pub some-places : 1 ≤ planPlaces w
-  pub few-places : planPlaces w ≤ 1024
+  pub few-places : planPlaces w ≤ mostPlaces
   pub some-bytes : 1 ≤ planSize w
-  pub few-bytes : planSize w ≤ 1024
-  pub few-aside : planGap w ≤ 32
+  pub few-bytes : planSize w ≤ mostBytes
+  pub few-aside : planGap w ≤ mostAside
   pub aside-kept : planGap w ≤ planKept w
   pub kept-places : planKept w ≤ planPlaces w
-  pub few-kept : planKept w ≤ 512
+  pub few-kept : planKept w ≤ mostChecks
   pub info : infoCount w ≡ planPlaces w - planKept w
-  pub few-steps : stepCount w ≤ 13344
-  pub whole : length w ≡ 7 + infoCount w + stepCount w
+  pub few-steps : stepCount w ≤ mostSteps
+  pub whole : length w ≡ stepsAt w + stepCount w
 
 -- a number within its limits
 inside-low : (most x : ℕ) → outside most x ≡ false → 1 ≤ x
@@ -98,21 +98,21 @@ none-of a b c d e f g h i j k l z =
     }
 
 pub counted : (w : List ℕ) → badCounts w ≡ false → Counted w
-counted w h = let t = none-of (ltb (length w) 7) (not (eqb (getD w 0 0) 4)) (outside 1024 (planPlaces w)) (outside 1024 (planSize w)) (ltb 32 (planGap w))
-    (ltb (planKept w) (planGap w)) (ltb (planPlaces w) (planKept w)) (ltb 512 (planKept w)) (not (eqb (infoCount w) (planPlaces w - planKept w)))
-    (ltb (length w) (7 + infoCount w)) (ltb 13344 (stepCount w)) (not (eqb (length w) (7 + infoCount w + stepCount w))) h in record {
-      first = eqb-true (getD w 0 0) 4 (not-false (eqb (getD w 0 0) 4) (t .t1));
-      some-places = inside-low 1024 (planPlaces w) (t .t2);
-      few-places = inside-high 1024 (planPlaces w) (t .t2);
-      some-bytes = inside-low 1024 (planSize w) (t .t3);
-      few-bytes = inside-high 1024 (planSize w) (t .t3);
-      few-aside = ltb-false 32 (planGap w) (t .t4);
+counted w h = let t = none-of (ltb (length w) leastNumbers) (not (eqb (getD w 0 0) headCount)) (outside mostPlaces (planPlaces w)) (outside mostBytes (planSize w))
+    (ltb mostAside (planGap w)) (ltb (planKept w) (planGap w)) (ltb (planPlaces w) (planKept w)) (ltb mostChecks (planKept w))
+    (not (eqb (infoCount w) (planPlaces w - planKept w))) (ltb (length w) (stepsAt w)) (ltb mostSteps (stepCount w)) (not (eqb (length w) (stepsAt w + stepCount w))) h in record {
+      first = eqb-true (getD w 0 0) headCount (not-false (eqb (getD w 0 0) headCount) (t .t1));
+      some-places = inside-low mostPlaces (planPlaces w) (t .t2);
+      few-places = inside-high mostPlaces (planPlaces w) (t .t2);
+      some-bytes = inside-low mostBytes (planSize w) (t .t3);
+      few-bytes = inside-high mostBytes (planSize w) (t .t3);
+      few-aside = ltb-false mostAside (planGap w) (t .t4);
       aside-kept = ltb-false (planKept w) (planGap w) (t .t5);
       kept-places = ltb-false (planPlaces w) (planKept w) (t .t6);
-      few-kept = ltb-false 512 (planKept w) (t .t7);
+      few-kept = ltb-false mostChecks (planKept w) (t .t7);
       info = eqb-true (infoCount w) (planPlaces w - planKept w) (not-false (eqb (infoCount w) (planPlaces w - planKept w)) (t .t8));
-      few-steps = ltb-false 13344 (stepCount w) (t .t10);
-      whole = eqb-true (length w) (7 + infoCount w + stepCount w) (not-false (eqb (length w) (7 + infoCount w + stepCount w)) (t .t11));
+      few-steps = ltb-false mostSteps (stepCount w) (t .t10);
+      whole = eqb-true (length w) (stepsAt w + stepCount w) (not-false (eqb (length w) (stepsAt w + stepCount w)) (t .t11));
     }
 
 -- ---- places in ascending order
@@ -165,6 +165,16 @@ sound k I (Add to from) h =
       apart = eqb-false to from (not-true (eqb to from) (and-left (not (eqb to from)) (not (has to I)) q));
       leaves = not-true (has to I) (and-right (not (eqb to from)) (not (has to I)) q);
     }
+
+-- and the other way round
+pub sound-good : (k : ℕ) (I : List ℕ) (x : Step) → Sound k I x → goodStep k I (some x) ≡ true
+sound-good k I (Clear to) r = rw (lt-ltb to k (r .below), r .leaves)
+sound-good k I (Add to from) r = rw (lt-ltb to k (r .below .0), lt-ltb from k (r .below .1), ne-eqb to from (r .apart), r .leaves)
+
+-- its slots can be packed
+pub sound-slots : (k : ℕ) (I : List ℕ) (x : Step) → k ≤ 4096 → Sound k I x → SlotsBelow 4096 x
+sound-slots k I (Clear to) h r = let b = r .below in omega arith
+sound-slots k I (Add to from) h r = let b = r .below in (omega arith, omega arith)
 
 -- a number that is a step gives it
 pub unpackAll-cons : (w : ℕ) (ws : List ℕ) (x : Step) → unpack w ≡ some x → unpackAll (w ∷ ws) ≡ x ∷ unpackAll ws
@@ -229,15 +239,15 @@ pub refused : (w : List ℕ) → (planRefusal w ≡ 0 → ⊥) → planRefusal w
 refused w h = byBool (wellFormed w) (λ e. absurd (h (rw e))) (λ e. rw e)
 
 -- as many information places as their count says
-pub info-long : (w : List ℕ) → 6 + infoCount w ≤ length w → length (infoIn w) ≡ infoCount w
-info-long w h = length-take-le (infoCount w) (drop 6 w) (let d = length-drop 6 w in omega arith)
+pub info-long : (w : List ℕ) → infoAt + infoCount w ≤ length w → length (infoIn w) ≡ infoCount w
+info-long w h = length-take-le (infoCount w) (drop infoAt w) (let d = length-drop infoAt w in omega arith)
 
 module _ (w : List ℕ) (f : Formed w) where
   pub info-length : length (infoIn w) ≡ infoCount w
   info-length = info-long w (let c = f .counts in omega arith)
 
   pub steps-in : length (stepsIn w) ≡ stepCount w
-  steps-in = let c = f .counts in let d = length-drop (7 + infoCount w) w in omega arith
+  steps-in = let c = f .counts in let d = length-drop (stepsAt w) w in omega arith
 
   -- every information place is below n
   pub info-below : (k : ℕ) → k < infoCount w → getD (infoIn w) k 0 < planPlaces w
@@ -251,9 +261,9 @@ module _ (w : List ℕ) (f : Formed w) where
   pub steps-length : length (stepsOf w) ≡ stepCount w
   steps-length = unpackAll-length (slots w) (infoIn w) (stepsIn w) (f .steps) ∙ steps-in
 
-  pub step-at : (d : Step) (i : ℕ) → i < stepCount w → unpack (getD w (7 + infoCount w + i) 0) ≡ some (getD (stepsOf w) i d)
+  pub step-at : (d : Step) (i : ℕ) → i < stepCount w → unpack (getD w (stepsAt w + i) 0) ≡ some (getD (stepsOf w) i d)
   step-at d i l =
-      ap unpack (sym (getD-drop (7 + infoCount w) w i 0))
+      ap unpack (sym (getD-drop (stepsAt w) w i 0))
       ∙ unpackAll-at (slots w) (infoIn w) d (stepsIn w) (f .steps) i (let e = steps-in in omega arith)
 
   -- its slots are there and different, and no information place is written

@@ -10,12 +10,12 @@ use Rattle.gf2.specs.Places.{has}
 use Rattle.table.specs.Table.{mostPlaces, mostBytes, mostChecks, outside, rising}
 use Rattle.plan.specs.declared.Step.{Step}
 use Rattle.plan.specs.declared.Step.the-variants.{Clear, Add}
-use Rattle.plan.specs.Layout.{mostAside, mostSteps, planPlaces, planSize, planGap, planKept, infoCount, stepCount}
+use Rattle.plan.specs.Layout.{mostAside, mostSteps, planPlaces, planSize, planGap, planKept, infoCount, stepCount, stepsAt}
 
 -- the last tests of badCounts: "wrong counts or length", "over 13,344 steps"
 abbrev pub badLengths : List ℕ → Bool
-badLengths w = not (eqb (infoCount w) (planPlaces w - planKept w)) || (ltb (length w) (7 + infoCount w) || (ltb mostSteps (stepCount w)
-    || not (eqb (length w) (7 + infoCount w + stepCount w))))
+badLengths w = not (eqb (infoCount w) (planPlaces w - planKept w)) || (ltb (length w) (stepsAt w) || (ltb mostSteps (stepCount w)
+    || not (eqb (length w) (stepsAt w + stepCount w))))
 
 -- the tests from the limits on: "n or s beyond limits, g over 32 or over M, M over n or 512"
 abbrev pub badLimits : List ℕ → Bool

@@ -1,12 +1,18 @@
-// A step of a plan, and a plan's look-over.
+// A step of a plan, the plan's layout, and a plan's look-over.
+use table::MOST_BYTES;
+use table::MOST_CHECKS;
+use table::MOST_PLACES;
 ghost use mathlib.Core.Path.{_≡_};
 ghost use Prim.Native.Nat.{ℕ, _+_, _*_, _<_, _≤_};
 ghost use mathlib.Core.List.{[]};
 ghost use mathlib.Core.Option.{some};
 ghost use lib.ListN.{length, getD, drop};
 ghost use Rattle.gf2.specs.Lists.{allPass};
+ghost use Rattle.table.specs.Packets.{written};
 ghost use Rattle.table.specs.Table.{outside};
-ghost use Rattle.plan.specs.Layout.{planPlaces, planSize, planGap, planKept, infoCount, infoIn, stepCount, badCounts, planRefusal};
+ghost use Rattle.plan.specs.Head.{HeadFits};
+ghost use Rattle.plan.specs.Layout.{leastNumbers, planHead, planPlaces, planSize, planGap, planKept};
+ghost use Rattle.plan.specs.Layout.{infoAt, infoCount, infoIn, stepCount, stepsAt, badCounts, planRefusal};
 ghost use Rattle.plan.specs.LookOver.{badLengths, badLimits, Marks, Marking, isMarked, writable, goodStepBy};
 ghost use Rattle.plan.specs.Step.{SlotsBelow, pack, unpack, decodedOf};
 
@@ -62,61 +68,104 @@ impl Step {
     }
 }
 
+// ---- the limits of a plan
+// checks set aside
+pub const MOST_ASIDE: usize = 32;
+
+pub const MOST_STEPS: usize = 13344;
+
+// places and scratch slots
+const MOST_SLOTS: usize = 1056;
+
+// ---- the layout
+// the first number: how many follow it in the first section
+pub const HEAD_COUNT: usize = 4;
+
+// where the count of information places stands
+pub const INFO_COUNT_AT: usize = HEAD_COUNT + 1;
+
+// where the information places start
+const INFO_AT: usize = INFO_COUNT_AT + 1;
+
+// the numbers of a plan of no information places and no steps
+const LEAST_NUMBERS: usize = INFO_AT + 1;
+
 fn wide(x: u32) -> usize
     ensures { λ r. ⌜ r ≡ x ⌝ }
 {
     x as usize
 }
 
+// ---- writing
+// the first section: n, s, g and M behind their count
+pub fn write_head(w: &mut [u32], n: usize, s: usize, g: usize, m: usize)
+    requires { ⌜ HeadFits (now w) n s g m ⌝ }
+    ensures { λ _. ⌜ now (w .exit) ≡ written (now (w .entry)) 0 (planHead n s g m) ⌝ }
+{
+    w[0] = HEAD_COUNT as u32;
+    w[1] = n as u32;
+    w[2] = s as u32;
+    w[3] = g as u32;
+    w[4] = m as u32;
+}
+
 // ---- a plan's counts
 pub fn places(w: &[u32]) -> usize
-    requires { ⌜ 6 < length (now w) ⌝ }
+    requires { ⌜ leastNumbers ≤ length (now w) ⌝ }
     ensures { λ r. ⌜ r ≡ planPlaces (now (w .entry)) ⌝ }
 {
     wide(w[1])
 }
 
 pub fn size(w: &[u32]) -> usize
-    requires { ⌜ 6 < length (now w) ⌝ }
+    requires { ⌜ leastNumbers ≤ length (now w) ⌝ }
     ensures { λ r. ⌜ r ≡ planSize (now (w .entry)) ⌝ }
 {
     wide(w[2])
 }
 
 pub fn gap(w: &[u32]) -> usize
-    requires { ⌜ 6 < length (now w) ⌝ }
+    requires { ⌜ leastNumbers ≤ length (now w) ⌝ }
     ensures { λ r. ⌜ r ≡ planGap (now (w .entry)) ⌝ }
 {
     wide(w[3])
 }
 
 pub fn kept(w: &[u32]) -> usize
-    requires { ⌜ 6 < length (now w) ⌝ }
+    requires { ⌜ leastNumbers ≤ length (now w) ⌝ }
     ensures { λ r. ⌜ r ≡ planKept (now (w .entry)) ⌝ }
 {
     wide(w[4])
 }
 
 pub fn info_count(w: &[u32]) -> usize
-    requires { ⌜ 6 < length (now w) ⌝ }
+    requires { ⌜ leastNumbers ≤ length (now w) ⌝ }
     ensures { λ r. ⌜ r ≡ infoCount (now (w .entry)) ⌝ }
 {
-    wide(w[5])
+    wide(w[INFO_COUNT_AT])
 }
 
 pub fn step_count(w: &[u32]) -> usize
-    requires { ⌜ 6 + infoCount (now w) < length (now w) ⌝ }
+    requires { ⌜ infoAt + infoCount (now w) < length (now w) ⌝ }
     ensures { λ r. ⌜ r ≡ stepCount (now (w .entry)) ⌝ }
 {
-    wide(w[6 + info_count(w)])
+    wide(w[INFO_AT + info_count(w)])
+}
+
+// where the steps start
+pub fn steps_at(w: &[u32]) -> usize
+    requires { ⌜ leastNumbers ≤ length (now w) ⌝ }
+    ensures { λ r. ⌜ r ≡ stepsAt (now (w .entry)) ⌝ }
+{
+    LEAST_NUMBERS + info_count(w)
 }
 
 // the k-th information place
 pub fn info_place(w: &[u32], k: usize) -> usize
-    requires { ⌜ (k < infoCount (now w)) × (6 + infoCount (now w) ≤ length (now w)) ⌝ }
+    requires { ⌜ (k < infoCount (now w)) × (infoAt + infoCount (now w) ≤ length (now w)) ⌝ }
     ensures { λ r. ⌜ r ≡ getD (infoIn (now (w .entry))) k 0 ⌝ }
 {
-    wide(w[6 + k])
+    wide(w[INFO_AT + k])
 }
 
 // ---- cause 9
@@ -128,32 +177,32 @@ fn beyond(most: usize, x: usize) -> bool
 
 // wrong counts or length, over 13,344 steps
 fn bad_lengths(w: &[u32]) -> bool
-    requires { ⌜ (6 < length (now w)) × (planKept (now w) ≤ planPlaces (now w)) ⌝ }
+    requires { ⌜ (leastNumbers ≤ length (now w)) × (planKept (now w) ≤ planPlaces (now w)) ⌝ }
     ensures { λ r. ⌜ r ≡ badLengths (now (w .entry)) ⌝ }
 {
-    let info = info_count(w);
-    if info != places(w) - kept(w) {
+    if info_count(w) != places(w) - kept(w) {
         return true;
     }
-    if w.len() < 7 + info {
+    let at = steps_at(w);
+    if w.len() < at {
         return true;
     }
     let steps = step_count(w);
-    13344 < steps || w.len() != 7 + info + steps
+    MOST_STEPS < steps || w.len() != at + steps
 }
 
 // n or s beyond limits, g over 32 or over M, M over n or 512
 fn bad_limits(w: &[u32]) -> bool
-    requires { ⌜ 6 < length (now w) ⌝ }
+    requires { ⌜ leastNumbers ≤ length (now w) ⌝ }
     ensures { λ r. ⌜ r ≡ badLimits (now (w .entry)) ⌝ }
 {
     let n = places(w);
     let g = gap(w);
     let m = kept(w);
-    if beyond(1024, n) || beyond(1024, size(w)) {
+    if beyond(MOST_PLACES, n) || beyond(MOST_BYTES, size(w)) {
         return true;
     }
-    if 32 < g || m < g || n < m || 512 < m {
+    if MOST_ASIDE < g || m < g || n < m || MOST_CHECKS < m {
         return true;
     }
     bad_lengths(w)
@@ -162,10 +211,10 @@ fn bad_limits(w: &[u32]) -> bool
 fn bad_counts(w: &[u32]) -> bool
     ensures { λ r. ⌜ r ≡ badCounts (now (w .entry)) ⌝ }
 {
-    if w.len() < 7 {
+    if w.len() < LEAST_NUMBERS {
         return true;
     }
-    if w[0] != 4 {
+    if wide(w[0]) != HEAD_COUNT {
         return true;
     }
     bad_limits(w)
@@ -173,7 +222,7 @@ fn bad_counts(w: &[u32]) -> bool
 
 // Marks the information places, a byte a slot; false where one is not below n or does not ascend.
 fn mark_places(w: &[u32], n: usize, marks: &mut [u8]) -> bool
-    requires { ⌜ (6 < length (now w)) × (6 + infoCount (now w) ≤ length (now w)) × (n ≤ length (now marks)) × Marks [] (now marks) ⌝ }
+    requires { ⌜ (leastNumbers ≤ length (now w)) × (infoAt + infoCount (now w) ≤ length (now w)) × (n ≤ length (now marks)) × Marks [] (now marks) ⌝ }
     ensures { λ r. ⌜ Marking n (infoIn (now (w .entry))) r (now (marks .exit)) ⌝ }
 {
     let count = info_count(w);
@@ -258,11 +307,11 @@ pub fn look_over(w: &[u32]) -> u32
         return 9;
     }
     let n = places(w);
-    let mut marks = [0u8; 1056];
+    let mut marks = [0u8; MOST_SLOTS];
     if !mark_places(w, n, &mut marks) {
         return 9;
     }
-    if !good_steps(n + gap(w), &marks, w, 7 + info_count(w)) {
+    if !good_steps(n + gap(w), &marks, w, steps_at(w)) {
         return 9;
     }
     0

@@ -9,6 +9,7 @@ use lib.Dec.{eqb}
 use lib.ListN.{length, drop, replicate}
 use Rattle.table.specs.Table.{refusal}
 use Rattle.table.specs.TableLaws.{refusal-small}
+use Rattle.plan.specs.Layout.{mostAside, leastPlan}
 use Rattle.rule.specs.Buffers.{peeling}
 use Rattle.rule.specs.Rule.{setAsideOf}
 use Rattle.planner.specs.Planning.{workWords, planOf, numbersOf, refusedBy, answerAt, plans, planAnswer, planAfter, workAfter, Answer}
@@ -55,21 +56,21 @@ module _ (t P W : List ℕ) where
       pos zero z = absurd (z refl)
       pos (suc x) z = omega arith
 
-  pub short-plan : refusal t ≡ 0 → length P < 15360 → Outcome t P W (refusedBy 5) P W
+  pub short-plan : refusal t ≡ 0 → length P < leastPlan → Outcome t P W (refusedBy 5) P W
   short-plan a b = stays 5 (plan-short t (length P) (length W) a b) (omega arith) (omega arith)
 
-  pub wrong-work : refusal t ≡ 0 → 15360 ≤ length P → (length W ≡ 8192 → ⊥) → Outcome t P W (refusedBy 5) P W
+  pub wrong-work : refusal t ≡ 0 → leastPlan ≤ length P → (length W ≡ workWords → ⊥) → Outcome t P W (refusedBy 5) P W
   wrong-work a b c = stays 5 (work-wrong t (length P) (length W) a b c) (omega arith) (omega arith)
 
-  pub many-aside : refusal t ≡ 0 → 15360 ≤ length P → length W ≡ 8192 → 32 < planOf t .g → Outcome t P W (refusedBy 6) P (replicate 8192 0)
+  pub many-aside : refusal t ≡ 0 → leastPlan ≤ length P → length W ≡ workWords → mostAside < planOf t .g → Outcome t P W (refusedBy 6) P (replicate workWords 0)
   many-aside a b c d =
-      let e = gap-decides t (length P) (length W) true a b c (lt-ltb 32 (planOf t .g) d) in
+      let e = gap-decides t (length P) (length W) true a b c (lt-ltb mostAside (planOf t .g) d) in
       record { answer = rw e; plan-is = sym (ap (planAt t P) e); work-is = sym (ap (workAt W) e) }
 
-  pub served : refusal t ≡ 0 → 15360 ≤ length P → length W ≡ 8192 → planOf t .g ≤ 32
-      → Outcome t P W (answerAt 0 t) (numbersOf t ++ drop (length (numbersOf t)) P) (replicate 8192 0)
+  pub served : refusal t ≡ 0 → leastPlan ≤ length P → length W ≡ workWords → planOf t .g ≤ mostAside
+      → Outcome t P W (answerAt 0 t) (numbersOf t ++ drop (length (numbersOf t)) P) (replicate workWords 0)
   served a b c d =
-      let e = gap-decides t (length P) (length W) false a b c (le-ltb 32 (planOf t .g) d) in
+      let e = gap-decides t (length P) (length W) false a b c (le-ltb mostAside (planOf t .g) d) in
       record { answer = rw e; plan-is = sym (ap (planAt t P) e); work-is = sym (ap (workAt W) e) }
 
 pub gap-is : (t : List ℕ) → planOf t .g ≡ length (setAsideOf (peeling t))

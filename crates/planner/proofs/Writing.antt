@@ -4,14 +4,15 @@ use mathlib.Core.List.{List, [], _∷_, _++_, map}
 use Prim.Native.Nat.{ℕ, zero, suc, _+_, _<_, _≤_}
 use native.Mathlib.Omega.{arith}
 use lib.ListN.{length, take, drop}
-use Rattle.table.specs.Table.{places, size, checks, ones, refusal}
+use Rattle.table.specs.Table.{mostChecks, mostOnes, places, size, checks, ones, refusal}
 use Rattle.table.specs.TableLaws.{accepted}
-use Rattle.plan.specs.Layout.{planNumbers}
+use Rattle.plan.specs.Layout.{mostAside, leastPlan, leastNumbers}
 use Rattle.plan.specs.Step.{addSteps}
 use Rattle.plan.specs.declared.Step.{Step}
 use Rattle.plan.specs.declared.Step.the-variants.{Clear, Add}
 use Rattle.rule.specs.Accepted.{words-limit, kept-length, kept-weight}
-use Rattle.rule.specs.PlanWords.{words-length}
+use Rattle.plan.specs.ReadBack.{numbers-length}
+use Rattle.rule.specs.PlanOf.{planOf, numbersOf}
 use Rattle.rule.specs.Rule.{kept, setAsideOf, plan}
 use Rattle.rule.specs.Buffers.{peeling}
 use Rattle.table.specs.Checks.{check, Starts}
@@ -20,9 +21,8 @@ use Rattle.table.specs.Table.{number}
 use Rattle.rule.specs.Buffers.{solved, Fitted}
 use Rattle.peel.specs.Choice.{ChoiceOf}
 use Rattle.columns.specs.Fitting.{Ready}
-use Rattle.emit.specs.Emit.{Planned, Emitted, planWords}
-use Rattle.emit.specs.Emit as emit
-use Rattle.planner.specs.Planning.{planOf, numbersOf, answerAt, Answer}
+use Rattle.compose.specs.Compose.{Composable, Composed}
+use Rattle.planner.specs.Planning.{answerAt, Answer}
 
 adds-few : (xs : List Step) → addSteps xs ≤ length xs
 adds-few [] = omega arith
@@ -49,27 +49,27 @@ module _ (t : List ℕ) (ok : refusal t ≡ 0) where
   unfolding planOf
   gap-is = refl
 
-  pub kept-few : planOf t .M ≤ 512
+  pub kept-few : planOf t .M ≤ mostChecks
   unfolding planOf
   kept-few = let a = kept-length (places t) (checks t) in let b = accepted t ok .few-checks in omega arith
 
-  pub ones-few : planOf t .W ≤ 6144
+  pub ones-few : planOf t .W ≤ mostOnes
   unfolding planOf
   ones-few = let a = kept-weight (places t) (checks t) in let b = accepted t ok .few-ones in omega arith
 
-  words : planOf t .g ≤ 32 → 7 + length (planOf t .info) + length (planOf t .list) ≤ 15360
+  words : planOf t .g ≤ mostAside → leastNumbers + length (planOf t .info) + length (planOf t .list) ≤ leastPlan
   unfolding planOf
   words h = let a = accepted t ok in words-limit (places t) (checks t) (a .distinct) (a .low) (a .few-places) (a .few-ones) h
 
-  pub length-few : planOf t .g ≤ 32 → length (numbersOf t) ≤ 15360
+  pub length-few : planOf t .g ≤ mostAside → length (numbersOf t) ≤ leastPlan
   unfolding numbersOf
-  length-few h = let a = words-length (places t) (size t) (planOf t) in let b = words h in omega arith
+  length-few h = let a = numbers-length (places t) (size t) (planOf t .g) (planOf t .M) (planOf t .info) (planOf t .list) in let b = words h in omega arith
 
-  pub adds-most : planOf t .g ≤ 32 → addSteps (planOf t .list) ≤ 15360
+  pub adds-most : planOf t .g ≤ mostAside → addSteps (planOf t .list) ≤ leastPlan
   adds-most h = let a = adds-few (planOf t .list) in let b = words h in omega arith
 
   -- ---- what the next phases ask
-  module _ {starts order owns aside : List ℕ} {M W taken put : ℕ} (st : Starts t (number t) starts) (ch : ChoiceOf t order owns aside M W taken put) (few : put ≤ 32) where
+  module _ {starts order owns aside : List ℕ} {M W taken put : ℕ} (st : Starts t (number t) starts) (ch : ChoiceOf t order owns aside M W taken put) (few : put ≤ mostAside) where
     pub fit-ready : {m n : ℕ} → m ≡ number t → n ≡ places t → Ready t m n starts order owns taken aside put
     fit-ready em en = record {
       accepted = ok;
@@ -78,12 +78,12 @@ module _ (t : List ℕ) (ok : refusal t ≡ 0) where
       checks = rw (em, en) (each-check t ok);
       starts-at = rw em st;
       chosen = ch .chosen;
-      few = few;
+      few = omega arith;
     }
 
     pub plan-ready : {m n : ℕ} {fitted rows : List ℕ} → m ≡ number t → n ≡ places t
         → Fitted n (solved (check t m) order owns taken) (map (check t m) (take put aside)) put fitted rows
-        → Planned t starts order owns taken aside put fitted rows M
+        → Composable t starts order owns taken aside put fitted rows M
     plan-ready {m} {n} {fitted} {rows} em en f = record {
       accepted = ok;
       first = st;
@@ -91,36 +91,28 @@ module _ (t : List ℕ) (ok : refusal t ≡ 0) where
       few = few;
       fits = subst (λ (i : ℕ). Fitted (places t) (solved (check t i) order owns taken) (map (check t i) (take put aside)) put fitted rows) em
           (subst (λ (i : ℕ). Fitted i (solved (check t m) order owns taken) (map (check t m) (take put aside)) put fitted rows) en f);
-      number-kept = ch .keeps;
+      number-kept = ch .keeps ∙ sym kept-is;
     }
 
-    pub gap-few : planOf t .g ≤ 32
+    pub gap-few : planOf t .g ≤ mostAside
     gap-few = let a = gap-is in let b = ch .gap in omega arith
 
-    pub kept-fits : M ≤ 512
+    pub kept-fits : M ≤ mostChecks
     kept-fits = let a = kept-is in let b = ch .keeps in let c = kept-few in omega arith
 
-    pub ones-fit : W ≤ 6144
+    pub ones-fit : W ≤ mostOnes
     ones-fit = let a = ones-is in let b = ch .with-ones in let c = ones-few in omega arith
 
-    numbers-are : numbersOf t ≡ planWords t
-    unfolding numbersOf planOf
-    numbers-are = refl
+    pub length-fits : {before after : List ℕ} {count adds : ℕ} → Composed t before after count adds → count ≤ leastPlan
+    length-fits e = let a = length-few gap-few in let b = e .numbers in omega arith
 
-    adds-are : addSteps (planOf t .list) ≡ addSteps (emit.planOf t .list)
-    unfolding planOf
-    adds-are = refl
+    pub adds-fit : {before after : List ℕ} {count adds : ℕ} → Composed t before after count adds → adds ≤ leastPlan
+    adds-fit e = let a = adds-most gap-few in let b = e .additions in omega arith
 
-    pub length-fits : {before after : List ℕ} {count adds : ℕ} → Emitted t before after count adds → count ≤ 15360
-    length-fits e = let a = length-few gap-few in let b = e .numbers ∙ ap length (sym numbers-are) in omega arith
-
-    pub adds-fit : {before after : List ℕ} {count adds : ℕ} → Emitted t before after count adds → adds ≤ 15360
-    adds-fit e = let a = adds-most gap-few in let b = e .additions ∙ sym adds-are in omega arith
-
-    pub written-out : {before after : List ℕ} {count adds : ℕ} → Emitted t before after count adds
+    pub written-out : {before after : List ℕ} {count adds : ℕ} → Composed t before after count adds
         → (_≡_ {A = Answer} (record { refusal = 0; length = count; kept = M; ones = W; gap = put; additions = adds }) (answerAt 0 t))
         × (after ≡ numbersOf t ++ drop (length (numbersOf t)) before)
     written-out {before} {after} {count} {adds} e = (
-      same-answer refl (e .numbers ∙ ap length (sym numbers-are)) (ch .keeps ∙ sym kept-is) (ch .with-ones ∙ sym ones-is) (ch .gap ∙ sym gap-is) (e .additions ∙ sym adds-are),
-      e .list ∙ ap (λ (l : List ℕ). l ++ drop (length l) before) (sym numbers-are),
+      same-answer refl (e .numbers) (ch .keeps ∙ sym kept-is) (ch .with-ones ∙ sym ones-is) (ch .gap ∙ sym gap-is) (e .additions),
+      e .list,
     )

@@ -6,27 +6,17 @@ use Prim.Native.Nat.{ℕ, zero, suc, _+_}
 use lib.Dec.{eqb, ltb}
 use lib.ListN.{length, drop, replicate}
 use Rattle.table.specs.FirstCause.{firstCause, wrongLength}
-use Rattle.table.specs.Table.{places, size, checks, tableCauses}
+use Rattle.table.specs.Table.{tableCauses}
 use Rattle.plan.specs.Step.{addSteps}
-use Rattle.plan.specs.Layout.{planNumbers, mostAside}
-use Rattle.rule.specs.Rule.{plan, Plan}
+use Rattle.plan.specs.Layout.{mostAside}
+pub use Rattle.plan.specs.Layout.{leastPlan}
+use Rattle.rule.specs.Rule.{Plan}
+unfoldable pub use Rattle.rule.specs.PlanOf.{planOf, numbersOf}
 use Rattle.planner.specs.declared.Planned.{Planned}
-
--- "the planner's plan at least 15,360 numbers"
-abbrev pub leastPlan : ℕ
-leastPlan = 15360
 
 -- "work exactly 8,192 64-bit words"
 abbrev pub workWords : ℕ
 workWords = 8192
-
--- the rule's plan of a table
-unfoldable pub planOf : List ℕ → Plan
-planOf t = plan (places t) (checks t)
-
--- its numbers
-unfoldable pub numbersOf : List ℕ → List ℕ
-numbersOf t = planNumbers (places t) (size t) (planOf t .g) (planOf t .M) (planOf t .info) (planOf t .list)
 
 -- 5: a plan buffer too short, or work of wrong length
 abbrev pub wrongLengths : ℕ → ℕ → Bool

@@ -16,9 +16,6 @@ pub const LEAST_PLAN: usize = 15360;
 // the length of the work buffer
 pub const WORK_WORDS: usize = 8192;
 
-// checks set aside
-pub const MOST_ASIDE: usize = 32;
-
 // the refusal, 0 for none; the plan's length, M, W, g and the number of add steps
 pub struct Planned {
     pub refusal: u32,
@@ -73,7 +70,7 @@ fn write_out(
         &mut fitted,
         &mut rows,
     );
-    let w = emit::write_plan(
+    let w = compose::write_plan(
         t,
         starts,
         order,
@@ -109,7 +106,7 @@ fn plan_table(t: &[u16], plan: &mut [u32], work: &mut [u64]) -> Planned
     let mut aside = [0u16; 512];
     table::fill_starts(t, m, &mut starts);
     let c = peel::choose_checks(t, m, n, &starts, work, &mut order, &mut owns, &mut aside);
-    if MOST_ASIDE < c.aside {
+    if plan::MOST_ASIDE < c.aside {
         return refused(6);
     }
     write_out(t, plan, &starts, &order, &owns, &aside, c)

@@ -21,7 +21,8 @@ use Rattle.gf2.specs.Span.{byBool, isSum}
 use Rattle.plan.specs.declared.Step.{Step}
 use Rattle.plan.specs.declared.Step.the-variants.{Clear, Add}
 use Rattle.plan.specs.Step.{addSteps}
-use Rattle.table.specs.Table.{ones}
+use Rattle.plan.specs.Layout.{mostAside, mostSteps, leastPlan, leastNumbers}
+use Rattle.table.specs.Table.{mostPlaces, mostOnes, ones}
 use Rattle.gf2.specs.Width.{All, All.nil, All.cons, all-map}
 
 -- ---- order
@@ -170,10 +171,11 @@ module _ (n : ℕ) (cs : List (List ℕ)) (d : All Distinct cs) (low : All (λ c
       let e : plan n cs .W ≡ solvedOnes T + ones Z = peels-ones (peels n cs d low) in
       let f = square-more g in omega arith
 
-  -- so they are within the encoder's limit of 13,344 ..
-  pub steps-limit : ones cs ≤ 6144 → g ≤ 32 → length (plan n cs .list) ≤ 13344
-  steps-limit w h = let a = steps-most in let b = kept-weight n cs in let c : g * (g + 1) ≤ 32 * 33 = mul-le-mul {m₁ = g + 1} {m₂ = 33} h (omega arith) in omega arith
+  -- so they are within the encoder's limit ..
+  pub steps-limit : ones cs ≤ mostOnes → g ≤ mostAside → length (plan n cs .list) ≤ mostSteps
+  steps-limit w h = let a = steps-most in let b = kept-weight n cs in
+      let c : g * (g + 1) ≤ mostAside * (mostAside + 1) = mul-le-mul {m₁ = g + 1} {m₂ = mostAside + 1} h (omega arith) in omega arith
 
-  -- .. and the plan's words, 7 besides the information places and the steps, within 15,360
-  pub words-limit : n ≤ 1024 → ones cs ≤ 6144 → g ≤ 32 → 7 + length (plan n cs .info) + length (plan n cs .list) ≤ 15360
+  -- .. and the plan's numbers within the planner's buffer
+  pub words-limit : n ≤ mostPlaces → ones cs ≤ mostOnes → g ≤ mostAside → leastNumbers + length (plan n cs .info) + length (plan n cs .list) ≤ leastPlan
   words-limit l w h = let a = steps-limit w h in let b = info-number n cs d low in omega arith

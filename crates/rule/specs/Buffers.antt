@@ -27,6 +27,10 @@ pub record Chosen (t order owns aside : List ℕ) (taken put : ℕ) : Type 0 whe
   pub own : (i : ℕ) → i < taken → getD owns i 0 < places t
   pub asides : (i : ℕ) → i < put → getD aside i 0 < number t
 
+-- a row of the inverse is a number of so many bits
+abbrev pub maskWidth : ℕ
+maskWidth = 32
+
 -- the lowest k bits of a mask, the lowest first
 abbrev pub maskBits : ℕ → ℕ → List Bool
 maskBits zero x = []

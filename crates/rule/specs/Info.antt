@@ -19,11 +19,12 @@ use Rattle.rule.specs.Peel.{Peels, Peels.stop, Peels.took′, Peels.asid
 use Rattle.rule.specs.Rule.{Solved, owns, kept, plan, Plan}
 use Rattle.gf2.specs.Places.{has, par, has-par, filter, minus, or-false-l, or-false-r}
 use Rattle.gf2.specs.Span.{byBool, or-l, or-r}
+use Rattle.plan.specs.LayoutLaws.{Sound, Leaves}
 use Rattle.plan.specs.declared.Step.{Step}
 use Rattle.plan.specs.declared.Step.the-variants.{Clear, Add}
 use Rattle.plan.specs.Steps.{withPackets, carryOutAll, carryOut}
 use Rattle.rule.specs.Solved.{Tri, Tri.done, Tri.also}
-use Rattle.rule.specs.WellFormed.{Sound, Sound.clears, Sound.addss, well-formed, info-low}
+use Rattle.rule.specs.WellFormed.{well-formed, info-low}
 use Rattle.gf2.specs.Width.{All, All.nil, All.cons, all-map}
 
 -- ---- taking places out of a list without repeats
@@ -118,8 +119,11 @@ low-has (suc n) p h = byBool (eqb p n)
 -- a place that no step writes keeps its packet
 runs-keep : (s k p : ℕ) {I : List ℕ} {xs : List Step} → has p I ≡ true → All (Sound k I) xs → (st : List (List ℕ)) → getD (carryOutAll s st xs) p [] ≡ getD st p []
 runs-keep s k p h nil st = refl
-runs-keep s k p {I} h (cons (clears {to = to} l e) a) st = runs-keep s k p h a _ ∙ getD-set-other st to p _ [] (λ q. true≢false (sym h ∙ ap (λ x. has x I) q ∙ e))
-runs-keep s k p {I} h (cons (addss {to = to} l m n e) a) st = runs-keep s k p h a _ ∙ getD-set-other st to p _ [] (λ q. true≢false (sym h ∙ ap (λ x. has x I) q ∙ e))
+runs-keep s k p {I} h (cons {x = x} r a) st = runs-keep s k p h a _ ∙ kept-by x (r .leaves)
+  where
+    kept-by : (x : Step) → Leaves I x → getD (carryOut s st x) p [] ≡ getD st p []
+    kept-by (Clear to) e = getD-set-other st to p _ [] (λ q. true≢false (sym h ∙ ap (λ x. has x I) q ∙ e))
+    kept-by (Add to from) e = getD-set-other st to p _ [] (λ q. true≢false (sym h ∙ ap (λ x. has x I) q ∙ e))
 
 -- the k-th packet is put at the k-th place
 put-at : (st : List (List ℕ)) {is : List ℕ} (ps : List (List ℕ)) → Distinct is → All (λ i. i < length st) is → length ps ≡ length is

@@ -11,7 +11,7 @@ pub mod Main
 pub mod OneBlock
 pub mod Peel
 pub mod Phases
-pub mod PlanWords
+pub mod PlanOf
 pub mod Rule
 pub mod Run
 pub mod Sim

@@ -17,25 +17,20 @@ use Rattle.rule.specs.Rule.{Solved, clearAndAdd, solvingSteps, scratchSt
 use Rattle.rule.specs.Run.{own-out}
 use Rattle.gf2.specs.Places.{has, par, has-par, filter, minus, has-filter, or-false-l, or-false-r}
 use Rattle.gf2.specs.Span.{byBool, or-l, or-r}
+use Rattle.plan.specs.LayoutLaws.{Sound}
 use Rattle.plan.specs.declared.Step.{Step}
 use Rattle.plan.specs.declared.Step.the-variants.{Clear, Add}
 use Rattle.gf2.specs.Width.{All, All.nil, All.cons, all-map}
-
--- A step over k slots that leaves the places of I alone: its slots are below k, an add has two different slots,
--- and the slot that is written is none of I.
-pub data Sound (k : ℕ) (I : List ℕ) : Step → Type 0 where
-  clears : {to : ℕ} → to < k → has to I ≡ false → Sound k I (Clear to)
-  addss : {to from : ℕ} → to < k → from < k → eqb to from ≡ false → has to I ≡ false → Sound k I (Add to from)
 
 -- ---- the parts of the list, each for itself
 module _ (k : ℕ) (I : List ℕ) where
   -- clearing a slot and adding places other than itself
   sound-fill : (to : ℕ) {c : List ℕ} → to < k → has to I ≡ false → All (λ p. p < k) c → has to c ≡ false → All (Sound k I) (clearAndAdd to c)
-  sound-fill to h o a e = cons (clears h o) (go a e)
+  sound-fill to h o a e = cons {x = Clear to} (record { below = h; apart = tt; leaves = o }) (go a e)
     where
       go : {c : List ℕ} → All (λ p. p < k) c → has to c ≡ false → All (Sound k I) (map (Add to) c)
       go nil e = nil
-      go (cons {x = p} {l = c} l a) e = cons (addss h l (or-false-l (eqb to p) (has to c) e) o) (go a (or-false-r (eqb to p) (has to c) e))
+      go (cons {x = p} {l = c} l a) e = cons {x = Add to p} (record { below = (h, l); apart = eqb-false to p (or-false-l (eqb to p) (has to c) e); leaves = o }) (go a (or-false-r (eqb to p) (has to c) e))
 
   -- a pass over the solved checks
   sound-solving : (F : List ℕ) {us : List Solved} → All (λ u. ((u .own < k) × All (λ p. p < k) (u .check)) × (has (u .own) I ≡ false)) us → All (Sound k I) (solvingSteps F us)

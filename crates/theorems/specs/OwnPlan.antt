@@ -17,13 +17,14 @@ use Rattle.table.specs.Table.{places, size, number, checks, refusal, ones, outs
 use Rattle.table.specs.TableLaws.{Good, accepted}
 use Rattle.plan.specs.declared.Step.{Step}
 use Rattle.plan.specs.declared.Step.the-variants.{Clear, Add}
-use Rattle.plan.specs.Step.{pack, unpack, unpackAll}
+use Rattle.plan.specs.Step.{unpack, unpackAll}
+use Rattle.plan.specs.LayoutLaws.{Sound}
+use Rattle.plan.specs.ReadBack.{numbers-length, info-back, count-back, steps-back, packed-good, packed-back}
 use Rattle.plan.specs.Layout.{badCounts, goodStep, wellFormed, planRefusal, infoIn, stepsIn, stepsOf, slots, stepCount, infoCount, mostAside}
 use Rattle.rule.specs.Rule.{plan, Plan}
-use Rattle.rule.specs.WellFormed.{Sound, Sound.clears, Sound.addss, well-formed, info-low}
+use Rattle.rule.specs.WellFormed.{well-formed, info-low}
 use Rattle.rule.specs.Info.{info-number, kept-few}
 use Rattle.rule.specs.Accepted.{Up, Up.none as unone, Up.then as uthen, info-up, kept-length, aside-few, steps-limit}
-use Rattle.rule.specs.PlanWords.{planWords, words-length, info-back, count-back, steps-back, unpack-pack}
 use Rattle.planner.specs.Planning.{planOf, numbersOf}
 
 -- ---- tests
@@ -40,21 +41,6 @@ within most x h k = or-no (ne-eqb x 0 (λ e. omega arith)) (le-ltb most x k)
 up-rising : (n : ℕ) {b : ℕ} {l : List ℕ} → Up b l → All (λ p. p < n) l → rising n b l ≡ true
 up-rising n unone nil = refl
 up-rising n {b} (uthen {x = x} h u) (cons k a) = and-yes (and-yes (le-leb b x h) (lt-ltb x n k)) (up-rising n u a)
-
-sound-good : (k : ℕ) (I : List ℕ) (x : Step) → k ≤ 4096 → Sound k I x → goodStep k I (unpack (pack x)) ≡ true
-sound-good k I x h r = ap (goodStep k I) (unpack-pack k I x h r) ∙ go r
-  where
-    go : {x : Step} → Sound k I x → goodStep k I (some x) ≡ true
-    go (clears {to = to} l o) = and-yes (lt-ltb to k l) (ap not o)
-    go (addss {to = to} {from = from} l m ne o) = and-yes (lt-ltb to k l) (and-yes (lt-ltb from k m) (and-yes (ap not ne) (ap not o)))
-
-steps-good : (k : ℕ) (I : List ℕ) → k ≤ 4096 → {xs : List Step} → All (Sound k I) xs → allPass (λ x. goodStep k I (unpack x)) (map pack xs) ≡ true
-steps-good k I h nil = refl
-steps-good k I h (cons {x = x} r a) = and-yes (sound-good k I x h r) (steps-good k I h a)
-
-unpacked : (k : ℕ) (I : List ℕ) → k ≤ 4096 → {xs : List Step} → All (Sound k I) xs → unpackAll (map pack xs) ≡ xs
-unpacked k I h nil = refl
-unpacked k I h (cons {x = x} {l = xs} r a) = rw (unpack-pack k I x h r, unpackAll) (ap (λ l. x ∷ l) (unpacked k I h a))
 
 -- ---- for every accepted table
 module _ (t : List ℕ) (ok : refusal t ≡ 0) (few : planOf t .g ≤ mostAside) where
@@ -79,19 +65,19 @@ module _ (t : List ℕ) (ok : refusal t ≡ 0) (few : planOf t .g ≤ mostAside)
   -- reading back
   pub own-info : infoIn (numbersOf t) ≡ P .info
   unfolding planOf numbersOf
-  own-info = info-back n (size t) P
+  own-info = info-back n (size t) (P .g) (P .M) (P .info) (P .list)
 
   pub own-count : stepCount (numbersOf t) ≡ length (P .list)
   unfolding planOf numbersOf
-  own-count = count-back n (size t) P
+  own-count = count-back n (size t) (P .g) (P .M) (P .info) (P .list)
 
   pub own-length : length (numbersOf t) ≡ 7 + length (P .info) + length (P .list)
   unfolding planOf numbersOf
-  own-length = words-length n (size t) P
+  own-length = numbers-length n (size t) (P .g) (P .M) (P .info) (P .list)
 
   pub own-steps : stepsOf (numbersOf t) ≡ P .list
   unfolding planOf numbersOf
-  own-steps = ap unpackAll (steps-back n (size t) P) ∙ unpacked (n + P .g) (P .info) fits sounds
+  own-steps = ap unpackAll (steps-back n (size t) (P .g) (P .M) (P .info) (P .list)) ∙ packed-back (n + P .g) (P .info) fits sounds
 
   pub own-places : infoCount (numbersOf t) ≡ n - P .M
   unfolding planOf numbersOf
@@ -124,7 +110,7 @@ module _ (t : List ℕ) (ok : refusal t ≡ 0) (few : planOf t .g ≤ mostAside)
   unfolding planOf numbersOf
   own-well-formed = and-yes (ap not counts)
       (and-yes (ap (rising n 0) own-info ∙ up-rising n (info-up n (checks t)) (info-low n (checks t) (good .distinct) (good .low)))
-      (ap₂ (λ I l. allPass (λ x. goodStep (n + P .g) I (unpack x)) l) own-info (steps-back n (size t) P) ∙ steps-good (n + P .g) (P .info) fits sounds))
+      (ap₂ (λ I l. allPass (λ x. goodStep (n + P .g) I (unpack x)) l) own-info (steps-back n (size t) (P .g) (P .M) (P .info) (P .list)) ∙ packed-good (n + P .g) (P .info) fits sounds))
 
   -- so that the encoder never refuses it with 9
   pub own-accepted : planRefusal (numbersOf t) ≡ 0

@@ -1,9 +1,10 @@
+-- `emit::check_into` meets its contract: the places of the check, as the table has them.
 use Rattle.gf2.specs.Places.{minus}
 use Rattle.plan.specs.Step.{pack}
 use mathlib.Core.List.{map, _∷_}
 use Rattle.rule.specs.Rule.{clearAndAdd}
 use Rattle.emit.specs.Emit.{marked}
-use Rattle.emit.proofs.Laws.{wrote-is}
+use Rattle.emit.specs.WroteLaws.{wrote-is}
 use Rattle.emit.proofs.Passes.{check-read}
 use Prim.Native.Nat.{_-_}
 use mathlib.Core.Path.{ap}
@@ -13,22 +14,22 @@ use Rattle.emit.proofs.check_into.Statement.{statement}
 use Rattle.emit.proofs.check_into.Tie as tie
 
 mul-wide : tie.Need-mul-wide
-mul-wide c = let r = c .before .before .before .before .before .pre .1 .first .room in let j = c .before .before .before .before .before .pre .2 in omega arith
+mul-wide c = let r = c .before .before .before .before .before .pre .1 .0 .first .room in let j = c .before .before .before .before .before .pre .1 .1 .0 in omega arith
 
 shared-slice-read-wide : tie.Need-shared-slice-read-wide
-shared-slice-read-wide c = let r = c .before .before .before .before .before .before .pre .1 .first .room in let j = c .before .before .before .before .before .before .pre .2 in omega arith
+shared-slice-read-wide c = let r = c .before .before .before .before .before .before .pre .1 .0 .first .room in let j = c .before .before .before .before .before .before .pre .1 .1 .0 in omega arith
 
 wide-requires : tie.Need-wide-requires
 wide-requires c κs = search needs
 
 add-wide : tie.Need-add-wide
-add-wide c = let r = c .before .before .before .before .before .before .before .pre .1 .each .weights in let j = c .before .before .before .before .before .before .before .pre .2 in omega arith
+add-wide c = let r = c .before .before .before .before .before .before .before .pre .1 .0 .each .weights in let j = c .before .before .before .before .before .before .before .pre .1 .1 .0 in omega arith
 
 mul-wide-2 : tie.Need-mul-wide-2
-mul-wide-2 c = let r = c .before .before .before .before .before .before .before .pre .1 .each .weights in let j = c .before .before .before .before .before .before .before .pre .2 in omega arith
+mul-wide-2 c = let r = c .before .before .before .before .before .before .before .pre .1 .0 .each .weights in let j = c .before .before .before .before .before .before .before .pre .1 .1 .0 in omega arith
 
 shared-slice-read-wide-2 : tie.Need-shared-slice-read-wide-2
-shared-slice-read-wide-2 c = let r = c .before .before .before .before .before .before .before .before .pre .1 .each .weights in let j = c .before .before .before .before .before .before .before .before .pre .2 in omega arith
+shared-slice-read-wide-2 c = let r = c .before .before .before .before .before .before .before .before .pre .1 .0 .each .weights in let j = c .before .before .before .before .before .before .before .before .pre .1 .1 .0 in omega arith
 
 wide-requires-2 : tie.Need-wide-requires-2
 wide-requires-2 c κs = search needs
@@ -36,8 +37,8 @@ wide-requires-2 c κs = search needs
 sum-check-requires : tie.Need-sum-check-requires
 sum-check-requires c κs =
     let a = c .before .before .before .before .before .before .before .before .before .args in
-    let r = check-read (c .before .before .wide .result) (c .wide2 .result) (a .j) (c .before .before .before .before .before .before .before .before .before .pre .1) (c .before .before .before .before .before .before .before .before .before .pre .2) (c .before .before .wide .ensures) (c .wide2 .ensures) in
-    (rw (r .0) (c .before .before .before .before .before .before .before .before .before .pre .0), r .1, c .before .before .before .before .before .before .before .before .before .pre .1 .all, c .before .before .before .before .before .before .before .before .before .pre .3)
+    let r = check-read (c .before .before .wide .result) (c .wide2 .result) (a .j) (c .before .before .before .before .before .before .before .before .before .pre .1 .0) (c .before .before .before .before .before .before .before .before .before .pre .1 .1 .0) (c .before .before .wide .ensures) (c .wide2 .ensures) in
+    (rw (r .0) (c .before .before .before .before .before .before .before .before .before .pre .0), (r .1, (c .before .before .before .before .before .before .before .before .before .pre .1 .0 .all, c .before .before .before .before .before .before .before .before .before .pre .1 .1 .1)))
 
 same-length : tie.Need-same-length
 same-length c = c .before .plan .given
@@ -45,7 +46,7 @@ same-length c = c .before .plan .given
 returns : tie.Need-returns
 returns c =
     let a = c .before .before .before .before .before .before .before .before .before .before .before .before .args in
-    let r = check-read (c .before .before .before .before .before .wide .result) (c .before .before .before .wide2 .result) (a .j) (c .before .before .before .before .before .before .before .before .before .before .before .before .pre .1) (c .before .before .before .before .before .before .before .before .before .before .before .before .pre .2) (c .before .before .before .before .before .wide .ensures) (c .before .before .before .wide2 .ensures) in
+    let r = check-read (c .before .before .before .before .before .wide .result) (c .before .before .before .wide2 .result) (a .j) (c .before .before .before .before .before .before .before .before .before .before .before .before .pre .1 .0) (c .before .before .before .before .before .before .before .before .before .before .before .before .pre .1 .1 .0) (c .before .before .before .before .before .wide .ensures) (c .before .before .before .wide2 .ensures) in
     wrote-is (c .before .before .sum-check .ensures) (ap (λ x. map pack (clearAndAdd (a .to) (minus x (a .to ∷ marked (a .skip .now))))) (r .0))
 
 pub check-into-spec : {M : Type 1} → statement M

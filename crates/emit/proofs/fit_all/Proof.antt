@@ -1,9 +1,10 @@
+-- `emit::fit_all` meets its contract: the fitted places that are left.
 use mathlib.Core.List.{map, [], _++_}
 use Rattle.plan.specs.Step.{pack}
 use Rattle.rule.specs.Rule.{clearAndAdd, slotsNamed}
 use Rattle.rule.specs.Buffers.{maskBits}
-use Rattle.emit.proofs.Laws.{Left, left-all, left-is, left-more, left-length, left-done, wrote-is}
-use Rattle.emit.proofs.Passes.{fits, fits-all, fits-none, fits-next, packed-length, left-steps}
+use Rattle.emit.specs.WroteLaws.{Left, left-all, left-is, left-more, left-length, left-done, wrote-is, packed-length, left-steps}
+use Rattle.emit.proofs.Passes.{fits, fits-all, fits-none, fits-next}
 use Rattle.emit.specs.Emit.{fittingRows}
 use Prim.Native.Nat.{_+_, _-_, _≤_}
 use mathlib.Core.Path.{_≡_, sym, ap, _∙_}
@@ -22,10 +23,10 @@ loop-holds : tie.Need-loop-holds Inv-loop μ-loop
 loop-holds c = (omega arith, left-all _ _ _)
 
 mul-wide : tie.Need-mul-wide Inv-loop μ-loop
-mul-wide c = let r = c .before .before .before .before .before .before .pre .3 .room in omega arith
+mul-wide c = let r = c .before .before .before .before .before .before .pre .1 .1 .1 .0 .room in omega arith
 
 shared-slice-read-wide : tie.Need-shared-slice-read-wide Inv-loop μ-loop
-shared-slice-read-wide c = let r = c .before .before .before .before .before .before .before .pre .3 .room in omega arith
+shared-slice-read-wide c = let r = c .before .before .before .before .before .before .before .pre .1 .1 .1 .0 .room in omega arith
 
 wide-requires : tie.Need-wide-requires Inv-loop μ-loop
 wide-requires c κs = omega arith
@@ -48,9 +49,9 @@ fit-place-requires c κs =
     let steps = clearAndAdd (c .before .wide .result) (slotsNamed (a .n) (maskBits (a .g) (getD rs (s .j) 0))) in
     let next = fits-next (a .n) (a .g) fs rs (s .j) (c .before .before .before .before .loop-test .taken) ∙ ap (λ to. map pack (clearAndAdd to (slotsNamed (a .n) (maskBits (a .g) (getD rs (s .j) 0)))) ++ rest) (sym (c .before .wide .ensures)) in
     let w = left-is (map pack steps ++ rest) (s .inv .1) next in
-    let o = c .before .before .before .before .before .before .before .before .before .pre .3 .each (s .j) (omega arith) in
+    let o = c .before .before .before .before .before .before .before .before .before .pre .1 .1 .1 .0 .each (s .j) (omega arith) in
     let e = c .before .wide .ensures in
-    (left-steps room steps rest w, omega arith, omega arith, omega arith)
+    (left-steps room steps rest w, (omega arith, (omega arith, omega arith)))
 
 add-j : tie.Need-add-j Inv-loop μ-loop
 add-j c = omega arith

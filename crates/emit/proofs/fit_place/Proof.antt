@@ -1,10 +1,11 @@
+-- `emit::fit_place` meets its contract: the slots that are left, bit by bit.
 use mathlib.Core.List.{map, [], _∷_}
 use lib.ListN.{length-map, length, set, length-set}
 use Rattle.plan.specs.declared.Step.the-variants.{Clear, Add}
 use Rattle.plan.specs.Step.{pack}
 use Rattle.rule.specs.Rule.{slotsNamed}
 use Rattle.rule.specs.Buffers.{maskBits}
-use Rattle.emit.proofs.Laws.{Left, left-all, left-is, left-one, left-room, left-length, left-done, wrote-one, wrote-append, wrote-is}
+use Rattle.emit.specs.WroteLaws.{Left, left-all, left-is, left-one, left-room, left-length, left-done, wrote-one, wrote-append, wrote-is}
 use Rattle.emit.proofs.Slots.{named, named-all, named-none, named-in, named-out}
 use Prim.Native.Nat.{_+_, _-_, _≤_, _<_}
 use mathlib.Core.Path.{_≡_, sym, ap, _∙_}

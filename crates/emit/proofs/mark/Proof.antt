@@ -1,6 +1,7 @@
+-- `emit::mark` meets its contract: the places, one after the other.
 use lib.Seq.{getD-take, length-take-le}
 use Rattle.emit.specs.Emit.{marking}
-use Rattle.emit.proofs.Marks.{marking-next, marking-done}
+use Rattle.emit.proofs.Marking.{marking-next, marking-done}
 use Prim.Native.Nat.{_-_, _≤_}
 use mathlib.Core.Path.{_≡_, refl, sym, _∙_}
 use native.Mathlib.Omega.{arith}

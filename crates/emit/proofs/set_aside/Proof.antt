@@ -1,9 +1,10 @@
+-- `emit::set_aside` meets its contract: the checks that are left, into their scratch slots.
 use Rattle.gf2.specs.Places.{minus}
 use Rattle.table.specs.Checks.{check}
 use Rattle.table.specs.Table.{number, places}
 use Rattle.rule.specs.Rule.{clearAndAdd, scratchSteps}
-use Rattle.emit.proofs.Laws.{Left, left-all, left-is, left-more, left-length, left-done, wrote-is}
-use Rattle.emit.proofs.Passes.{scratches, one, scratches-all, scratches-none, scratches-next, packed-length, left-steps}
+use Rattle.emit.specs.WroteLaws.{Left, left-all, left-is, left-more, left-length, left-done, wrote-is, packed-length, left-steps}
+use Rattle.emit.proofs.Passes.{scratches, one, scratches-all, scratches-none, scratches-next}
 use Rattle.emit.specs.Emit.{marked, asideIn}
 use Prim.Native.Nat.{_+_, _-_, _≤_}
 use mathlib.Core.Path.{_≡_, sym, ap, ap₂, _∙_}
@@ -20,7 +21,7 @@ abbrev μ-loop : tie.MeasureT-loop
 μ-loop plan₀ at t starts aside g skip n k₀ i₀ plan k i = g - i
 
 shared-slice-read-wide : tie.Need-shared-slice-read-wide Inv-loop μ-loop
-shared-slice-read-wide c = let r = c .before .before .before .before .before .before .pre .1 .each .weights in omega arith
+shared-slice-read-wide c = let r = c .before .before .before .before .before .before .pre .1 .0 .each .weights in omega arith
 
 wide-requires : tie.Need-wide-requires Inv-loop μ-loop
 wide-requires c κs = omega arith
@@ -29,16 +30,16 @@ loop-holds : tie.Need-loop-holds Inv-loop μ-loop
 loop-holds c = (omega arith, left-all _ _ _)
 
 mul-wide : tie.Need-mul-wide Inv-loop μ-loop
-mul-wide c = let r = c .before .before .before .before .before .before .before .before .before .before .pre .2 .room in omega arith
+mul-wide c = let r = c .before .before .before .before .before .before .before .before .before .before .pre .1 .1 .0 .room in omega arith
 
 shared-slice-read-wide-2 : tie.Need-shared-slice-read-wide-2 Inv-loop μ-loop
-shared-slice-read-wide-2 c = let r = c .before .before .before .before .before .before .before .before .before .before .before .pre .2 .room in omega arith
+shared-slice-read-wide-2 c = let r = c .before .before .before .before .before .before .before .before .before .before .before .pre .1 .1 .0 .room in omega arith
 
 wide-requires-2 : tie.Need-wide-requires-2 Inv-loop μ-loop
 wide-requires-2 c κs = omega arith
 
 add-check-into : tie.Need-add-check-into Inv-loop μ-loop
-add-check-into c = let n = c .before .before .before .before .before .before .before .before .before .before .before .before .pre .1 .each .narrow in let e = c .before .before .before .before .before .wide .ensures in omega arith
+add-check-into c = let n = c .before .before .before .before .before .before .before .before .before .before .before .before .pre .1 .0 .each .narrow in let e = c .before .before .before .before .before .wide .ensures in omega arith
 
 check-into-requires : tie.Need-check-into-requires Inv-loop μ-loop
 check-into-requires c κs =
@@ -52,13 +53,13 @@ check-into-requires c κs =
     let rest = scratches sk t ids (a .g) (s .i + 1) in
     let j = c .wide2 .result in
     let to = c .before .before .before .before .before .wide .result + s .i in
-    let next = scratches-next sk t ids (a .g) (s .i) (c .before .before .before .before .before .before .before .before .before .before .before .before .pre .1 .each) (c .before .before .before .before .before .before .before .before .before .before .before .before .pre .2 .room) (c .before .before .before .loop-test .taken) (c .before .before .before .before .before .before .before .before .before .before .before .before .pre .2 .each (s .i) (c .before .before .before .loop-test .taken)) ∙ ap₂ (λ x y. one sk t x (y + s .i) ++ rest) (sym (c .wide2 .ensures)) (sym (c .before .before .before .before .before .wide .ensures)) in
+    let next = scratches-next sk t ids (a .g) (s .i) (c .before .before .before .before .before .before .before .before .before .before .before .before .pre .1 .0 .each) (c .before .before .before .before .before .before .before .before .before .before .before .before .pre .1 .1 .0 .room) (c .before .before .before .loop-test .taken) (c .before .before .before .before .before .before .before .before .before .before .before .before .pre .1 .1 .0 .each (s .i) (c .before .before .before .loop-test .taken)) ∙ ap₂ (λ x y. one sk t x (y + s .i) ++ rest) (sym (c .wide2 .ensures)) (sym (c .before .before .before .before .before .wide .ensures)) in
     let w = left-is (one sk t j to ++ rest) (s .inv .1) next in
-    let b = c .before .before .before .before .before .before .before .before .before .before .before .before .pre .2 .each (s .i) (omega arith) in
-    let n = c .before .before .before .before .before .before .before .before .before .before .before .before .pre .1 .each .narrow in
+    let b = c .before .before .before .before .before .before .before .before .before .before .before .before .pre .1 .1 .0 .each (s .i) (omega arith) in
+    let n = c .before .before .before .before .before .before .before .before .before .before .before .before .pre .1 .0 .each .narrow in
     let e = c .before .before .before .before .before .wide .ensures in
     let f = c .wide2 .ensures in
-    (left-steps room (clearAndAdd to (minus (check t (number t) j) (to ∷ marked sk))) rest w, c .before .before .before .before .before .before .before .before .before .before .before .before .pre .1, omega arith, omega arith)
+    (left-steps room (clearAndAdd to (minus (check t (number t) j) (to ∷ marked sk))) rest w, (c .before .before .before .before .before .before .before .before .before .before .before .before .pre .1 .0, (omega arith, omega arith)))
 
 add-i : tie.Need-add-i Inv-loop μ-loop
 add-i c = omega arith
@@ -78,7 +79,7 @@ loop-again c =
     let rest = scratches sk t ids (a .g) (s .i + 1) in
     let j = c .before .before .before .wide2 .result in
     let to = c .before .before .before .before .before .before .before .before .wide .result + s .i in
-    let next = scratches-next sk t ids (a .g) (s .i) (c .before .before .before .before .before .before .before .before .before .before .before .before .before .before .before .pre .1 .each) (c .before .before .before .before .before .before .before .before .before .before .before .before .before .before .before .pre .2 .room) (c .before .before .before .before .before .before .loop-test .taken) (c .before .before .before .before .before .before .before .before .before .before .before .before .before .before .before .pre .2 .each (s .i) (c .before .before .before .before .before .before .loop-test .taken)) ∙ ap₂ (λ x y. one sk t x (y + s .i) ++ rest) (sym (c .before .before .before .wide2 .ensures)) (sym (c .before .before .before .before .before .before .before .before .wide .ensures)) in
+    let next = scratches-next sk t ids (a .g) (s .i) (c .before .before .before .before .before .before .before .before .before .before .before .before .before .before .before .pre .1 .0 .each) (c .before .before .before .before .before .before .before .before .before .before .before .before .before .before .before .pre .1 .1 .0 .room) (c .before .before .before .before .before .before .loop-test .taken) (c .before .before .before .before .before .before .before .before .before .before .before .before .before .before .before .pre .1 .1 .0 .each (s .i) (c .before .before .before .before .before .before .loop-test .taken)) ∙ ap₂ (λ x y. one sk t x (y + s .i) ++ rest) (sym (c .before .before .before .wide2 .ensures)) (sym (c .before .before .before .before .before .before .before .before .wide .ensures)) in
     let w = left-is (one sk t j to ++ rest) (s .inv .1) next in
     (omega arith, left-more room (one sk t j to) rest w (c .before .before .check-into .ensures))
 
@@ -103,7 +104,7 @@ returns c =
     let all = ap length (scratches-all sk t ids (a .g)) in
     let room : a .at + length (scratches sk t ids (a .g) 0) ≤ length (a .plan .now) = omega (arith, packed-length (scratchSteps (places t) (marked sk) (asideIn t ids (a .g))), c .before .before .before .before .before .before .before .before .before .pre .0) in
     let e : s .i ≡ a .g = omega arith in
-    let w = left-done (left-is [] (s .inv .1) (ap (scratches sk t ids (a .g)) e ∙ scratches-none sk t ids (a .g) (c .before .before .before .before .before .before .before .before .before .pre .2 .room))) in
+    let w = left-done (left-is [] (s .inv .1) (ap (scratches sk t ids (a .g)) e ∙ scratches-none sk t ids (a .g) (c .before .before .before .before .before .before .before .before .before .pre .1 .1 .0 .room))) in
     wrote-is w (sym (scratches-all sk t ids (a .g)))
 
 pub set-aside-spec : {M : Type 1} → statement M

@@ -1,11 +1,12 @@
+-- `emit::solve_all` meets its contract: the checks that are left, the last taken first.
 use Rattle.gf2.specs.Places.{minus}
 use Rattle.table.specs.Checks.{check}
 use Rattle.table.specs.Table.{number}
 use Rattle.rule.specs.Rule.{clearAndAdd, solvingSteps}
 use Rattle.gf2.specs.Lists.{rev}
 use Rattle.emit.specs.Emit.{marked, solvedIn}
-use Rattle.emit.proofs.Laws.{Left, left-all, left-is, left-more, left-length, left-done}
-use Rattle.emit.proofs.Passes.{solves, one, solves-none, solves-next, packed-length, left-steps}
+use Rattle.emit.specs.WroteLaws.{Left, left-all, left-is, left-more, left-length, left-done, packed-length, left-steps}
+use Rattle.emit.proofs.Passes.{solves, one, solves-none, solves-next}
 use Prim.Native.Nat.{_+_, _-_, _≤_}
 use mathlib.Core.Path.{_≡_, sym, ap, ap₂, _∙_}
 use mathlib.Core.List.{[], _∷_, _++_}
@@ -27,19 +28,19 @@ sub-i : tie.Need-sub-i Inv-loop μ-loop
 sub-i c = omega arith
 
 mul-wide : tie.Need-mul-wide Inv-loop μ-loop
-mul-wide c = let r = c .before .before .before .before .before .before .before .before .before .pre .2 .room in omega arith
+mul-wide c = let r = c .before .before .before .before .before .before .before .before .before .pre .1 .1 .0 .room in omega arith
 
 shared-slice-read-wide : tie.Need-shared-slice-read-wide Inv-loop μ-loop
-shared-slice-read-wide c = let r = c .before .before .before .before .before .before .before .before .before .before .pre .2 .room in omega arith
+shared-slice-read-wide c = let r = c .before .before .before .before .before .before .before .before .before .before .pre .1 .1 .0 .room in omega arith
 
 wide-requires : tie.Need-wide-requires Inv-loop μ-loop
 wide-requires c κs = omega arith
 
 mul-wide-2 : tie.Need-mul-wide-2 Inv-loop μ-loop
-mul-wide-2 c = let r = c .before .before .before .before .before .before .before .before .before .before .before .pre .3 .room in omega arith
+mul-wide-2 c = let r = c .before .before .before .before .before .before .before .before .before .before .before .pre .1 .1 .1 .room in omega arith
 
 shared-slice-read-wide-2 : tie.Need-shared-slice-read-wide-2 Inv-loop μ-loop
-shared-slice-read-wide-2 c = let r = c .before .before .before .before .before .before .before .before .before .before .before .before .pre .3 .room in omega arith
+shared-slice-read-wide-2 c = let r = c .before .before .before .before .before .before .before .before .before .before .before .before .pre .1 .1 .1 .room in omega arith
 
 wide-requires-2 : tie.Need-wide-requires-2 Inv-loop μ-loop
 wide-requires-2 c κs = omega arith
@@ -56,12 +57,12 @@ check-into-requires c κs =
     let to = c .wide2 .result in
     let next = solves-next sk t (a .order .now) (a .owns .now) (s .i) (c .before .before .before .before .before .loop-test .taken) ∙ ap₂ (λ x y. one sk t x y ++ rest) (sym (c .before .before .wide .ensures)) (sym (c .wide2 .ensures)) in
     let w = left-is (one sk t j to ++ rest) (s .inv .1) next in
-    let b = c .before .before .before .before .before .before .before .before .before .before .before .before .before .pre .2 .each (s .i - 1) (omega arith) in
-    let o = c .before .before .before .before .before .before .before .before .before .before .before .before .before .pre .3 .each (s .i - 1) (omega arith) in
-    let n = c .before .before .before .before .before .before .before .before .before .before .before .before .before .pre .1 .each .narrow in
+    let b = c .before .before .before .before .before .before .before .before .before .before .before .before .before .pre .1 .1 .0 .each (s .i - 1) (omega arith) in
+    let o = c .before .before .before .before .before .before .before .before .before .before .before .before .before .pre .1 .1 .1 .each (s .i - 1) (omega arith) in
+    let n = c .before .before .before .before .before .before .before .before .before .before .before .before .before .pre .1 .0 .each .narrow in
     let e = c .before .before .wide .ensures in
     let f = c .wide2 .ensures in
-    (left-steps room (clearAndAdd to (minus (check t (number t) j) (to ∷ marked sk))) rest w, c .before .before .before .before .before .before .before .before .before .before .before .before .before .pre .1, omega arith, omega arith)
+    (left-steps room (clearAndAdd to (minus (check t (number t) j) (to ∷ marked sk))) rest w, (c .before .before .before .before .before .before .before .before .before .before .before .before .before .pre .1 .0, (omega arith, omega arith)))
 
 loop-less : tie.Need-loop-less Inv-loop μ-loop
 loop-less c = omega arith

@@ -1,6 +1,7 @@
+-- `emit::sum_check` meets its contract: the places that are left, one after the other.
 use lib.Seq.{drop-length}
 use Rattle.plan.specs.Step.{pack}
-use Rattle.emit.proofs.Laws.{Left, left-all, left-is, left-one, left-room, left-length, left-done, wrote-one, wrote-append}
+use Rattle.emit.specs.WroteLaws.{Left, left-all, left-is, left-one, left-room, left-length, left-done, wrote-one, wrote-append}
 use Rattle.emit.proofs.Sums.{adds, adds-length, adds-own, adds-marked, adds-next, part-length, part-at}
 use Prim.Native.Nat.{_+_, _-_, _≤_, _<_}
 use mathlib.Core.Path.{_≡_, sym, ap, _∙_}
@@ -33,26 +34,26 @@ loop-holds : tie.Need-loop-holds Inv-loop μ-loop
 loop-holds c = (omega arith, left-all _ _ _)
 
 add-wide : tie.Need-add-wide Inv-loop μ-loop
-add-wide c = let p = c .before .before .before .before .before .before .pre .1 .room in omega arith
+add-wide c = let p = c .before .before .before .before .before .before .pre .1 .0 .room in omega arith
 
 mul-wide : tie.Need-mul-wide Inv-loop μ-loop
 mul-wide c = omega arith
 
 shared-slice-read-wide : tie.Need-shared-slice-read-wide Inv-loop μ-loop
-shared-slice-read-wide c = let p = c .before .before .before .before .before .before .before .pre .1 .room in omega arith
+shared-slice-read-wide c = let p = c .before .before .before .before .before .before .before .pre .1 .0 .room in omega arith
 
 wide-requires : tie.Need-wide-requires Inv-loop μ-loop
 wide-requires c κs = omega arith
 
 shared-slice-read-if2 : tie.Need-shared-slice-read-if2 Inv-loop μ-loop
 shared-slice-read-if2 c =
-    let b = c .before .before .before .before .before .before .before .before .before .before .pre .1 .below (c .before .before .before .before .before .loop .i) (omega arith) in
+    let b = c .before .before .before .before .before .before .before .before .before .before .pre .1 .0 .below (c .before .before .before .before .before .loop .i) (omega arith) in
     let e = c .before .before .wide .ensures in
     omega arith
 
 pack-requires-2 : tie.Need-pack-requires-2 Inv-loop μ-loop
 pack-requires-2 c κs =
-    let b = c .before .before .before .before .before .before .before .before .before .before .before .pre .1 .below (c .before .before .before .before .before .before .loop .i) (omega arith) in
+    let b = c .before .before .before .before .before .before .before .before .before .before .before .pre .1 .0 .below (c .before .before .before .before .before .before .loop .i) (omega arith) in
     let e = c .before .before .before .wide .ensures in
     omega arith
 
@@ -62,7 +63,7 @@ slice-write-plan-2 c =
     let s = c .before .before .before .before .before .before .before .loop in
     let C = take (a .weight) (drop (a .start) (a .t .now)) in
     let room : a .at + 1 + length (adds (a .to) (a .skip .now) C) ≤ length (set (a .plan .now) (a .at) (c .before .before .before .before .before .before .before .before .pack .result)) = simp length-set (omega (arith, adds-length (a .to) (a .skip .now) C)) in
-    let h : s .i < length C = rw (part-length (a .t .now) (a .start) (a .weight) (c .before .before .before .before .before .before .before .before .before .before .before .before .pre .1 .room)) (omega arith) in
+    let h : s .i < length C = rw (part-length (a .t .now) (a .start) (a .weight) (c .before .before .before .before .before .before .before .before .before .before .before .before .pre .1 .0 .room)) (omega arith) in
     let q : c .before .before .before .before .wide .result ≡ getD C (s .i) 0 = c .before .before .before .before .wide .ensures ∙ part-at (a .t .now) (a .start) (a .weight) (s .i) (omega arith) in
     let next = adds-next (a .to) (a .skip .now) C (s .i) (c .before .before .before .before .wide .result) h q (c .before .before .before .if1 .taken) (c .before .if2 .taken) in
     let r = left-room room (left-is _ (s .inv .1) next) in
@@ -101,7 +102,7 @@ loop-again c =
     let s = c .before .before .before .before .loop in
     let C = take (a .weight) (drop (a .start) (a .t .now)) in
     let room : a .at + 1 + length (adds (a .to) (a .skip .now) C) ≤ length (set (a .plan .now) (a .at) (c .before .before .before .before .before .pack .result)) = simp length-set (omega (arith, adds-length (a .to) (a .skip .now) C)) in
-    let h : s .i < length C = rw (part-length (a .t .now) (a .start) (a .weight) (c .before .before .before .before .before .before .before .before .before .pre .1 .room)) (omega arith) in
+    let h : s .i < length C = rw (part-length (a .t .now) (a .start) (a .weight) (c .before .before .before .before .before .before .before .before .before .pre .1 .0 .room)) (omega arith) in
     let q : c .before .wide .result ≡ getD C (s .i) 0 = c .before .wide .ensures ∙ part-at (a .t .now) (a .start) (a .weight) (s .i) (omega arith) in
     let to = a .to in
     let sk = a .skip .now in
@@ -132,7 +133,7 @@ returns c =
     let C = take (a .weight) (drop (a .start) (a .t .now)) in
     let room : a .at + 1 + length (adds (a .to) (a .skip .now) C) ≤ length (set (a .plan .now) (a .at) (c .before .before .pack .result)) = simp length-set (omega (arith, adds-length (a .to) (a .skip .now) C)) in
     let e : s .i ≡ a .weight = omega arith in
-    let none : drop (s .i) C ≡ [] = ap (λ k. drop k C) (e ∙ sym (part-length (a .t .now) (a .start) (a .weight) (c .before .before .before .before .before .before .pre .1 .room))) ∙ drop-length C in
+    let none : drop (s .i) C ≡ [] = ap (λ k. drop k C) (e ∙ sym (part-length (a .t .now) (a .start) (a .weight) (c .before .before .before .before .before .before .pre .1 .0 .room))) ∙ drop-length C in
     let one = wrote-one (a .plan .now) (a .at) (c .before .before .pack .result) (omega arith) in
     let w = left-done (left-is [] (s .inv .1) (ap (adds (a .to) (a .skip .now)) none)) in
     rw (← c .before .before .pack .ensures) (wrote-append (omega arith) one w)

@@ -9,18 +9,21 @@ use Rattle.plan.proofs.bad_counts.Tie as tie
 returns : tie.Need-returns
 returns c = counts-short (c .before .before .args .w .now) (omega arith)
 
-shared-slice-read-if2 : tie.Need-shared-slice-read-if2
-shared-slice-read-if2 c = search needs
+shared-slice-read-wide : tie.Need-shared-slice-read-wide
+shared-slice-read-wide c = search needs
+
+wide-requires : tie.Need-wide-requires
+wide-requires c κs = search needs
 
 returns-2 : tie.Need-returns-2
-returns-2 c = counts-first (c .before .before .before .before .args .w .now) (omega arith) (c .if2 .taken)
+returns-2 c = counts-first (c .before .before .before .before .before .args .w .now) (omega arith) (λ e. c .if2 .taken (c .before .wide .ensures ∙ e))
 
 bad-limits-requires : tie.Need-bad-limits-requires
 bad-limits-requires c κs = search needs
 
 returns-3 : tie.Need-returns-3
-returns-3 c = c .bad-limits .ensures ∙ counts-last (c .before .before .before .before .before .args .w .now) (omega arith) (c .before .if2 .left)
+returns-3 c = c .bad-limits .ensures ∙ counts-last (c .before .before .before .before .before .before .args .w .now) (omega arith) (omega arith)
 
 pub bad-counts-spec : {M : Type 1} → statement M
 bad-counts-spec =
-    tie.close (tie.spec returns shared-slice-read-if2 returns-2 bad-limits-requires returns-3)
+    tie.close (tie.spec returns shared-slice-read-wide wide-requires returns-2 bad-limits-requires returns-3)

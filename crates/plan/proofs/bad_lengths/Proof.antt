@@ -7,6 +7,7 @@ use native.Mathlib.Omega.{arith}
 use lib.ListN.{length}
 use borrow.Author.Tests.{lt-ltb}
 use Rattle.plan.proofs.Counts.{lengths-info, lengths-short, lengths-steps, lengths-last}
+use Rattle.plan.specs.Layout.{mostSteps}
 use borrow.Author.Needs.{needs}
 use Rattle.plan.proofs.bad_lengths.Statement.{statement}
 use Rattle.plan.proofs.bad_lengths.Tie as tie
@@ -26,11 +27,11 @@ sub-if1 c = search needs
 returns : tie.Need-returns
 returns c = lengths-info (c .before .before .before .before .before .args .w .now) (λ e. c .if1 .taken (omega arith))
 
-add-if2 : tie.Need-add-if2
-add-if2 c = omega (arith, c .before .before .before .before .shared-slice-known .given 5)
+steps-at-requires : tie.Need-steps-at-requires
+steps-at-requires c κs = search needs
 
 returns-2 : tie.Need-returns-2
-returns-2 c = lengths-short (c .before .before .before .before .before .before .args .w .now) (omega arith) (omega arith)
+returns-2 c = lengths-short (c .before .before .before .before .before .before .before .args .w .now) (omega arith) (omega arith)
 
 step-count-requires : tie.Need-step-count-requires
 step-count-requires c κs = search needs
@@ -38,15 +39,13 @@ step-count-requires c κs = search needs
 add-result : tie.Need-add-result
 add-result c = search needs
 
-add-result-2 : tie.Need-add-result-2
-add-result-2 c = search needs
-
 returns-3 : tie.Need-returns-3
-returns-3 c = lt-ltb 13344 _ (c .if3 .taken) ∙ lengths-steps (c .before .before .before .before .before .before .before .before .args .w .now) (omega arith) (omega arith) (omega arith)
+returns-3 c = lt-ltb mostSteps _ (c .if3 .taken) ∙ lengths-steps (c .before .before .before .before .before .before .before .before .before .args .w .now) (omega arith) (omega arith) (omega arith)
 
 returns-4 : tie.Need-returns-4
-returns-4 c = ap₂ (λ (i k : ℕ). not (eqb (length (c .before .before .before .before .before .before .before .before .args .w .now)) (7 + i + k))) (c .before .before .before .before .before .before .info-count .ensures) (c .before .step-count .ensures)
-    ∙ lengths-last (c .before .before .before .before .before .before .before .before .args .w .now) (omega arith) (omega arith) (omega arith)
+returns-4 c = let w = c .before .before .before .before .before .before .before .before .before .args .w .now in
+    ap₂ (λ (i k : ℕ). not (eqb (length w) (i + k))) (c .before .before .before .steps-at .ensures) (c .before .step-count .ensures)
+    ∙ lengths-last w (omega arith) (omega arith) (omega arith)
 
 pub bad-lengths-spec : {M : Type 1} → statement M
 bad-lengths-spec =
@@ -57,10 +56,9 @@ bad-lengths-spec =
     kept-requires
     sub-if1
     returns
-    add-if2
+    steps-at-requires
     returns-2
     step-count-requires
     add-result
-    add-result-2
     returns-3
     returns-4)

@@ -2,7 +2,7 @@
 use borrow.Author.Tests.{ltb-true, ltb-false}
 use Rattle.plan.proofs.Counts.{limits-places, limits-size, limits-gap, limits-aside, limits-kept, limits-checks, limits-last}
 use Rattle.plan.specs.Layout.{planPlaces, planSize}
-use Rattle.table.specs.Table.{outside}
+use Rattle.table.specs.Table.{mostPlaces, mostBytes, outside}
 use mathlib.Core.Path.{_≡_, sym, ap, _∙_}
 use mathlib.Core.Bool.{false}
 use mathlib.Core.Logic.{⊎-elim}
@@ -31,14 +31,14 @@ beyond-requires-2 c κs = search needs
 
 returns : tie.Need-returns
 returns c = let w = c .before .before .before .before .before .before .args .w .now in
-    let a : outside 1024 (planPlaces w) ≡ c .before .beyond .result = ap (outside 1024) (sym (c .before .before .before .before .places .ensures)) ∙ sym (c .before .beyond .ensures) in
+    let a : outside mostPlaces (planPlaces w) ≡ c .before .beyond .result = ap (outside mostPlaces) (sym (c .before .before .before .before .places .ensures)) ∙ sym (c .before .beyond .ensures) in
     ⊎-elim (λ x. limits-places w (a ∙ x .taken))
-    (λ x. limits-size w (a ∙ x .0 .left) (ap (outside 1024) (sym (x .1 .ensures)) ∙ sym (x .2 .ensures) ∙ x .3 .taken)) (c .if1 .came)
+    (λ x. limits-size w (a ∙ x .0 .left) (ap (outside mostBytes) (sym (x .1 .ensures)) ∙ sym (x .2 .ensures) ∙ x .3 .taken)) (c .if1 .came)
 
 returns-2 : tie.Need-returns-2
 returns-2 c = let w = c .before .before .before .before .before .before .before .before .before .before .args .w .now in
-    let a : outside 1024 (planPlaces w) ≡ false = ap (outside 1024) (sym (c .before .before .before .before .before .before .before .before .places .ensures)) ∙ sym (c .before .before .before .before .before .beyond .ensures) ∙ c .before .before .before .before .if1 .left in
-    let b : outside 1024 (planSize w) ≡ false = ap (outside 1024) (sym (c .before .before .before .size .ensures)) ∙ sym (c .before .before .beyond2 .ensures) ∙ c .before .if2 .left in
+    let a : outside mostPlaces (planPlaces w) ≡ false = ap (outside mostPlaces) (sym (c .before .before .before .before .before .before .before .before .places .ensures)) ∙ sym (c .before .before .before .before .before .beyond .ensures) ∙ c .before .before .before .before .if1 .left in
+    let b : outside mostBytes (planSize w) ≡ false = ap (outside mostBytes) (sym (c .before .before .before .size .ensures)) ∙ sym (c .before .before .beyond2 .ensures) ∙ c .before .if2 .left in
     ⊎-elim (λ x. limits-gap w a b (omega (arith, x .taken)))
     (⊎-elim (λ x. limits-aside w a b (omega (arith, x .0 .left)) (let t = x .1 .taken in omega (arith, ltb-true)))
     (⊎-elim (λ x. limits-kept w a b (omega (arith, x .0 .left)) (let t = x .1 .left in omega (arith, ltb-false)) (let t = x .2 .taken in omega (arith, ltb-true)))
@@ -49,8 +49,8 @@ bad-lengths-requires c κs = (omega arith, omega (arith, ltb-false))
 
 returns-3 : tie.Need-returns-3
 returns-3 c = let w = c .before .before .before .before .before .before .before .before .before .before .before .before .before .before .args .w .now in
-    let a : outside 1024 (planPlaces w) ≡ c .before .before .before .before .before .before .before .before .before .beyond .result = ap (outside 1024) (sym (c .before .before .before .before .before .before .before .before .before .before .before .before .places .ensures)) ∙ sym (c .before .before .before .before .before .before .before .before .before .beyond .ensures) in
-    let b : outside 1024 (planSize w) ≡ c .before .before .before .before .before .before .beyond2 .result = ap (outside 1024) (sym (c .before .before .before .before .before .before .before .size .ensures)) ∙ sym (c .before .before .before .before .before .before .beyond2 .ensures) in
+    let a : outside mostPlaces (planPlaces w) ≡ c .before .before .before .before .before .before .before .before .before .beyond .result = ap (outside mostPlaces) (sym (c .before .before .before .before .before .before .before .before .before .before .before .before .places .ensures)) ∙ sym (c .before .before .before .before .before .before .before .before .before .beyond .ensures) in
+    let b : outside mostBytes (planSize w) ≡ c .before .before .before .before .before .before .beyond2 .result = ap (outside mostBytes) (sym (c .before .before .before .before .before .before .before .size .ensures)) ∙ sym (c .before .before .before .before .before .before .beyond2 .ensures) in
     c .bad-lengths .ensures ∙ limits-last w (a ∙ c .before .before .before .before .before .before .before .before .if1 .left) (b ∙ c .before .before .before .before .before .if2 .left) (omega arith) (omega (arith, ltb-false)) (omega (arith, ltb-false)) (omega (arith, ltb-false))
 
 pub bad-limits-spec : {M : Type 1} → statement M

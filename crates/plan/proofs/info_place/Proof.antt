@@ -1,5 +1,5 @@
 -- `plan::info_place` meets its contract: a number of the second section.
-use Rattle.plan.specs.Layout.{infoCount}
+use Rattle.plan.specs.Layout.{infoAt, infoCount}
 use lib.Seq.{getD-take, getD-drop}
 use mathlib.Core.Path.{sym, _∙_}
 use native.Mathlib.Omega.{arith}
@@ -22,7 +22,7 @@ wide-requires c κs = search needs
 
 returns : tie.Need-returns
 returns c = let w = c .before .before .before .args .w .now in let k = c .before .before .before .args .k in
-    c .wide .ensures ∙ sym (getD-take (infoCount w) (drop 6 w) k 0 (omega arith) ∙ getD-drop 6 w k 0)
+    c .wide .ensures ∙ sym (getD-take (infoCount w) (drop infoAt w) k 0 (omega arith) ∙ getD-drop infoAt w k 0)
 
 pub info-place-spec : {M : Type 1} → statement M
 info-place-spec =

@@ -44,11 +44,8 @@ add-good-steps c = let w = c .before .before .before .before .before .before .be
 slice-aggregate-good-steps : tie.Need-slice-aggregate-good-steps
 slice-aggregate-good-steps c = search needs
 
-info-count-requires : tie.Need-info-count-requires
-info-count-requires c κs = let w = c .before .before .before .before .before .before .before .before .before .before .args .w .now in let q : badCounts w ≡ false = sym (c .before .before .before .before .before .before .before .before .bad-counts .ensures) ∙ c .before .before .before .before .before .before .before .if1 .left in let k = counted w q in omega arith
-
-add-good-steps-2 : tie.Need-add-good-steps-2
-add-good-steps-2 c = let w = c .before .before .before .before .before .before .before .before .before .before .before .args .w .now in let q : badCounts w ≡ false = sym (c .before .before .before .before .before .before .before .before .before .bad-counts .ensures) ∙ c .before .before .before .before .before .before .before .before .if1 .left in let k = counted w q in omega arith
+steps-at-requires : tie.Need-steps-at-requires
+steps-at-requires c κs = let w = c .before .before .before .before .before .before .before .before .before .before .args .w .now in let q : badCounts w ≡ false = sym (c .before .before .before .before .before .before .before .before .bad-counts .ensures) ∙ c .before .before .before .before .before .before .before .if1 .left in let k = counted w q in omega arith
 
 good-steps-requires : tie.Need-good-steps-requires
 good-steps-requires c κs = let w = c .before .before .before .before .before .before .before .before .before .before .before .args .w .now in let q : badCounts w ≡ false = sym (c .before .before .before .before .before .before .before .before .before .bad-counts .ensures) ∙ c .before .before .before .before .before .before .before .before .if1 .left in let k = counted w q in (omega (arith, c .before .before .before .before .before .mark-places .kept .1 .1 .0, length-replicate {A = ℕ} 1056 0), omega arith)
@@ -59,7 +56,7 @@ returns-3 c = let w = c .before .before .before .before .before .before .before 
     let found : c .before .before .before .before .before .before .before .mark-places .result ≡ true = not-false _ (c .before .before .before .before .before .if2 .left) in
     refuse-steps w q
     (ap (λ (n : ℕ). rising n 0 (infoIn w)) (sym (c .before .before .before .before .before .before .before .before .before .places .ensures)) ∙ sym (c .before .before .before .before .before .before .before .mark-places .ensures .rises) ∙ found)
-    (sym (same-steps w _ _ _ _ (c .before .before .before .before .before .before .before .before .before .places .ensures) (c .before .before .before .before .gap .ensures) (c .before .before .info-count .ensures) long (c .before .before .before .before .before .before .before .mark-places .ensures .marked found)) ∙ sym (c .before .good-steps .ensures) ∙ not-true _ (c .if3 .taken))
+    (sym (same-steps w _ _ _ _ (c .before .before .before .before .before .before .before .before .before .places .ensures) (c .before .before .before .before .gap .ensures) (c .before .before .steps-at .ensures) long (c .before .before .before .before .before .before .before .mark-places .ensures .marked found)) ∙ sym (c .before .good-steps .ensures) ∙ not-true _ (c .if3 .taken))
 
 returns-4 : tie.Need-returns-4
 returns-4 c = let w = c .before .before .before .before .before .before .before .before .before .before .before .before .before .args .w .now in let q : badCounts w ≡ false = sym (c .before .before .before .before .before .before .before .before .before .before .before .bad-counts .ensures) ∙ c .before .before .before .before .before .before .before .before .before .before .if1 .left in let k = counted w q in
@@ -67,7 +64,7 @@ returns-4 c = let w = c .before .before .before .before .before .before .before 
     let found : c .before .before .before .before .before .before .before .mark-places .result ≡ true = not-false _ (c .before .before .before .before .before .if2 .left) in
     refuse-none w q
     (ap (λ (n : ℕ). rising n 0 (infoIn w)) (sym (c .before .before .before .before .before .before .before .before .before .places .ensures)) ∙ sym (c .before .before .before .before .before .before .before .mark-places .ensures .rises) ∙ found)
-    (sym (same-steps w _ _ _ _ (c .before .before .before .before .before .before .before .before .before .places .ensures) (c .before .before .before .before .gap .ensures) (c .before .before .info-count .ensures) long (c .before .before .before .before .before .before .before .mark-places .ensures .marked found)) ∙ sym (c .before .good-steps .ensures) ∙ not-false _ (c .if3 .left))
+    (sym (same-steps w _ _ _ _ (c .before .before .before .before .before .before .before .before .before .places .ensures) (c .before .before .before .before .gap .ensures) (c .before .before .steps-at .ensures) long (c .before .before .before .before .before .before .before .mark-places .ensures .marked found)) ∙ sym (c .before .good-steps .ensures) ∙ not-false _ (c .if3 .left))
 
 pub look-over-spec : {M : Type 1} → statement M
 look-over-spec =
@@ -82,8 +79,7 @@ look-over-spec =
     gap-requires
     add-good-steps
     slice-aggregate-good-steps
-    info-count-requires
-    add-good-steps-2
+    steps-at-requires
     good-steps-requires
     returns-3
     returns-4)

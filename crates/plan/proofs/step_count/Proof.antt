@@ -2,6 +2,7 @@
 use Prim.Native.Nat.{ℕ, _+_}
 use mathlib.Core.Path.{ap, _∙_}
 use lib.ListN.{getD}
+use Rattle.plan.specs.Layout.{infoAt}
 use borrow.Author.Needs.{needs}
 use Rattle.plan.proofs.step_count.Statement.{statement}
 use Rattle.plan.proofs.step_count.Tie as tie
@@ -22,7 +23,7 @@ wide-requires : tie.Need-wide-requires
 wide-requires c κs = search needs
 
 returns : tie.Need-returns
-returns c = c .wide .ensures ∙ ap (λ (i : ℕ). getD (c .before .before .before .before .args .w .now) (6 + i) 0) (c .before .before .info-count .ensures)
+returns c = c .wide .ensures ∙ ap (λ (i : ℕ). getD (c .before .before .before .before .args .w .now) (infoAt + i) 0) (c .before .before .info-count .ensures)
 
 pub step-count-spec : {M : Type 1} → statement M
 step-count-spec =

@@ -13,7 +13,7 @@ use Rattle.planner.proofs.write_out.Tie as tie
 use Rattle.planner.proofs.write_out.Reads as reads
 use Rattle.planner.proofs.write_out.Lts as lts
 use Rattle.columns.proofs.fit_places.Reads as fit-places-reads
-use Rattle.emit.proofs.write_plan.Reads as write-plan-reads
+use Rattle.compose.proofs.write_plan.Reads as write-plan-reads
 use Rattle.table.proofs.wide.Reads as wide-reads
 
 -- src/lib.rt:58:18

@@ -1,17 +1,18 @@
+-- `compose::unmarked` meets its contract: the places that are left, one after the other.
 use Rattle.gf2.specs.Fit.{below}
 use Rattle.gf2.specs.Lists.{rev}
 use Rattle.gf2.specs.Places.{minus}
 use Rattle.emit.specs.Emit.{marked}
-use Rattle.emit.proofs.Laws.{Left, left-all, left-is, left-one, left-room, left-length, left-done}
-use Rattle.emit.proofs.Frees.{frees, frees-all, frees-none, frees-marked, frees-next}
+use Rattle.emit.specs.WroteLaws.{Left, left-all, left-is, left-one, left-room, left-length, left-done}
+use Rattle.compose.proofs.FreePlaces.{frees, frees-all, frees-none, frees-marked, frees-next}
 use Prim.Native.Nat.{_+_, _-_, _≤_, _<_}
 use mathlib.Core.Path.{_≡_, ap, _∙_}
 use mathlib.Core.List.{[]}
 use mathlib.Core.Logic.{⊎-elim}
 use native.Mathlib.Omega.{arith}
 use lib.ListN.{length}
-use Rattle.emit.proofs.unmarked.Statement.{statement}
-use Rattle.emit.proofs.unmarked.Tie as tie
+use Rattle.compose.proofs.unmarked.Statement.{statement}
+use Rattle.compose.proofs.unmarked.Tie as tie
 
 abbrev Inv-loop : tie.InvT-loop
 Inv-loop plan₀ at n used k₀ p₀ plan k p = (p ≤ n) × Left plan₀ at (minus (rev (below n)) (marked used)) (frees n used p) plan k

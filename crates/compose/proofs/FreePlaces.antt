@@ -10,8 +10,8 @@ use Rattle.gf2.specs.Fit.{below}
 use Rattle.gf2.specs.Lists.{rev}
 use Rattle.gf2.specs.Places.{minus}
 use Rattle.table.specs.Checks.{from}
 use Rattle.emit.specs.Emit.{marked}
-use Rattle.emit.proofs.Marks.{has-marked, minus-in, minus-out}
+use Rattle.emit.specs.MarkLaws.{has-marked, minus-in, minus-out}
 
 from-snoc : (i c : ℕ) → from i (suc c) ≡ from i c ++ ((i + c) ∷ [])
 unfolding from

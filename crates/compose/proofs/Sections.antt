@@ -1,4 +1,4 @@
--- The sections of the plan from the buffers.
+-- The plan's sections from the buffers: the information places that the marks leave, and the four parts of the steps.
 use mathlib.Core.Path.{_≡_, refl, sym, ap, ap₂, _∙_}
 use mathlib.Core.Bool.{Bool, not}
 use mathlib.Core.List.{List, [], _∷_, _++_, map}
@@ -12,15 +12,15 @@ use Rattle.gf2.specs.Places.{has, filter, minus}
 use Rattle.gf2.specs.Span.{byBool}
 use Rattle.table.specs.Checks.{check}
 use Rattle.table.specs.Table.{places, number}
+use Rattle.plan.specs.declared.Step.{Step}
 use Rattle.plan.specs.Step.{pack}
 use Rattle.rule.specs.Main.{length-rev, append-nil}
 use Rattle.rule.specs.Rule.{Solved, solvingSteps, scratchSteps, fittingSteps, planSteps, fittedPlaces, inverse, reduced}
-use Rattle.emit.specs.Emit.{marked, marking, solvedIn, asideIn, fittingRows, gapSteps, Below, Readable, Phases}
-use Rattle.emit.proofs.Passes.{packed-append}
-use Rattle.emit.proofs.Same.{minus-same, solving-same, scratch-same, none-marked, marked-more, marking-length, fitting-is, fitted-low}
-
-pub below-more : {m n : ℕ} {ps : List ℕ} {k : ℕ} → Below m ps k → m ≤ n → Below n ps k
-below-more b h = record { room = b .room; each = λ i l. let e = b .each i l in omega arith }
+use Rattle.emit.specs.Emit.{Room, WroteSteps, marked, marking, solvedIn, asideIn, solveSteps, wholeSteps, asideSteps, fittingRows, Below, Readable}
+use Rattle.emit.specs.WroteLaws.{packed-append, packed-length, Left, left-all, left-is, left-more, left-steps, left-done}
+use Rattle.emit.specs.MarkLaws.{minus-same, solving-same, scratch-same, none-marked, marked-more, marking-length, below-more}
+use Rattle.compose.proofs.Fitting.{fitting-is, fitted-low}
+use Rattle.compose.specs.Compose.{gapSteps, Phases}
 
 -- ---- the information places
 filter-few : (f : ℕ → Bool) (l : List ℕ) → length (filter f l) ≤ length l
@@ -47,7 +47,7 @@ module _ (n : ℕ) (us fs : List ℕ) (taken g : ℕ) (u : Below n us taken) (f 
           ∙ ap (has p) (append-nil (take g fs))
 
 -- ---- the steps
-module _ (t starts order us : List ℕ) (taken : ℕ) (aside : List ℕ) (g : ℕ) (fs rows : List ℕ) (ph : Phases t starts order us taken aside g fs rows) where
+module _ {t starts order us : List ℕ} {taken : ℕ} {aside : List ℕ} {g : ℕ} {fs rows : List ℕ} (ph : Phases t starts order us taken aside g fs rows) where
   abbrev T : List Solved
   T = solvedIn t order us taken
 
@@ -62,7 +62,7 @@ module _ (t starts order us : List ℕ) (taken : ℕ) (aside : List ℕ) (g : �
 
   -- the marks of the fitted places
   module _ (skip : List ℕ) (e : skip ≡ marking (replicate 1024 0) (take g fs)) where
-    pub skip-long : length skip ≡ 1024
+    skip-long : length skip ≡ 1024
     skip-long = ap length e ∙ marking-length (replicate 1024 0) (take g fs) ∙ length-replicate {A = ℕ} 1024 0
 
     skip-is : (p : ℕ) → has p (marked skip) ≡ has p (fittedPlaces n T Z)
@@ -70,9 +70,23 @@ module _ (t starts order us : List ℕ) (taken : ℕ) (aside : List ℕ) (g : �
         ap (λ m. has p (marked m)) e ∙ marked-more (replicate 1024 0) fs g (below-more fitted-below (omega (arith, length-replicate {A = ℕ} 1024 0))) [] (none-marked 1024) p
         ∙ ap (has p) (append-nil (take g fs) ∙ ph .fits .places)
 
-    -- the four parts
-    pub gap-is : map pack (gapSteps n T Z) ≡ map pack (solvingSteps (marked skip) (rev T)) ++ (map pack (scratchSteps n (marked skip) Z)
-        ++ (map pack (fittingRows n g fs rows 0 g) ++ map pack (solvingSteps [] (rev T))))
+    -- the steps, and their four parts
+    abbrev W : List ℕ
+    W = map pack (gapSteps n T Z)
+
+    abbrev A : List Step
+    A = solveSteps t order us taken skip
+
+    abbrev B : List Step
+    B = asideSteps t aside g skip
+
+    abbrev C : List Step
+    C = fittingRows n g fs rows 0 g
+
+    abbrev D : List Step
+    D = wholeSteps t order us taken
+
+    gap-is : W ≡ map pack A ++ (map pack B ++ (map pack C ++ map pack D))
     gap-is =
         let F = fittedPlaces n T Z in
         let inv = inverse (reduced T Z) F in
@@ -85,8 +99,43 @@ module _ (t starts order us : List ℕ) (taken : ℕ) (aside : List ℕ) (g : �
         ∙ ap₂ (λ x y. map pack x ++ y) b (packed-append (fittingSteps n inv F) _
         ∙ ap (λ x. map pack x ++ map pack (solvingSteps [] (rev T))) c))
 
-  pub readable : (marks : List ℕ) → length marks ≡ 1024 → Readable t starts marks
-  readable marks h = record { each = ph .each; first = ph .first; all = omega arith }
+    -- what is left to write before each part, that the part has room, and that the last completes the steps
+    module _ (l : List ℕ) (at : ℕ) (room : Room l at (gapSteps n T Z)) where
+      fits : at + length W ≤ length l
+      fits = let p = packed-length (gapSteps n T Z) in omega arith
+
+      left-A : Left l at W (map pack A ++ (map pack B ++ (map pack C ++ map pack D))) l at
+      left-A = left-is _ (left-all l at W) gap-is
+
+      pub room-A : Room l at A
+      room-A = left-steps fits A _ left-A
+
+      module _ {e₁ : List ℕ} {k₁ : ℕ} (a : WroteSteps l at A e₁ k₁) where
+        left-B : Left l at W (map pack B ++ (map pack C ++ map pack D)) e₁ k₁
+        left-B = left-more fits (map pack A) _ left-A a
+
+        pub room-B : Room e₁ k₁ B
+        room-B = left-steps fits B _ left-B
+
+        module _ {e₂ : List ℕ} {k₂ : ℕ} (b : WroteSteps e₁ k₁ B e₂ k₂) where
+          left-C : Left l at W (map pack C ++ map pack D) e₂ k₂
+          left-C = left-more fits (map pack B) _ left-B b
+
+          pub room-C : Room e₂ k₂ C
+          room-C = left-steps fits C _ left-C
+
+          module _ {e₃ : List ℕ} {k₃ : ℕ} (c : WroteSteps e₂ k₂ C e₃ k₃) where
+            left-D : Left l at W (map pack D ++ []) e₃ k₃
+            left-D = left-is _ (left-more fits (map pack C) (map pack D) left-C c) (sym (append-nil (map pack D)))
+
+            pub room-D : Room e₃ k₃ D
+            room-D = left-steps fits D [] left-D
+
+            pub all-parts : {e₄ : List ℕ} {k₄ : ℕ} → WroteSteps e₃ k₃ D e₄ k₄ → WroteSteps l at (gapSteps n T Z) e₄ k₄
+            all-parts d = left-done (left-more fits (map pack D) [] left-D d)
+
+    pub readable : Readable t starts skip
+    readable = let h = skip-long in record { each = ph .each; first = ph .first; all = omega arith }
 
   -- nothing set aside, or something
   pub steps-none : g ≡ 0 → planSteps n T Z ≡ solvingSteps [] (rev T)
@@ -101,7 +150,3 @@ module _ (t starts order us : List ℕ) (taken : ℕ) (aside : List ℕ) (g : �
 
   pub steps-some : (g ≡ 0 → ⊥) → planSteps n T Z ≡ gapSteps n T Z
   steps-some h = let l = aside-length in steps-cons Z (omega arith)
-
--- nothing is marked
-pub whole-is : (us : List Solved) → solvingSteps (marked (replicate 1024 0)) us ≡ solvingSteps [] us
-whole-is us = solving-same (marked (replicate 1024 0)) [] us (none-marked 1024)

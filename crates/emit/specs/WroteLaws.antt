@@ -1,24 +1,22 @@
--- Writing on, and what is left to write.
+-- Numbers written one list after the other, and what is left to write.
 use mathlib.Core.Path.{_≡_, refl, sym, ap, ap₂, _∙_, subst}
-use mathlib.Core.List.{List, [], _∷_, _++_, append-assoc}
+use mathlib.Core.List.{List, [], _∷_, _++_, append-assoc, map}
 use Prim.Native.Nat.{ℕ, suc, _+_, _-_, _<_, _≤_}
 use native.Mathlib.Omega.{arith}
-use lib.ListN.{length, getD, set, take, drop, length-drop, length-take, length-append, take-append-drop}
+use lib.ListN.{length, getD, set, take, drop, length-drop, length-take, length-append, length-map, take-append-drop}
 use native.Mathlib.Numerals.{add-one}
 use lib.Seq.{drop-cons, set-at, take-at, drop-at, drop-drop, take-suc, length-take-le}
-use Rattle.emit.specs.Emit.{written, Wrote}
+use Rattle.table.specs.BufferLaws.{written-length}
+use Rattle.table.specs.Packets.{written}
+use Rattle.plan.specs.declared.Step.{Step}
+use Rattle.plan.specs.Step.{pack}
+use Rattle.emit.specs.Emit.{Wrote}
 
 -- ---- a list written from a place on
 written-none : (l : List ℕ) (at : ℕ) → l ≡ written l at []
-unfolding written
 written-none l at = let e : at + 0 ≡ at = omega arith in rw e (sym (take-append-drop at l))
 
-written-length : (l : List ℕ) (at : ℕ) (ws : List ℕ) → at + length ws ≤ length l → length (written l at ws) ≡ length l
-unfolding written
-written-length l at ws h = simp (length-append, length-take, length-drop) (omega arith)
-
 written-more : (l : List ℕ) (at : ℕ) (ws : List ℕ) (v : ℕ) → at + length ws < length l → set (written l at ws) (at + length ws) v ≡ written l at (ws ++ (v ∷ []))
-unfolding written
 written-more l at ws v h =
     let rest = drop (suc (at + length ws)) l in
     let long : length (take at l ++ ws) ≡ at + length ws = simp (length-append, length-take) (omega arith) in
@@ -50,7 +48,6 @@ wrote-length {l} {at} {ws} w h = let n = w .next in ap length (w .list) ∙ writ
 
 -- then another list
 pub wrote-append : {l : List ℕ} {at : ℕ} {ws vs e f : List ℕ} {k r : ℕ} → k ≤ length l → Wrote l at ws e k → Wrote e k vs f r → Wrote l at (ws ++ vs) f r
-unfolding written
 wrote-append {l} {at} {ws} {vs} {e} {f} {k} {r} h a b =
     let n = a .next in
     let m = b .next in
@@ -110,7 +107,6 @@ module _ {l : List ℕ} {at : ℕ} {ws : List ℕ} (room : at + length ws ≤ le
 
 -- a list written behind the place for its length, and then the length
 pub wrote-count : {l : List ℕ} {at : ℕ} {ws e : List ℕ} {r : ℕ} → at + 1 + length ws ≤ length l → Wrote l (at + 1) ws e r → Wrote l at (length ws ∷ ws) (set e at (r - at - 1)) r
-unfolding written
 wrote-count {l} {at} {ws} {e} {r} h w =
     let n = w .next in
     let v : r - at - 1 ≡ length ws = omega arith in
@@ -123,3 +119,15 @@ wrote-count {l} {at} {ws} {e} {r} h w =
           ∙ ap (λ k. take at l ++ (length ws ∷ (ws ++ drop k l))) s;
       next = omega arith;
     }
+
+-- ---- packed steps
+pub packed-append : (a b : List Step) → map pack (a ++ b) ≡ map pack a ++ map pack b
+packed-append [] b = refl
+packed-append (x ∷ a) b = ap (λ r. pack x ∷ r) (packed-append a b)
+
+pub packed-length : (a : List Step) → length (map pack a) ≡ length a
+packed-length a = length-map a pack
+
+-- the next steps have room
+pub left-steps : {l : List ℕ} {at : ℕ} {ws e : List ℕ} {k : ℕ} (room : at + length ws ≤ length l) (a : List Step) (rest : List ℕ) → Left l at ws (map pack a ++ rest) e k → k + length a ≤ length e
+left-steps room a rest w = let r = left-room room w in let n = left-length room w in let p = packed-length a in let s = length-append (map pack a) rest in omega arith

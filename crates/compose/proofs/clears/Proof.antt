@@ -1,8 +1,9 @@
-use Rattle.emit.proofs.Counts.{clears-some}
+-- `compose::clears` meets its contract: none set aside, or some.
+use Rattle.compose.proofs.ClearSteps.{clears-some}
 use Prim.Native.Nat.{_-_}
 use borrow.Author.Needs.{needs}
-use Rattle.emit.proofs.clears.Statement.{statement}
-use Rattle.emit.proofs.clears.Tie as tie
+use Rattle.compose.proofs.clears.Statement.{statement}
+use Rattle.compose.proofs.clears.Tie as tie
 
 returns : tie.Need-returns
 returns c = search needs

@@ -1,16 +1,17 @@
+-- `compose::step_section` meets its contract: the steps, and then their count.
 use mathlib.Core.List.{map, _∷_}
 use Rattle.table.specs.Table.{places}
 use Rattle.plan.specs.Step.{pack}
 use Rattle.rule.specs.Rule.{planSteps}
 use Rattle.emit.specs.Emit.{solvedIn, asideIn}
-use Rattle.emit.proofs.Laws.{wrote-count, wrote-is}
-use Rattle.emit.proofs.Passes.{packed-length}
+use Rattle.emit.specs.WroteLaws.{wrote-count, wrote-is}
+use Rattle.emit.specs.WroteLaws.{packed-length}
 use Prim.Native.Nat.{_-_}
 use mathlib.Core.Path.{ap}
 use native.Mathlib.Omega.{arith}
 use borrow.Author.Needs.{needs}
-use Rattle.emit.proofs.step_section.Statement.{statement}
-use Rattle.emit.proofs.step_section.Tie as tie
+use Rattle.compose.proofs.step_section.Statement.{statement}
+use Rattle.compose.proofs.step_section.Tie as tie
 
 add-write-steps : tie.Need-add-write-steps
 add-write-steps c = search needs
@@ -30,7 +31,7 @@ cast-plan c =
     let steps = planSteps (places (a .t .now)) (solvedIn (a .t .now) (a .order .now) (a .owns .now) (a .taken)) (asideIn (a .t .now) (a .aside .now) (a .g)) in
     let l = packed-length steps in
     let w = c .before .before .write-steps .ensures .next in
-    let q = c .before .before .before .before .before .before .before .before .before .before .before .before .pre .2 in
+    let q = c .before .before .before .before .before .before .before .before .before .before .before .before .pre .1 .1 in
     omega arith
 
 mul-plan : tie.Need-mul-plan

@@ -14,7 +14,7 @@ use Rattle.rule.specs.Bound.{count-steps}
 use Rattle.rule.specs.Count.{count-append, count-fill}
 use Rattle.rule.specs.Main.{length-rev}
 use Rattle.rule.specs.Rule.{Solved, clearAndAdd, solvingSteps, scratchSteps, slotsNamed, fittingSteps, planSteps, fittedPlaces, inverse, reduced}
-use Rattle.emit.specs.Emit.{clearCount}
+use Rattle.compose.specs.Compose.{clearCount}
 
 -- a slot that is filled
 filled : (to : ℕ) (c : List ℕ) (xs : List Step) (k : ℕ) → length xs ≡ addSteps xs + k → length (clearAndAdd to c ++ xs) ≡ addSteps (clearAndAdd to c ++ xs) + suc k

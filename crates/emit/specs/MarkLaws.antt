@@ -1,25 +1,28 @@
--- Steps by marks are steps by the list of places, and the steps by rows are those of the inverse.
+-- Marks as lists of places: which places are marked, and that steps by marks are steps by the list of the marked places.
 use mathlib.Core.Path.{_≡_, refl, sym, ap, ap₂, _∙_}
 use mathlib.Core.Bool.{Bool, true, false, _||_}
 use mathlib.Core.List.{List, [], _∷_, _++_}
 use Prim.Native.Nat.{ℕ, zero, suc, _+_, _-_, _<_, _≤_}
 use native.Mathlib.Omega.{arith}
-use lib.Dec.{eqb}
-use lib.ListN.{length, getD, set, take, drop, replicate, length-set}
-use lib.Seq.{getD-set-same, getD-set-other, getD-take, drop-cons, length-take-le}
-use borrow.Author.Tests.{eq-eqb, ne-eqb}
+use lib.Dec.{eqb, ltb}
+use lib.ListN.{length, getD, set, take, replicate, length-set, List·getD-eq-default}
+use lib.Seq.{getD-set-same, getD-set-other, getD-take, length-take-le}
+use borrow.Author.Tests.{eq-eqb, ne-eqb, ltb-true, ltb-false}
 use Rattle.gf2.specs.Bit.{eqb-true, eqb-false}
-use Rattle.gf2.specs.Fit.{column}
-use Rattle.gf2.specs.Lists.{getD-zeros, below-of, all-filter}
-use Rattle.gf2.specs.Places.{has, minus}
+use Rattle.gf2.specs.Lists.{getD-zeros}
+use Rattle.gf2.specs.Places.{has, minus, has-filter}
 use Rattle.gf2.specs.Span.{byBool}
-use Rattle.gf2.specs.Width.{All, All.nil, All.cons}
-use Rattle.rule.specs.Codeword.{all-rev}
-use Rattle.rule.specs.Main.{all-choose}
-use Rattle.rule.specs.Rule.{Solved, clearAndAdd, solvingSteps, scratchSteps, slotsNamed, fittingSteps, fittedPlaces, inverse, reduced}
-use Rattle.rule.specs.Buffers.{maskBits, Fitted}
-use Rattle.emit.specs.Emit.{marked, marking, fittingRows, Below}
-use Rattle.emit.proofs.Marks.{has-marked}
+use Rattle.table.specs.Checks.{from}
+use Rattle.rule.specs.Info.{has-kept}
+use Rattle.rule.specs.Rule.{Solved, clearAndAdd, solvingSteps, scratchSteps}
+use Rattle.emit.specs.Emit.{marked, marking, Below}
+
+-- ---- one place and the rest
+pub minus-out : (p : ℕ) (c X : List ℕ) → has p X ≡ true → minus (p ∷ c) X ≡ minus c X
+minus-out p c X h = rw h
+
+pub minus-in : (p : ℕ) (c X : List ℕ) → has p X ≡ false → minus (p ∷ c) X ≡ p ∷ minus c X
+minus-in p c X h = rw h
 
 -- ---- only membership counts
 pub minus-same : (c X Y : List ℕ) → ((p : ℕ) → has p X ≡ has p Y) → minus c X ≡ minus c Y
@@ -38,6 +41,21 @@ scratch-same i X Y [] h = refl
 scratch-same i X Y (c ∷ cs) h = ap₂ (λ c r. clearAndAdd i c ++ r) (minus-same c X Y h) (scratch-same (suc i) X Y cs h)
 
 -- ---- which places are marked
+has-from : (i c p : ℕ) → i ≤ p → p < i + c → has p (from i c) ≡ true
+unfolding from
+has-from i zero p a b = absurd (omega arith)
+has-from i (suc c) p a b = byBool (eqb p i) (λ e. rw e) (λ e. let n = eqb-false p i e in rw e (has-from (suc i) c p (omega arith) (omega arith)))
+
+pub has-marked : (marks : List ℕ) (p : ℕ) → has p (marked marks) ≡ eqb (getD marks p 0) 1
+unfolding marked
+has-marked marks p = byBool (eqb (getD marks p 0) 1)
+    (λ e. has-kept (λ q. eqb (getD marks q 0) 1) p (from 0 (length marks)) e (has-from 0 (length marks) p (omega arith) (inside e)) ∙ sym e)
+    (λ e. has-filter (λ q. eqb (getD marks q 0) 1) p (from 0 (length marks)) e ∙ sym e)
+  where
+    inside : eqb (getD marks p 0) 1 ≡ true → p < 0 + length marks
+    inside e = byBool (ltb p (length marks)) (λ l. let k = ltb-true p (length marks) l in omega arith)
+        (λ l. let k = ltb-false p (length marks) l in let one = eqb-true (getD marks p 0) 1 e in let z = List·getD-eq-default marks 0 k in absurd (omega arith))
+
 pub none-marked : (k p : ℕ) → has p (marked (replicate k 0)) ≡ has p []
 none-marked k p = has-marked (replicate k 0) p ∙ ne-eqb (getD (replicate k 0) p 0) 1 (λ e. let z = getD-zeros k p in omega arith)
 
@@ -81,28 +99,6 @@ unfolding marking
 marking-length m [] = refl
 marking-length m (p ∷ ps) = marking-length (set m p 1) ps ∙ length-set m p 1
 
--- ---- fitted places
-all-at : {P : ℕ → Type 0} {l : List ℕ} → All P l → (i : ℕ) → i < length l → P (getD l i 0)
-all-at nil i h = absurd (omega arith)
-all-at (cons p a) zero h = p
-all-at (cons p a) (suc i) h = all-at a i (omega arith)
-
-fitted-all : (n : ℕ) (ts : List Solved) (az : List (List ℕ)) → All (λ p. p < n) (fittedPlaces n ts az)
-fitted-all n ts az = all-rev (all-choose (column (reduced ts az)) [] (all-filter _ (below-of n (λ p h. h))))
-
-pub fitted-low : {n : ℕ} {T : List Solved} {Z : List (List ℕ)} {g : ℕ} {fitted rows : List ℕ} → Fitted n T Z g fitted rows → Below n fitted g
-fitted-low {n} {T} {Z} {g} {fitted} f =
-    let l = length-take-le g fitted (f .room .0) in
-    record {
-      room = f .room .0;
-      each = λ i h. rw (← getD-take g fitted i 0 h, f .places) (all-at (fitted-all n T Z) i (let e = ap length (f .places) in omega arith));
-    }
-
--- the rows are those of the inverse
-pub fitting-is : (n g : ℕ) (fitted rows : List ℕ) (inv : ℕ → List Bool) (j c : ℕ) → j + c ≤ length fitted
-    → ((i : ℕ) → i < j + c → maskBits g (getD rows i 0) ≡ inv (getD fitted i 0)) → fittingRows n g fitted rows j c ≡ fittingSteps n inv (take c (drop j fitted))
-unfolding fittingRows
-fitting-is n g fitted rows inv j zero r h = refl
-fitting-is n g fitted rows inv j (suc c) r h =
-    let f = getD fitted j 0 in
-    rw (drop-cons fitted j 0 (omega arith)) (ap₂ (λ m s. clearAndAdd f (slotsNamed n m) ++ s) (h j (omega arith)) (fitting-is n g fitted rows inv (suc j) c (omega arith) (λ i l. h i (omega arith))))
+-- below a higher bound
+pub below-more : {m n : ℕ} {ps : List ℕ} {k : ℕ} → Below m ps k → m ≤ n → Below n ps k
+below-more b h = record { room = b .room; each = λ i l. let e = b .each i l in omega arith }

@@ -1,0 +1,5 @@
+pub mod ClearSteps
+pub mod Fitting
+pub mod FreePlaces
+pub mod Sections
+pub mod WholePlan

@@ -1,0 +1,82 @@
+-- `compose::write_plan` meets its contract: the three sections, one after the other.
+use Prim.Native.Nat.{_+_, _-_}
+use mathlib.Core.Path.{_≡_, ap}
+use native.Mathlib.Omega.{arith}
+use Rattle.compose.proofs.Sections.{fitted-below}
+use Rattle.compose.proofs.WholePlan.{phases, head-fits, info-room, steps-room, steps-few, steps-end, clears-count, taken-few, composed}
+use borrow.Author.Needs.{needs}
+use Rattle.compose.proofs.write_plan.Statement.{statement}
+use Rattle.compose.proofs.write_plan.Tie as tie
+
+shared-slice-read-wide : tie.Need-shared-slice-read-wide
+shared-slice-read-wide c = let w = phases (c .before .before .before .before .before .before .before .before .before .pre .0) .each .weights in omega arith
+
+wide-requires : tie.Need-wide-requires
+wide-requires c κs = search needs
+
+shared-slice-read-wide-2 : tie.Need-shared-slice-read-wide-2
+shared-slice-read-wide-2 c = let w = phases (c .before .before .before .before .before .before .before .before .before .before .before .before .pre .0) .each .weights in omega arith
+
+wide-requires-2 : tie.Need-wide-requires-2
+wide-requires-2 c κs = search needs
+
+write-head-requires : tie.Need-write-head-requires
+write-head-requires c κs = let s = c .before .before .before .before .before .before .before .before .before .before .before .before .before in head-fits (s .pre .0) (s .pre .1) (c .before .before .before .wide .ensures) (c .wide2 .ensures)
+
+info-section-requires : tie.Need-info-section-requires
+info-section-requires c κs =
+    let s = c .before .before .before .before .before .before .before .before .before .before .before .before .before .before .before .before .before in
+    let ph = phases (s .pre .0) in
+    let e = c .before .before .before .before .before .before .before .wide .ensures in
+    (info-room (s .pre .0) (s .args .plan .now) (s .pre .1) (c .before .before .before .before .before .before .before .wide .ensures) (c .before .before .before .before .wide2 .ensures) (c .before .before .before .write-head .ensures), (rw e (ph .own-places), (rw e (fitted-below ph), rw e (ph .each .narrow))))
+
+step-section-requires : tie.Need-step-section-requires
+step-section-requires c κs =
+    let s = c .before .before .before .before .before .before .before .before .before .before .before .before .before .before .before .before .before .before .before .before .before in
+    (steps-room (s .pre .0) (s .args .plan .now) (s .pre .1) (c .before .before .before .before .before .before .before .before .before .before .before .wide .ensures) (c .before .before .before .before .before .before .before .before .wide2 .ensures) (c .before .before .before .before .before .before .before .write-head .ensures) (c .before .before .before .info-section .ensures), (phases (s .pre .0), steps-few (s .pre .0)))
+
+sub-t20 : tie.Need-sub-t20
+sub-t20 c = search needs
+
+sub-t26 : tie.Need-sub-t26
+sub-t26 c = search needs
+
+clears-requires : tie.Need-clears-requires
+clears-requires c κs = let q = c .before .before .before .before .before .before .before .before .before .before .before .before .before .before .before .before .before .before .before .before .before .before .before .before .pre .0 in (taken-few q, q .few)
+
+sub-t28 : tie.Need-sub-t28
+sub-t28 c =
+    let s = c .before .before .before .before .before .before .before .before .before .before .before .before .before .before .before .before .before .before .before .before .before .before .before .before .before in
+    let e = steps-end (s .pre .0) (s .args .plan .now) (s .pre .1) (c .before .before .before .before .before .before .before .before .before .before .before .before .before .before .before .wide .ensures) (c .before .before .before .before .before .before .before .before .before .before .before .before .wide2 .ensures) (c .before .before .before .before .before .before .before .before .before .before .before .write-head .ensures) (c .before .before .before .before .before .before .before .info-section .ensures) (c .before .before .before .step-section .ensures) in
+    let n = clears-count (s .pre .0) in
+    let cl = c .clears .ensures in
+    omega arith
+
+same-length : tie.Need-same-length
+same-length c = search needs
+
+returns : tie.Need-returns
+returns c =
+    let s = c .before .before .before .before .before .before .before .before .before .before .before .before .before .before .before .before .before .before .before .before .before .before .before .before .before in
+    let e = steps-end (s .pre .0) (s .args .plan .now) (s .pre .1) (c .before .before .before .before .before .before .before .before .before .before .before .before .before .before .before .wide .ensures) (c .before .before .before .before .before .before .before .before .before .before .before .before .wide2 .ensures) (c .before .before .before .before .before .before .before .before .before .before .before .write-head .ensures) (c .before .before .before .before .before .before .before .info-section .ensures) (c .before .before .before .step-section .ensures) in
+    let n = clears-count (s .pre .0) in
+    let cl = c .clears .ensures in
+    composed (s .pre .0) (s .args .plan .now) (s .pre .1) (c .before .before .before .before .before .before .before .before .before .before .before .before .before .before .before .wide .ensures) (c .before .before .before .before .before .before .before .before .before .before .before .before .wide2 .ensures) (c .before .before .before .before .before .before .before .before .before .before .before .write-head .ensures) (c .before .before .before .before .before .before .before .info-section .ensures) (c .before .before .before .step-section .ensures) (omega arith)
+
+pub write-plan-spec : {M : Type 1} → statement M
+write-plan-spec =
+    tie.close
+    (tie.spec
+    shared-slice-read-wide
+    wide-requires
+    shared-slice-read-wide-2
+    wide-requires-2
+    write-head-requires
+    info-section-requires
+    step-section-requires
+    sub-t20
+    sub-t26
+    clears-requires
+    sub-t28
+    same-length
+    returns)

@@ -1,0 +1,13 @@
+-- What code asks before it writes a plan's first section: room, and counts within their limits.
+use mathlib.Core.List.{List}
+use Prim.Native.Nat.{ℕ, _≤_}
+use lib.ListN.{length}
+use Rattle.table.specs.Table.{mostPlaces, mostBytes, mostChecks}
+use Rattle.plan.specs.Layout.{mostAside, infoCountAt}
+
+pub record HeadFits (w : List ℕ) (n s g M : ℕ) : Type 0 where
+  pub room : infoCountAt ≤ length w
+  pub few-places : n ≤ mostPlaces
+  pub few-bytes : s ≤ mostBytes
+  pub few-aside : g ≤ mostAside
+  pub few-kept : M ≤ mostChecks

@@ -1,0 +1,12 @@
+-- The rule's plan of a table, and its numbers by the plan's layout.
+use mathlib.Core.List.{List}
+use Prim.Native.Nat.{ℕ}
+use Rattle.table.specs.Table.{places, size, checks}
+use Rattle.plan.specs.Layout.{planNumbers}
+use Rattle.rule.specs.Rule.{plan, Plan}
+
+unfoldable pub planOf : List ℕ → Plan
+planOf t = plan (places t) (checks t)
+
+unfoldable pub numbersOf : List ℕ → List ℕ
+numbersOf t = planNumbers (places t) (size t) (planOf t .g) (planOf t .M) (planOf t .info) (planOf t .list)
