@@ -72,6 +72,7 @@ pub no-sum : (q : ℕ) {R : List ℕ} → All (λ r. bit q r ≡ false) R → (z
 no-sum q {R} a z h = byBool (sums R z) (λ k. absurd (true≢false (sym h ∙ sum-bit q a z k))) (λ k. k)
 
 -- ---- rows by their highest places
+-- none of those that lead a place below n has place n
 pub rows-low : {f : ℕ → ℕ} (n : ℕ) → Lead f → All (λ r. bit n r ≡ false) (rowsOf f n)
 rows-low {f} n l = map-all f (below-of n (λ p h. l .low p n h))
 
@@ -93,6 +94,7 @@ or-right false b e = refl
 zero-add : (a x : ℕ) → isZero a ≡ true → bitXor a x ≡ x
 zero-add a x h = ap (λ (y : ℕ). bitXor y x) (isZero-sound a h) ∙ xor-zero-l x
 
+-- reduced to zero just if it is the sum of some
 pub down-test : {f : ℕ → ℕ} → Lead f → (n x : ℕ) → isZero (down f n x) ≡ sums (rowsOf f n) x
 unfolding down
 down-test l zero x = refl

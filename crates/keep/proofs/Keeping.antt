@@ -6,23 +6,20 @@ use Prim.Native.Nat.{ℕ, suc, _+_, _*_, _-_, _^_, _<_, _≤_}
 use native.Mathlib.Numerals.{add-one}
 use native.Mathlib.Omega.{arith}
 use lib.Bits.{bitXor}
-use lib.Dec.{eqb}
 use lib.ListN.{length, getD, set, take, drop}
-use lib.Seq.{getD-set-same, getD-set-other}
-use Rattle.gf2.specs.Bit.{bits-zero, eqb-true, eqb-false}
+use Rattle.gf2.specs.Bit.{bits-zero}
 use Rattle.gf2.specs.Echelon.{Bits, rowsOf, sums, down}
 use Rattle.gf2.specs.EchelonLaws.{bit-nonzero, down-test, down-in, one-more, sums-shift, sums-none}
 use Rattle.gf2.specs.Fit.{isZero}
 use Rattle.gf2.specs.Greedy.{choose, onto}
 use Rattle.gf2.specs.Group.{XorGroup}
 use Rattle.gf2.specs.Places.{rowOf}
-use Rattle.gf2.specs.Span.{byBool}
 use Rattle.table.specs.Checks.{offset, check, from}
 use Rattle.bits.specs.Front.{Front, front-none, front-more}
 use Rattle.bits.specs.Row.{row}
 use Rattle.bits.specs.RowLaws.{row-lt}
 use Rattle.rows.specs.Leads.{leads, Owners, Lowered}
-use Rattle.rows.specs.LeadsLaws.{leads-none, leads-at, named, owners-lead, row-named, leads-kept, owners-kept}
+use Rattle.rows.specs.LeadsLaws.{leads-none, owners-lead, leads-kept, owners-kept, owners-below, own-most, lead-here, lead-other, lead-bits}
 use Rattle.keep.specs.Kept.{keptOf}
 
 -- ---- numbers in a row
@@ -77,9 +74,8 @@ start t m n ids w owner z =
       decides = rw e;
     }
 
--- each named row lies before row k
 pub owners : {t : List ℕ} {m n : ℕ} {ids₀ w owner ids : List ℕ} {k i at : ℕ} → Keeps t m n ids₀ w owner ids k i at → k * 16 ≤ length w → Owners w owner k
-owners s room = record { room = λ p. let h = s .owned p in omega arith; apart = λ p e. let h = s .owned p in omega arith; lead = s .lead }
+owners s room = owners-below (s .owned) (s .lead) room
 
 module _ {t : List ℕ} {m n : ℕ} {ids₀ w owner ids e : List ℕ} {k i at : ℕ} (l : ℕ) (s : Keeps t m n ids₀ w owner ids k i at) (room : k * 16 ≤ length w) (more : i < m)
     (d : Lowered w owner k n (checkRow t m i) e l) where
@@ -123,48 +119,14 @@ module _ {t : List ℕ} {m n : ℕ} {ids₀ w owner ids e : List ℕ} {k i at : 
       }
 
   module _ (hit : 0 < l) (lo : l ≤ length owner) (li : k < length ids₀) where
-    abbrev q : ℕ
-    q = l - 1
-
+    -- the owner list with the new row
     abbrev own : List ℕ
-    own = set owner q (k + 1)
-
-    own-here : getD own q 0 ≡ k + 1
-    own-here = getD-set-same owner q (k + 1) 0 (omega arith)
-
-    own-other : (p : ℕ) → (p ≡ q → ⊥) → getD own p 0 ≡ getD owner p 0
-    own-other p h = getD-set-other owner q p (k + 1) 0 h
-
-    here-row : leads e own q ≡ y
-    here-row =
-        let o = own-here in
-        let g : getD own q 0 - 1 ≡ k = omega arith in
-        leads-at e own q (omega arith) ∙ ap (row e) g ∙ d .put .here
-
-    other-row : (p : ℕ) → (p ≡ q → ⊥) → leads e own p ≡ leads w owner p
-    other-row p h = let b = own-other p h in named (getD owner p 0)
-        (λ z. leads-none e own p (b ∙ z) ∙ sym (leads-none w owner p z))
-        (λ z. leads-at e own p (omega arith) ∙ ap (λ (v : ℕ). row e (v - 1)) b ∙ row-named o (d .put) p z ∙ sym (leads-at w owner p z))
-
-    new-owned : (p : ℕ) → getD own p 0 ≤ k + 1
-    new-owned p = byBool (eqb p q)
-        (λ a. let b : p ≡ q = eqb-true p q a in let h = own-here in rw b (omega arith))
-        (λ a. let b = own-other p (eqb-false p q a) in let c = s .owned p in omega arith)
-
-    new-lead : (p : ℕ) → 0 < getD own p 0 → Bits (row e (getD own p 0 - 1)) (p + 1)
-    new-lead p h = byBool (eqb p q)
-        (λ a. let b : p ≡ q = eqb-true p q a in
-        let g : getD own p 0 - 1 ≡ k = omega (arith, own-here, ap (λ (j : ℕ). getD own j 0) b) in
-        let v : p + 1 ≡ l = omega arith in
-        subst (λ (u : ℕ). Bits (row e (getD own p 0 - 1)) u) (sym v) (subst (λ (u : ℕ). Bits u l) (sym (ap (row e) g ∙ d .put .here)) (d .bits)))
-        (λ a. let b = own-other p (eqb-false p q a) in
-        let z : 0 < getD owner p 0 = omega arith in
-        subst (λ (u : ℕ). Bits u (p + 1)) (sym (ap (λ (v : ℕ). row e (v - 1)) b ∙ row-named o (d .put) p z)) (s .lead p z))
+    own = set owner (l - 1) (k + 1)
 
     pub turn-hit : Keeps t m n ids₀ e own (set ids k i) (k + 1) (i + 1) (at + getD t (4 + i) 0)
     turn-hit =
         let mo = d .most in
-        let c : sums K (f i) ≡ false = sym test ∙ bit-nonzero q y (d .bits .last hit) in
+        let c : sums K (f i) ≡ false = sym test ∙ bit-nonzero (l - 1) y (d .bits .last hit) in
         let kr = onto-last f [] (s .ps) i in
         let fw = s .few in
         record {
@@ -172,9 +134,9 @@ module _ {t : List ℕ} {m n : ℕ} {ids₀ w owner ids e : List ℕ} {k i at : 
           front = front-more i (s .front) li;
           few = omega arith;
           here = next;
-          owned = new-owned;
-          lead = new-lead;
-          same = λ x. one-more q y n (omega arith) other-row here-row (leads-none w owner q (d .free hit)) x
+          owned = own-most o d hit lo (k + 1) (omega arith) (λ p. let h = s .owned p in omega arith);
+          lead = lead-bits o d hit lo;
+          same = λ x. one-more (l - 1) y n (omega arith) (lead-other o d hit lo) (lead-here o d hit lo) (leads-none w owner (l - 1) (d .free hit)) x
               ∙ ap (λ (v : Bool). sums (rowsOf (leads w owner) n) x || v) (sums-shift (rowsOf (leads w owner) n) y (f i) x (down-in (leads w owner) n (f i)))
               ∙ ap₂ _||_ (s .same x) (s .same (bitXor (f i) x))
               ∙ sym (ap (λ (L : List ℕ). sums L x) kr);

@@ -1,15 +1,15 @@
 -- One turn of steps 2 and 3 on the numbers of the checks.
 use mathlib.Core.Path.{_≡_}
 use mathlib.Core.Bool.{Bool, true, false, cond}
-use mathlib.Core.List.{List, [], _∷_, _++_, map}
-use mathlib.Core.Option.{Option, none, some}
-use Prim.Native.Nat.{ℕ, zero, suc, _+_, _-_, _*_, _<_, _≤_}
-use lib.ListN.{length, getD, set, take, drop}
+use mathlib.Core.List.{List, [], _∷_, map}
+use mathlib.Core.Option.{none, some}
+use Prim.Native.Nat.{ℕ, zero, suc, _+_, _<_, _≤_}
+use lib.ListN.{length, getD, set, take}
 use lib.Dec.{eqb, leb}
 use Rattle.gf2.specs.Lists.{highest}
 use Rattle.rule.specs.Buffers.{solved}
 use Rattle.table.specs.Checks.{check, Checks, Starts}
-use Rattle.rule.specs.Rule.{Solved, count, inOneOnly, first, without, heaviest, greatest, peel, solvedOf, setAsideOf}
+use Rattle.rule.specs.Rule.{count, inOneOnly, first, without, heaviest, peel, solvedOf, setAsideOf}
 use Rattle.gf2.specs.Places.{has}
 use Rattle.live.specs.Live.{Tally, Noted}
 use Rattle.keep.specs.Kept.{keptOf}

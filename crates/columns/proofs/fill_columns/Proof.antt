@@ -3,7 +3,7 @@ use mathlib.Core.List.{map}
 use Rattle.gf2.specs.Places.{rowOf}
 use Rattle.table.specs.Checks.{check, offset, Places}
 use Rattle.columns.specs.Cols.{Columns}
-use Rattle.columns.proofs.Laws.{fill-turn, unit-word}
+use Rattle.columns.proofs.Pushing.{fill-turn, unit-word}
 use Prim.Native.Nat.{_+_, _-_, _≤_, _<_}
 use mathlib.Core.Path.{_≡_, refl, _∙_}
 use native.Mathlib.Omega.{arith}

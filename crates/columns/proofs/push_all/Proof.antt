@@ -4,7 +4,7 @@ use Rattle.rule.specs.Rule.{reduce}
 use Rattle.rule.specs.Buffers.{solved}
 use Rattle.table.specs.Checks.{check, offset, Places}
 use Rattle.columns.specs.Cols.{Columns}
-use Rattle.columns.proofs.Laws.{start, turn}
+use Rattle.columns.proofs.Pushing.{start, turn}
 use Prim.Native.Nat.{ℕ, _+_, _-_, _≤_, _<_}
 use mathlib.Core.Path.{_≡_, refl, _∙_}
 use native.Mathlib.Omega.{arith}

@@ -1,6 +1,6 @@
 -- `columns::units` meets its contract: i masks are units.
 use Rattle.columns.proofs.Masks.{units-more}
-use Rattle.columns.proofs.Laws.{unit-word}
+use Rattle.columns.proofs.Pushing.{unit-word}
 use Prim.Native.Nat.{ℕ, _-_, _^_, _≤_, _<_}
 use mathlib.Core.Path.{_≡_, refl}
 use native.Mathlib.Omega.{arith}
