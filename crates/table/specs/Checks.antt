@@ -3,6 +3,8 @@ use mathlib.Core.Path.{_≡_}
 use mathlib.Core.List.{List, [], _∷_}
 use Prim.Native.Nat.{ℕ, zero, suc, _+_, _*_, _<_, _≤_}
 use lib.ListN.{length, getD, take, drop}
+use Rattle.gf2.specs.Places.{minus}
+use Rattle.table.specs.Packets.{packets, packetSum}
 
 -- the ones of the checks before check j
 unfoldable pub offset : List ℕ → ℕ → ℕ
@@ -49,3 +51,10 @@ pub record CheckIn (t : List ℕ) (at weight : ℕ) (b : List ℕ) (n s : ℕ) :
   pub room : at + weight ≤ length t
   pub below : (i : ℕ) → i < weight → getD t (at + i) 0 < n
   pub bytes : length b ≡ n * s
+
+-- the sum of their packets, and without the packet at p
+abbrev pub checkSum : List ℕ → ℕ → ℕ → List ℕ → ℕ → ℕ → List ℕ
+checkSum t at weight b n s = packetSum s (packets s n b) (take weight (drop at t))
+
+abbrev pub othersSum : List ℕ → ℕ → ℕ → List ℕ → ℕ → ℕ → ℕ → List ℕ
+othersSum t at weight b n s p = packetSum s (packets s n b) (minus (take weight (drop at t)) (p ∷ []))

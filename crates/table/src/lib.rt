@@ -207,7 +207,10 @@ pub fn part(block: &[u8], place: usize, s: usize) -> &[u8]
 
 // the packet at a place, or the empty part
 pub fn packet_part(n: usize, s: usize, place: usize, block: &[u8]) -> &[u8]
-    ensures { λ r. ⌜ (now r ≡ packetPart n s place (now (block .entry))) × (ptr r ≡ (ptr (block .entry) .0, partStart n s place (length (now (block .entry))) + ptr (block .entry) .1)) ⌝ }
+    ensures { λ r. ⌜
+        (now r ≡ packetPart n s place (now (block .entry)))
+        × (ptr r ≡ (ptr (block .entry) .0, partStart n s place (length (now (block .entry))) + ptr (block .entry) .1))
+        ⌝ }
 {
     if packet_refusal(n, s, place, block.len()) == 0 {
         return part(block, place, s);
@@ -229,7 +232,11 @@ pub struct Packet<'a> {
 }
 
 pub fn packet_call<'a>(n: usize, s: usize, place: usize, block: &'a [u8]) -> Packet<'a>
-    ensures { λ r. ⌜ (r .refusal ≡ packetRefusal n s place (length (now (block .entry)))) × (now (r .part) ≡ packetPart n s place (now (block .entry))) × (ptr (r .part) ≡ (ptr (block .entry) .0, partStart n s place (length (now (block .entry))) + ptr (block .entry) .1)) ⌝ }
+    ensures { λ r. ⌜
+        (r .refusal ≡ packetRefusal n s place (length (now (block .entry))))
+        × (now (r .part) ≡ packetPart n s place (now (block .entry)))
+        × (ptr (r .part) ≡ (ptr (block .entry) .0, partStart n s place (length (now (block .entry))) + ptr (block .entry) .1))
+        ⌝ }
 {
     let part = packet_part(n, s, place, block);
     let refusal = packet_number(n, s, place, block);
@@ -237,16 +244,14 @@ pub fn packet_call<'a>(n: usize, s: usize, place: usize, block: &'a [u8]) -> Pac
 }
 
 // ---- packets
-ghost use mathlib.Core.List.{[], _∷_};
 ghost use mathlib.Core.Bool.{true};
 ghost use mathlib.Core.Path.{_≡_};
 ghost use Prim.Native.Nat.{ℕ, _+_, _*_, _≤_, _<_};
 ghost use lib.ListN.{length, getD, set, take, drop, replicate};
 ghost use Rattle.gf2.specs.Group.{XorGroup};
-ghost use Rattle.gf2.specs.Places.{minus};
 ghost use Rattle.gf2.specs.Vectors.{add as addVectors};
-ghost use Rattle.table.specs.Checks.{CheckIn};
-ghost use Rattle.table.specs.Packets.{packets, joined, packetSum, written, mixed, lowestNonzero};
+ghost use Rattle.table.specs.Checks.{CheckIn, checkSum, othersSum};
+ghost use Rattle.table.specs.Packets.{packets, joined, written, mixed, lowestNonzero};
 
 // s zeros are written at at.
 pub fn clear(b: &mut [u8], at: usize, s: usize)
@@ -358,7 +363,10 @@ fn gather(
     off: usize,
 )
     requires { ⌜ CheckIn (now t) at weight (now block) n s × (off + length (now acc) ≤ s) ⌝ }
-    ensures { λ _. ⌜ now (acc .exit) ≡ addVectors XorGroup (now (acc .entry)) (take (length (now (acc .entry))) (drop off (packetSum s (packets s n (now (block .entry))) (take weight (drop at (now (t .entry))))))) ⌝ }
+    ensures { λ _. ⌜
+        now (acc .exit)
+        ≡ addVectors XorGroup (now (acc .entry)) (take (length (now (acc .entry))) (drop off (checkSum (now (t .entry)) at weight (now (block .entry)) n s)))
+        ⌝ }
 {
     let k = acc.len();
     let mut m = 0;
@@ -379,7 +387,9 @@ fn lowest_in_chunk(
     off: usize,
 ) -> usize
     requires { ⌜ CheckIn (now t) at weight (now block) n s × (off + 64 ≤ s) ⌝ }
-    ensures { λ r. ⌜ r ≡ lowestNonzero (take 64 (drop off (packetSum s (packets s n (now (block .entry))) (take weight (drop at (now (t .entry))))))) ⌝ }
+    ensures { λ r. ⌜
+        r ≡ lowestNonzero (take 64 (drop off (checkSum (now (t .entry)) at weight (now (block .entry)) n s)))
+        ⌝ }
 {
     let mut acc = [0u8; 64];
     gather(&mut acc, t, at, weight, block, n, s, off);
@@ -397,7 +407,7 @@ fn lowest_in_rest(
     off: usize,
 ) -> usize
     requires { ⌜ CheckIn (now t) at weight (now block) n s × ((off ≤ s) × (s < off + 64)) ⌝ }
-    ensures { λ r. ⌜ r ≡ lowestNonzero (drop off (packetSum s (packets s n (now (block .entry))) (take weight (drop at (now (t .entry)))))) ⌝ }
+    ensures { λ r. ⌜ r ≡ lowestNonzero (drop off (checkSum (now (t .entry)) at weight (now (block .entry)) n s)) ⌝ }
 {
     let mut acc = [0u8; 64];
     let k = s - off;
@@ -408,7 +418,10 @@ fn lowest_in_rest(
 // a is or-ed into o: zero after that only where both were.
 fn or_into(o: &mut [u8], a: &[u8])
     requires { ⌜ length (now o) ≡ length (now a) ⌝ }
-    ensures { λ _. ⌜ (lowestNonzero (now (o .exit)) ≡ length (now (a .entry)) → (lowestNonzero (now (o .entry)) ≡ length (now (a .entry))) × (lowestNonzero (now (a .entry)) ≡ length (now (a .entry)))) ⌝ }
+    ensures { λ _. ⌜
+        (lowestNonzero (now (o .exit)) ≡ length (now (a .entry))
+        → (lowestNonzero (now (o .entry)) ≡ length (now (a .entry))) × (lowestNonzero (now (a .entry)) ≡ length (now (a .entry))))
+        ⌝ }
 {
     let mut i = 0;
     while i < o.len() {
@@ -429,7 +442,11 @@ fn or_chunk(
     off: usize,
 )
     requires { ⌜ CheckIn (now t) at weight (now block) n s × ((off + 64 ≤ s) × (length (now o) ≡ 64)) ⌝ }
-    ensures { λ _. ⌜ (lowestNonzero (now (o .exit)) ≡ 64 → (lowestNonzero (now (o .entry)) ≡ 64) × (lowestNonzero (take 64 (drop off (packetSum s (packets s n (now (block .entry))) (take weight (drop at (now (t .entry))))))) ≡ 64)) ⌝ }
+    ensures { λ _. ⌜
+        (lowestNonzero (now (o .exit)) ≡ 64
+        → (lowestNonzero (now (o .entry)) ≡ 64)
+        × (lowestNonzero (take 64 (drop off (checkSum (now (t .entry)) at weight (now (block .entry)) n s))) ≡ 64))
+        ⌝ }
 {
     let mut acc = [0u8; 64];
     gather(&mut acc, t, at, weight, block, n, s, off);
@@ -439,7 +456,7 @@ fn or_chunk(
 // Whether the sum of a check's packets is zero, as far as one test of all pieces together tells.
 fn vanishes(t: &[u16], at: usize, weight: usize, block: &[u8], n: usize, s: usize) -> bool
     requires { ⌜ CheckIn (now t) at weight (now block) n s ⌝ }
-    ensures { λ r. ⌜ (r ≡ true → lowestNonzero (packetSum s (packets s n (now (block .entry))) (take weight (drop at (now (t .entry))))) ≡ s) ⌝ }
+    ensures { λ r. ⌜ (r ≡ true → lowestNonzero (checkSum (now (t .entry)) at weight (now (block .entry)) n s) ≡ s) ⌝ }
 {
     let mut o = [0u8; 64];
     let mut i = 0;
@@ -456,7 +473,7 @@ fn vanishes(t: &[u16], at: usize, weight: usize, block: &[u8], n: usize, s: usiz
 // The lowest nonzero byte of the sum of a check's packets, s where there is none. Nothing is stored.
 pub fn sum_of_check(t: &[u16], at: usize, weight: usize, block: &[u8], n: usize, s: usize) -> usize
     requires { ⌜ CheckIn (now t) at weight (now block) n s ⌝ }
-    ensures { λ r. ⌜ r ≡ lowestNonzero (packetSum s (packets s n (now (block .entry))) (take weight (drop at (now (t .entry))))) ⌝ }
+    ensures { λ r. ⌜ r ≡ lowestNonzero (checkSum (now (t .entry)) at weight (now (block .entry)) n s) ⌝ }
 {
     if vanishes(t, at, weight, block, n, s) {
         return s;
@@ -485,7 +502,11 @@ fn gather_others(
     off: usize,
 )
     requires { ⌜ CheckIn (now t) at weight (now block) n s × (off + length (now acc) ≤ s) ⌝ }
-    ensures { λ _. ⌜ now (acc .exit) ≡ addVectors XorGroup (now (acc .entry)) (take (length (now (acc .entry))) (drop off (packetSum s (packets s n (now (block .entry))) (minus (take weight (drop at (now (t .entry)))) (p ∷ []))))) ⌝ }
+    ensures { λ _. ⌜
+        now (acc .exit)
+        ≡ addVectors XorGroup (now (acc .entry))
+        (take (length (now (acc .entry))) (drop off (othersSum (now (t .entry)) at weight (now (block .entry)) n s p)))
+        ⌝ }
 {
     let k = acc.len();
     let mut m = 0;
@@ -510,7 +531,10 @@ fn restore_chunk(
     off: usize,
 )
     requires { ⌜ CheckIn (now t) at weight (now block) n s × ((p < n) × (off + 64 ≤ s)) ⌝ }
-    ensures { λ _. ⌜ now (block .exit) ≡ written (now (block .entry)) (p * s + off) (take 64 (drop off (packetSum s (packets s n (now (block .entry))) (minus (take weight (drop at (now (t .entry)))) (p ∷ []))))) ⌝ }
+    ensures { λ _. ⌜
+        now (block .exit)
+        ≡ written (now (block .entry)) (p * s + off) (take 64 (drop off (othersSum (now (t .entry)) at weight (now (block .entry)) n s p)))
+        ⌝ }
 {
     let mut acc = [0u8; 64];
     gather_others(&mut acc, t, at, weight, block, n, s, p, off);
@@ -529,7 +553,10 @@ fn restore_rest(
     off: usize,
 )
     requires { ⌜ CheckIn (now t) at weight (now block) n s × ((p < n) × ((off ≤ s) × (s < off + 64))) ⌝ }
-    ensures { λ _. ⌜ now (block .exit) ≡ written (now (block .entry)) (p * s + off) (drop off (packetSum s (packets s n (now (block .entry))) (minus (take weight (drop at (now (t .entry)))) (p ∷ [])))) ⌝ }
+    ensures { λ _. ⌜
+        now (block .exit)
+        ≡ written (now (block .entry)) (p * s + off) (drop off (othersSum (now (t .entry)) at weight (now (block .entry)) n s p))
+        ⌝ }
 {
     let mut acc = [0u8; 64];
     let k = s - off;
@@ -540,7 +567,10 @@ fn restore_rest(
 // The packet at place p becomes the sum of the packets of the check's other places.
 pub fn restore(t: &[u16], at: usize, weight: usize, block: &mut [u8], n: usize, s: usize, p: usize)
     requires { ⌜ CheckIn (now t) at weight (now block) n s × (p < n) ⌝ }
-    ensures { λ _. ⌜ now (block .exit) ≡ joined (set (packets s n (now (block .entry))) p (packetSum s (packets s n (now (block .entry))) (minus (take weight (drop at (now (t .entry)))) (p ∷ [])))) ⌝ }
+    ensures { λ _. ⌜
+        now (block .exit)
+        ≡ joined (set (packets s n (now (block .entry))) p (othersSum (now (t .entry)) at weight (now (block .entry)) n s p))
+        ⌝ }
 {
     let mut i = 0;
     while 64 <= s - i {

@@ -19,9 +19,15 @@ pub extern "C" fn bs_encode(
     scratch: &mut [u8],
     limit: usize,
 ) -> Encoding
-    ensures answer { λ r. ⌜ encoded r ≡ encodeAnswer (now (plan .entry)) (now (information .entry)) (now (block .entry)) (now (scratch .entry)) limit ⌝ }
-    ensures block { λ _. ⌜ now (block .exit) ≡ blockAfter (now (plan .entry)) (now (information .entry)) (now (block .entry)) (now (scratch .entry)) limit ⌝ }
-    ensures scratch { λ _. ⌜ now (scratch .exit) ≡ scratchAfter (now (plan .entry)) (now (information .entry)) (now (block .entry)) (now (scratch .entry)) limit ⌝ }
+    ensures answer { λ r. ⌜
+        encoded r ≡ encodeAnswer (now (plan .entry)) (now (information .entry)) (now (block .entry)) (now (scratch .entry)) limit
+        ⌝ }
+    ensures block { λ _. ⌜
+        now (block .exit) ≡ blockAfter (now (plan .entry)) (now (information .entry)) (now (block .entry)) (now (scratch .entry)) limit
+        ⌝ }
+    ensures scratch { λ _. ⌜
+        now (scratch .exit) ≡ scratchAfter (now (plan .entry)) (now (information .entry)) (now (block .entry)) (now (scratch .entry)) limit
+        ⌝ }
 {
     let r = encoder::encode(plan, information, block, scratch, limit);
     Encoding {
