@@ -9,10 +9,7 @@ ghost use Rattle.plan.specs.Layout.{planRefusal};
 const MOST_BLOCK: usize = 32768;
 
 fn print_additions(additions: u32) {
-    let mut line = [0u8; 64];
-    let at = text::put_count(&mut line, 0, b"additions ", additions as u64);
-    let at = text::put(&mut line, at, b"\n");
-    io::write_all(libc::STDOUT_FILENO, &line[..at]);
+    text::print_count(libc::STDOUT_FILENO, b"additions ", additions as u64, b"\n");
 }
 
 // Reads the source, encodes it and writes the block.
@@ -22,7 +19,7 @@ fn encode_source(plan: &[u32], information: &mut [u8], block: &mut [u8], scratch
     };
     let encoded = encoder::encode(plan, information, block, scratch, usize::MAX);
     if encoded.refusal != 0 {
-        text::print_refusal(encoded.refusal);
+        text::say_refused(encoded.refusal);
         return;
     }
     if text::write_argument(3, block) {
@@ -64,7 +61,7 @@ fn encode_file(table: &[u16]) {
     let mut plan = [0u32; planner::LEAST_PLAN];
     let planned = own_plan::plan_of(table, &mut plan);
     if planned.refusal != 0 {
-        text::print_refusal(planned.refusal);
+        text::say_refused(planned.refusal);
         return;
     }
     let length = planned.length as usize;
@@ -80,7 +77,7 @@ fn main() {
         return;
     }
     let mut words = [0u16; text::MOST_WORDS];
-    let Read::Count(n) = text::read_table(text::open_argument(1), &mut words) else {
+    let Read::Count(n) = text::read_table(1, &mut words) else {
         return;
     };
     encode_file(&words[..n]);

@@ -1,5 +1,5 @@
 // repair_file TABLE BLOCK MAP: restores what it can of the lost packets, and writes block and map
-// back.
+// back. Where the received packets contradict, the block goes back too, zero at its lost places.
 use repair::Repaired;
 use text::Read;
 
@@ -8,19 +8,37 @@ const MOST_BLOCK: usize = 32768;
 
 const MOST_MAP: usize = 1024;
 
+// the refusal of packets that contradict
+const CONTRADICT: u32 = 8;
+
 fn print_counts(answer: Repaired) {
-    let mut line = [0u8; 128];
-    let at = text::put_count(&mut line, 0, b"restored ", answer.restored as u64);
-    let at = text::put_count(&mut line, at, b" lost ", answer.lost as u64);
-    let at = text::put_count(&mut line, at, b" additions ", answer.additions as u64);
-    let at = text::put(&mut line, at, b"\n");
-    io::write_all(libc::STDOUT_FILENO, &line[..at]);
+    text::print_count(
+        libc::STDOUT_FILENO,
+        b"restored ",
+        answer.restored as u64,
+        b"",
+    );
+    text::print_count(libc::STDOUT_FILENO, b" lost ", answer.lost as u64, b"");
+    text::print_count(
+        libc::STDOUT_FILENO,
+        b" additions ",
+        answer.additions as u64,
+        b"\n",
+    );
+}
+
+// Says the refusal. Packets that contradict have left zeros at the lost places.
+fn refuse(number: u32, block: &[u8]) {
+    text::say_refused(number);
+    if number == CONTRADICT {
+        text::write_argument(2, block);
+    }
 }
 
 fn repair_block(table: &[u16], block: &mut [u8], map: &mut [u8]) {
     let answer = repair::repair(table, block, map);
     if answer.refusal != 0 {
-        text::print_refusal(answer.refusal);
+        refuse(answer.refusal, block);
         return;
     }
     if !text::write_argument(2, block) {
@@ -49,7 +67,7 @@ fn main() {
         return;
     }
     let mut words = [0u16; text::MOST_WORDS];
-    let Read::Count(n) = text::read_table(text::open_argument(1), &mut words) else {
+    let Read::Count(n) = text::read_table(1, &mut words) else {
         return;
     };
     repair_files(&words[..n]);

@@ -1,24 +1,17 @@
--- Laws of a table file's words, and of a number's decimal digits.
-use mathlib.Core.Path.{_≡_, refl, sym, ap, ap₂, _∙_, subst}
+-- The words of a table's file, one by one and as they are taken, and a number's decimal digits.
+use mathlib.Core.Path.{_≡_, refl, sym, ap, ap₂, _∙_}
 use mathlib.Core.List.{List, [], _∷_, _++_}
+use mathlib.Core.Bool.{Bool, true, false}
 use Prim.Native.Nat.{ℕ, zero, suc, _+_, _-_, _*_, _/_, _%_, _^_, _≤_, _<_}
 use native.Mathlib.Omega.{arith}
 use native.Mathlib.Nat.{pow-suc, pow-le-pow-right, mod-lt, mod-eq-of-lt}
-use lib.ListN.{length, getD, take, length-append}
-use lib.Seq.{take-at}
+use borrow.Author.Tests.{lt-ltb, le-ltb, ltb-true, ltb-false, eq-eqb, ne-eqb}
+use lib.ListN.{length, getD, drop}
 use lib.Dec.{ltb}
-use borrow.Author.Tests.{lt-ltb, le-ltb, ltb-true, ltb-false}
-use mathlib.Core.Bool.{Bool, true, false}
-use Rattle.io.specs.Counts.{Counts}
 use Rattle.io.specs.Digits.{digits, Fewest, glyph}
-use Rattle.text.specs.Lines.{digitsWithin, decimal, Appended}
-use Rattle.text.specs.Files.{wordsOf}
-
--- as many words as pairs of bytes
-pub words-length : (file : List ℕ) (n : ℕ) → length file ≡ 2 * n → length (wordsOf file) ≡ n
-words-length [] n e = omega arith
-words-length (low ∷ []) n e = absurd (omega arith)
-words-length (low ∷ (high ∷ rest)) n e = let h = words-length rest (n - 1) (omega arith) in omega arith
+use Rattle.text.specs.declared.Read.the-variants.{Nothing, Count}
+use Rattle.text.specs.Lines.{digitsWithin, decimal}
+use Rattle.text.specs.Files.{wordsOf, unfit, wordsRead, wordsAfter}
 
 -- the word at i
 pub words-at : (file : List ℕ) (n i : ℕ) → length file ≡ 2 * n → i < n
@@ -30,12 +23,6 @@ words-at (low ∷ (high ∷ rest)) n (suc i) e h =
     let d : 2 * suc i ≡ suc (suc (2 * i)) = omega arith in
     let d' : 2 * suc i + 1 ≡ suc (suc (2 * i + 1)) = omega arith in
     rw (d', d) (words-at rest (n - 1) i (omega arith) (omega arith))
-
--- the file's words at the start of a longer list
-pub words-front : (k : ℕ) (v rest file : List ℕ) → length v ≡ k → v ≡ wordsOf file → Counts k (v ++ rest) × (take k (v ++ rest) ≡ wordsOf file)
-words-front k v rest file l e =
-    let t : take k (v ++ rest) ≡ v = take-at v rest k l in
-    ((simp length-append (omega arith), sym (ap length t ∙ l)), t ∙ e)
 
 -- a digit's byte
 digit : (x : ℕ) → glyph (x % 10) ≡ 48 + x % 10
@@ -58,7 +45,7 @@ digits-decimal (suc k) (suc m) x f h =
     rw (le-ltb x 10 (omega arith), digitsWithin) (ap₂ (λ (a b : List ℕ). a ++ b) (digits-decimal k m (x / 10) next (omega arith)) (ap (λ (d : ℕ). d ∷ []) (digit x)))
 
 -- a number below 2 ^ 64 has at most 20 digits
-pub few-digits : (k x : ℕ) → x < 2 ^ 64 → Fewest 10 1 x k → k ≤ 20
+few-digits : (k x : ℕ) → x < 2 ^ 64 → Fewest 10 1 x k → k ≤ 20
 few-digits k x fits f = few (ltb 20 k) refl
   where
     few : (b : Bool) → ltb 20 k ≡ b → k ≤ 20
@@ -69,9 +56,26 @@ few-digits k x fits f = few (ltb 20 k) refl
         let q : 10 ^ (k - 1) ≤ x = f .2 (omega arith) in
         absurd (omega arith)
 
--- what is appended is the number
-pub appended-number : {line line' : List ℕ} {at r : ℕ} (k x : ℕ) (d : List ℕ) → x < 2 ^ 64 → Fewest 10 1 x k → d ≡ digits 10 k x
-    → Appended line at d line' r → Appended line at (decimal x) line' r
-appended-number zero x d fits f e a = absurd (omega (arith, f .0))
-appended-number {line} {line'} {at} {r} (suc k) x d fits f e a =
-    subst (λ (w : List ℕ). Appended line at w line' r) (e ∙ digits-decimal k 20 x f (few-digits (suc k) x fits f)) a
+-- the digits that were put are the number
+pub number-digits : (k x : ℕ) → x < 2 ^ 64 → Fewest 10 1 x k → digits 10 k x ≡ decimal x
+number-digits zero x fits f = absurd (omega (arith, f .0))
+number-digits (suc k) x fits f = digits-decimal k 20 x f (few-digits (suc k) x fits f)
+
+-- ---- what is taken of a file
+refused : (file words : List ℕ) → unfit file ≡ true → (Nothing ≡ wordsRead file) × (words ≡ wordsAfter file words)
+unfolding wordsRead wordsAfter
+refused file words e = (rw (e, wordsRead) refl, rw (e, wordsAfter) refl)
+
+pub odd-refused : (file words : List ℕ) → (length file % 2 ≡ 0 → ⊥) → (Nothing ≡ wordsRead file) × (words ≡ wordsAfter file words)
+odd-refused file words h = refused file words (rw (ne-eqb (length file % 2) 0 h) refl)
+
+pub long-refused : (file words : List ℕ) → length file % 2 ≡ 0 → 13322 < length file → (Nothing ≡ wordsRead file) × (words ≡ wordsAfter file words)
+long-refused file words h l = refused file words (rw (eq-eqb (length file % 2) 0 h, lt-ltb 13322 (length file) l) refl)
+
+pub words-put : (file words v : List ℕ) (k : ℕ) → length file % 2 ≡ 0 → length file ≤ 13322 → v ≡ wordsOf file → length v ≡ k
+    → (Count k ≡ wordsRead file) × (v ++ drop k words ≡ wordsAfter file words)
+unfolding wordsRead wordsAfter
+words-put file words v k h l e n =
+    let f : unfit file ≡ false = rw (eq-eqb (length file % 2) 0 h, le-ltb 13322 (length file) l) refl in
+    let m : length (wordsOf file) ≡ k = sym (ap length e) ∙ n in
+    (rw (f, wordsRead, m) refl, rw (f, wordsAfter, m, e) refl)

@@ -1,3 +1,4 @@
 pub mod Files
-pub mod Laws
+pub mod FilesLaws
 pub mod Lines
+pub mod LinesLaws

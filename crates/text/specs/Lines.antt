@@ -1,10 +1,18 @@
 -- Lines of text, as bytes.
 use mathlib.Core.Path.{_≡_}
-use mathlib.Core.Bool.{Bool, true, false}
+use mathlib.Core.Bool.{true, false}
 use mathlib.Core.List.{List, [], _∷_, _++_}
 use Prim.Native.Nat.{ℕ, zero, suc, _+_, _/_, _%_, _≤_}
+use Prim.Native.Char.{code}
+use Prim.Native.String.{String, [] as empty, _∷_ as next}
 use lib.Dec.{ltb}
-use lib.ListN.{length, take}
+use lib.ListN.{length, take, drop}
+
+-- ---- words
+-- the characters' numbers
+abbrev pub bytes : String → List ℕ
+bytes empty = []
+bytes (next c s) = code c ∷ bytes s
 
 -- the decimal digits of x, the most significant first, where x has at most k of them
 unfoldable pub digitsWithin : ℕ → ℕ → List ℕ
@@ -15,15 +23,24 @@ digitsWithin (suc k) x = elim (ltb x 10) [ true ↦ (48 + x) ∷ [] | false ↦ 
 abbrev pub decimal : ℕ → List ℕ
 decimal x = digitsWithin 20 x
 
--- the line of at bytes, with the word after it, has r bytes
-pub record Appended (line : List ℕ) (at : ℕ) (word line' : List ℕ) (r : ℕ) : Type 0 where
-  pub ends : r ≡ at + length word
-  pub within : r ≤ length line'
-  pub counts : r ≡ length (take r line')
-  pub text : take r line' ≡ take at line ++ word
+-- ---- lines
+-- each word after a blank, and the line's end
+abbrev pub wordsAfterBlanks : List (List ℕ) → List ℕ
+wordsAfterBlanks [] = bytes "\n"
+wordsAfterBlanks (w ∷ ws) = bytes " " ++ (w ++ wordsAfterBlanks ws)
 
--- the line's first r bytes are the text
-pub record Line (text line : List ℕ) (r : ℕ) : Type 0 where
-  pub within : r ≤ length line
-  pub counts : r ≡ length (take r line)
-  pub is : take r line ≡ text
+-- a line by its first word and the others: "one blank between words"
+abbrev pub line : String → List (List ℕ) → List ℕ
+line first others = bytes first ++ wordsAfterBlanks others
+
+-- ---- buffers
+-- the word stands in the text from at on; every other byte is kept
+abbrev pub withWord : List ℕ → ℕ → List ℕ → List ℕ
+withWord text at word = take at text ++ (word ++ drop (at + length word) text)
+
+-- what writing a word from at on leaves, and where it ends (the last two follow, and serve whoever lends the first r bytes)
+pub record Appended (text : List ℕ) (at : ℕ) (word text' : List ℕ) (r : ℕ) : Type 0 where
+  pub is : text' ≡ withWord text at word
+  pub ends : r ≡ at + length word
+  pub within : r ≤ length text'
+  pub counts : r ≡ length (take r text')

@@ -2,24 +2,16 @@
 ghost use mathlib.Core.Path.{_≡_};
 ghost use mathlib.Core.List.{_++_};
 ghost use Prim.Native.Nat.{_+_, _*_, _≤_};
-ghost use lib.ListN.{length, getD};
+ghost use lib.ListN.{length};
 ghost use Rattle.text.specs.Lines.{Appended, decimal};
-ghost use Rattle.text.specs.Files.{Held, ReadInto, TakenFrom, wordsOf};
+ghost use Rattle.text.specs.Files.{ReadInto, wordsOf, wordsRead, wordsAfter};
 
 // the most bytes and words of a table's file
-const MOST_BYTES: usize = 13322;
+pub const MOST_BYTES: usize = 13322;
 
 pub const MOST_WORDS: usize = 6661;
 
-// what a descriptor's file holds: it can't be read, which has been said; more bytes than there is
-// room for; so many bytes
-enum Input {
-    Failed,
-    Overlong,
-    Bytes(usize),
-}
-
-// so many bytes or words were read, or none, and what was wrong has been said
+// so many bytes or words were read, or none
 pub enum Read {
     Nothing,
     Count(usize),
@@ -27,7 +19,7 @@ pub enum Read {
 
 // ---- lines
 
-// A word after the line's first at bytes; the line's bytes then.
+// Writes a word into the line from at on; where it ends.
 pub fn put(line: &mut [u8], at: usize, word: &[u8]) -> usize
     requires { ⌜ at + length (now word) ≤ length (now line) ⌝ }
     ensures { λ r. ⌜ Appended (now (line .entry)) at (now (word .entry)) (now (line .exit)) r ⌝ }
@@ -42,8 +34,8 @@ pub fn put(line: &mut [u8], at: usize, word: &[u8]) -> usize
 
 // A number in decimal, likewise.
 pub fn put_number(line: &mut [u8], at: usize, x: u64) -> usize
-    requires { ⌜ at + 20 ≤ length (now line) ⌝ }
-    ensures { λ r. ⌜ Appended (now (line .entry)) at (decimal x) (now (line .exit)) r × (r ≤ at + 20) ⌝ }
+    requires { ⌜ at + length (decimal x) ≤ length (now line) ⌝ }
+    ensures { λ r. ⌜ Appended (now (line .entry)) at (decimal x) (now (line .exit)) r ⌝ }
 {
     let mut digits = [0u8; 20];
     let k = io::decimal(x, &mut digits);
@@ -52,69 +44,111 @@ pub fn put_number(line: &mut [u8], at: usize, x: u64) -> usize
 
 // A word and a number, likewise.
 pub fn put_count(line: &mut [u8], at: usize, word: &[u8], x: u64) -> usize
-    requires { ⌜ at + length (now word) + 20 ≤ length (now line) ⌝ }
-    ensures { λ r. ⌜ Appended (now (line .entry)) at (now (word .entry) ++ decimal x) (now (line .exit)) r × (r ≤ at + length (now (word .entry)) + 20) ⌝ }
+    requires { ⌜ at + length (now word ++ decimal x) ≤ length (now line) ⌝ }
+    ensures { λ r. ⌜ Appended (now (line .entry)) at (now (word .entry) ++ decimal x) (now (line .exit)) r ⌝ }
 {
     let at = put(line, at, word);
     put_number(line, at, x)
 }
 
-// Prints "refused" and the number.
-pub fn print_refusal(number: u32) {
-    let mut line = [0u8; 32];
-    let at = put_count(&mut line, 0, b"refused ", number as u64);
-    let at = put(&mut line, at, b"\n");
-    io::write_all(libc::STDOUT_FILENO, &line[..at]);
+// Prints a word, a number and what ends the line.
+pub fn print_count(fd: i32, word: &[u8], x: u64, end: &[u8])
+    requires { ⌜ length (now word) + length (now end) ≤ 44 ⌝ }
+{
+    let mut line = [0u8; 64];
+    let at = put_count(&mut line, 0, word, x);
+    let at = put(&mut line, at, end);
+    io::write_all(fd, &line[..at]);
+}
+
+// Says on standard error that a call refused, and its number.
+pub fn say_refused(number: u32) {
+    print_count(libc::STDERR_FILENO, b"refused ", number as u64, b"\n");
 }
 
 // Says on standard error that an argument's file has too many bytes.
 fn say_overlong(number: usize, most: usize) {
-    let mut line = [0u8; 128];
-    let at = put_count(&mut line, 0, b"argument ", number as u64);
-    let at = put_count(&mut line, at, b": the file has more than ", most as u64);
-    let at = put(&mut line, at, b" bytes\n");
-    io::write_all(libc::STDERR_FILENO, &line[..at]);
+    print_count(libc::STDERR_FILENO, b"argument ", number as u64, b": ");
+    print_count(libc::STDERR_FILENO, b"more than ", most as u64, b" bytes\n");
 }
 
 // ---- files
 
-// Reads a descriptor's file whole and closes it. A descriptor below 0 was not opened, which has
-// been said.
-fn read_whole(fd: i32, buf: &mut [u8]) -> Input
-    ensures { λ r. ⌜ Held r (now (buf .exit)) ⌝ }
+// One read. A failed one gives nothing, and has been said.
+fn read_some(fd: i32, buf: &mut [u8]) -> Read
+    ensures { λ r. ⌜ ReadInto r (now (buf .exit)) ⌝ }
 {
-    if fd < 0 {
-        return Input::Failed;
-    }
-    let n = io::read_full(fd, buf);
-    let mut more = [0u8; 1];
-    let got = libc::read(fd, &mut more);
+    let got = libc::read(fd, buf);
     if got < 0 {
         os::fail(b"read");
+        return Read::Nothing;
     }
-    libc::close(fd);
-    if got < 0 {
-        return Input::Failed;
-    }
-    if got > 0 {
-        return Input::Overlong;
-    }
-    Input::Bytes(n)
+    Read::Count(io::count(got, buf))
 }
 
-// Reads the file that an argument names.
+// Reads until the buffer is full or the file ends; nothing where a read fails, which has been said.
+pub fn read_into(fd: i32, buf: &mut [u8]) -> Read
+    ensures { λ r. ⌜ ReadInto r (now (buf .exit)) ⌝ }
+{
+    let mut n = 0;
+    while n < buf.len() {
+        let Read::Count(more) = read_some(fd, &mut buf[n..]) else {
+            return Read::Nothing;
+        };
+        if more == 0 {
+            return Read::Count(n);
+        }
+        n += more;
+    }
+    Read::Count(n)
+}
+
+// Reads a file whole. One that fails or has more bytes than the buffer gives nothing, and has been
+// said.
+fn read_whole(number: usize, fd: i32, buf: &mut [u8]) -> Read
+    ensures { λ r. ⌜ ReadInto r (now (buf .exit)) ⌝ }
+{
+    let Read::Count(n) = read_into(fd, buf) else {
+        return Read::Nothing;
+    };
+    if n < buf.len() {
+        return Read::Count(n);
+    }
+    let mut next = [0u8; 1];
+    let Read::Count(more) = read_into(fd, &mut next) else {
+        return Read::Nothing;
+    };
+    if more != 0 {
+        say_overlong(number, buf.len());
+        return Read::Nothing;
+    }
+    Read::Count(n)
+}
+
+// Reads the file that an argument names, likewise.
 pub fn read_argument(number: usize, buf: &mut [u8]) -> Read
     ensures { λ r. ⌜ ReadInto r (now (buf .exit)) ⌝ }
 {
-    let input = read_whole(open_argument(number), buf);
-    match input {
-        Input::Failed => Read::Nothing,
-        Input::Overlong => {
-            say_overlong(number, buf.len());
-            Read::Nothing
-        }
-        Input::Bytes(n) => Read::Count(n),
+    let fd = open_argument(number);
+    if fd < 0 {
+        return Read::Nothing;
     }
+    let read = read_whole(number, fd, buf);
+    libc::close(fd);
+    read
+}
+
+// Reads as much as there is room for of the file that an argument names.
+fn read_start(number: usize, buf: &mut [u8]) -> Read
+    ensures { λ r. ⌜ ReadInto r (now (buf .exit)) ⌝ }
+{
+    let fd = open_argument(number);
+    if fd < 0 {
+        return Read::Nothing;
+    }
+    let read = read_into(fd, buf);
+    libc::close(fd);
+    read
 }
 
 // a word of a table's file
@@ -136,44 +170,43 @@ fn fill_words(file: &[u8], words: &mut [u16])
     }
 }
 
-// A table's file of an odd number of bytes, or of too many, is refused with 3.
-fn refuse_file() -> Read
-    ensures { λ r. ⌜ r ≡ Read.Nothing ⌝ }
+// The words of a table's file; nothing where it has an odd number of bytes, or too many.
+pub fn words_in(file: &[u8], words: &mut [u16]) -> Read
+    requires { ⌜ 6661 ≤ length (now words) ⌝ }
+    ensures answer { λ r. ⌜ r ≡ wordsRead (now (file .entry)) ⌝ }
+    ensures words { λ _. ⌜ now (words .exit) ≡ wordsAfter (now (file .entry)) (now (words .entry)) ⌝ }
 {
-    print_refusal(3);
-    Read::Nothing
-}
-
-// The words of a table's file.
-fn words_in(file: &[u8], words: &mut [u16]) -> Read
-    ensures { λ r. ⌜ ReadInto r (now (words .exit)) × TakenFrom (now (file .entry)) r (now (words .exit)) ⌝ }
-{
-    let count = file.len() / 2;
     if file.len() % 2 != 0 {
-        return refuse_file();
+        return Read::Nothing;
     }
-    if count > words.len() {
-        return refuse_file();
+    if MOST_BYTES < file.len() {
+        return Read::Nothing;
     }
+    let count = file.len() / 2;
     fill_words(file, &mut words[..count]);
     Read::Count(count)
 }
 
-// Reads a table's file from a descriptor and closes it.
-pub fn read_table(fd: i32, words: &mut [u16]) -> Read
+// Reads the words of the table's file that an argument names. A file that can't be read, or is
+// refused with 3, gives nothing, and has been said.
+pub fn read_table(number: usize, words: &mut [u16]) -> Read
+    requires { ⌜ 6661 ≤ length (now words) ⌝ }
     ensures { λ r. ⌜ ReadInto r (now (words .exit)) ⌝ }
 {
-    let mut file = [0u8; MOST_BYTES];
-    let input = read_whole(fd, &mut file);
-    match input {
-        Input::Failed => Read::Nothing,
-        Input::Overlong => refuse_file(),
-        Input::Bytes(n) => words_in(&file[..n], words),
+    // one byte more shows that there are too many
+    let mut file = [0u8; MOST_BYTES + 1];
+    let Read::Count(n) = read_start(number, &mut file) else {
+        return Read::Nothing;
+    };
+    let read = words_in(&file[..n], words);
+    if let Read::Nothing = read {
+        say_refused(3);
     }
+    read
 }
 
 // Opens the file that an argument names, for reading; below 0, which has been said, if it can't.
-pub fn open_argument(number: usize) -> i32 {
+fn open_argument(number: usize) -> i32 {
     let mut path = io::buffer();
     let length = os::arg(number, &mut path);
     if os::errno() != 0 {

@@ -6,15 +6,12 @@ use verify::Verified;
 const MOST_BLOCK: usize = 32768;
 
 fn print_fails(check: usize) {
-    let mut line = [0u8; 64];
-    let at = text::put_count(&mut line, 0, b"check ", check as u64);
-    let at = text::put(&mut line, at, b" fails\n");
-    io::write_all(libc::STDOUT_FILENO, &line[..at]);
+    text::print_count(libc::STDOUT_FILENO, b"check ", check as u64, b" fails\n");
 }
 
 fn print_verdict(verdict: Verified) {
     match verdict {
-        Verified::Refused(number) => text::print_refusal(number),
+        Verified::Refused(number) => text::say_refused(number),
         Verified::Codeword => {
             io::write_all(libc::STDOUT_FILENO, b"codeword\n");
         }
@@ -36,7 +33,7 @@ fn main() {
         return;
     }
     let mut words = [0u16; text::MOST_WORDS];
-    let Read::Count(n) = text::read_table(text::open_argument(1), &mut words) else {
+    let Read::Count(n) = text::read_table(1, &mut words) else {
         return;
     };
     verify(&words[..n]);

@@ -1,6 +1,6 @@
 -- `encode_file::encode_by` is safe: information and scratch are no larger than the block.
-use native.Mathlib.Nat.{le-trans}
 use Prim.Native.Nat.{_*_, _≤_}
+use native.Mathlib.Nat.{le-trans}
 use native.Mathlib.Omega.{arith}
 use borrow.Author.Needs.{needs}
 use Rattle.encode_file.proofs.Sizes.{sizes}

@@ -1,5 +1,7 @@
 -- `encode_file::encode_file` is safe: the planner's own plan is well-formed.
 use borrow.Author.Needs.{needs}
+use lib.ListN.{replicate}
+use Rattle.own_plan.specs.Own.{own-plan}
 use Rattle.encode_file.proofs.encode_file.Statement.{statement}
 use Rattle.encode_file.proofs.encode_file.Tie as tie
 
@@ -9,8 +11,8 @@ slice-aggregate-plan-of c = search needs
 plan-of-requires : tie.Need-plan-of-requires
 plan-of-requires c κs = search needs
 
-print-refusal-requires : tie.Need-print-refusal-requires
-print-refusal-requires c κs = search needs
+say-refused-requires : tie.Need-say-refused-requires
+say-refused-requires c κs = search needs
 
 returns : tie.Need-returns
 returns c = search needs
@@ -19,13 +21,13 @@ cast-length : tie.Need-cast-length
 cast-length c = search needs
 
 array-share-prefix-plan : tie.Need-array-share-prefix-plan
-array-share-prefix-plan c = c .before .before .before .before .plan-of .ensures .own (c .before .if1 .left) .within
+array-share-prefix-plan c = let p = c .before .before .before .before .plan-of in own-plan (c .before .before .before .before .before .before .before .args .table .now) (replicate 15360 0) (p .result) (p .ensures .0) _ (p .ensures .1) (c .before .if1 .left) .within
 
 slice-aggregate-encode-by : tie.Need-slice-aggregate-encode-by
-slice-aggregate-encode-by c = c .before .before .before .before .before .plan-of .ensures .own (c .before .before .if1 .left) .counts
+slice-aggregate-encode-by c = let p = c .before .before .before .before .before .plan-of in own-plan (c .before .before .before .before .before .before .before .before .args .table .now) (replicate 15360 0) (p .result) (p .ensures .0) _ (p .ensures .1) (c .before .before .if1 .left) .counts
 
 encode-by-requires : tie.Need-encode-by-requires
-encode-by-requires c κs = c .before .before .before .before .before .plan-of .ensures .own (c .before .before .if1 .left) .formed
+encode-by-requires c κs = let p = c .before .before .before .before .before .plan-of in own-plan (c .before .before .before .before .before .before .before .before .args .table .now) (replicate 15360 0) (p .result) (p .ensures .0) _ (p .ensures .1) (c .before .before .if1 .left) .formed
 
 returns-2 : tie.Need-returns-2
 returns-2 c = search needs
@@ -36,7 +38,7 @@ encode-file-spec =
     (tie.spec
     slice-aggregate-plan-of
     plan-of-requires
-    print-refusal-requires
+    say-refused-requires
     returns
     cast-length
     array-share-prefix-plan

@@ -1,7 +1,6 @@
--- `own_plan::plan_of` meets its contract.
-use lib.ListN.{replicate}
+-- `own_plan::plan_of` meets its contract, which is the planner's.
 use borrow.Author.Needs.{needs}
-use Rattle.own_plan.specs.Own.{accepted-plan}
+use Rattle.own_plan.specs.Own.{lentWork}
 use Rattle.own_plan.proofs.plan_of.Statement.{statement}
 use Rattle.own_plan.proofs.plan_of.Tie as tie
 
@@ -15,9 +14,8 @@ same-length : tie.Need-same-length
 same-length c = search needs
 
 returns : tie.Need-returns
-returns c =
-    let p = c .before .before .before .plan in
-    record { own = λ z. accepted-plan _ (c .before .before .before .before .before .before .before .before .args .plan .now) (replicate 8192 0) (p .result) _ (p .ensures .0) (p .ensures .1 .0) z }
+unfolding lentWork
+returns c = let p = c .before .before .before .plan .ensures in (p .0, p .1 .0)
 
 pub plan-of-spec : {M : Type 1} → statement M
 plan-of-spec = tie.close (tie.spec slice-aggregate-plan plan-requires same-length returns)

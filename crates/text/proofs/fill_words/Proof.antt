@@ -1,12 +1,13 @@
 -- `text::fill_words` meets its contract. The loop's invariant: the first i words are the file's.
-use Prim.Native.Nat.{ℕ, _+_, _-_, _*_, _≤_, _<_}
 use mathlib.Core.Path.{_≡_, refl, sym, _∙_}
+use Prim.Native.Nat.{ℕ, _+_, _-_, _*_, _≤_, _<_}
 use native.Mathlib.Omega.{arith}
-use lib.ListN.{length, getD, length-set}
 use borrow.Author.Count.{below-more}
+use lib.ListN.{length, getD, length-set}
 use lib.Seq.{getD-set-same, getD-set-other, ext-getD}
 use Rattle.text.specs.Files.{wordsOf}
-use Rattle.text.proofs.Laws.{words-length, words-at}
+use Rattle.text.specs.FilesLaws.{words-length}
+use Rattle.text.proofs.Laws.{words-at}
 use Rattle.text.proofs.fill_words.Statement.{statement}
 use Rattle.text.proofs.fill_words.Tie as tie
 

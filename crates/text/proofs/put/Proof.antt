@@ -1,10 +1,11 @@
 -- `text::put` meets its contract. The loop's invariant: the first i bytes of the word stand in the line.
-use Prim.Native.Nat.{_-_, _≤_}
 use mathlib.Core.Path.{_≡_, refl, sym, ap, _∙_}
+use mathlib.Core.List.{append-assoc}
+use Prim.Native.Nat.{_-_, _≤_}
 use native.Mathlib.Numerals.{add-one}
 use native.Mathlib.Omega.{arith}
-use lib.ListN.{length}
-use lib.Seq.{paste, paste-zero, paste-suc, length-paste, take-paste, take-length, length-take-le}
+use lib.ListN.{length, take}
+use lib.Seq.{paste, paste-zero, paste-suc, length-paste, take-length, length-take-le}
 use Rattle.text.proofs.put.Statement.{statement}
 use Rattle.text.proofs.put.Tie as tie
 
@@ -59,10 +60,10 @@ returns c =
     let p : s .line ≡ paste (a .line .now) (a .at) (a .word .now) (length (a .word .now)) = rw e at (s .inv .1) in
     let l : length (s .line) ≡ length (a .line .now) = ap length p ∙ length-paste (a .line .now) (a .at) (a .word .now) (length (a .word .now)) (omega arith) (omega arith) in
     record {
+      is = p ∙ rw take-length (append-assoc (take (a .at) (a .line .now)) (a .word .now) _);
       ends = refl;
       within = omega arith;
       counts = sym (length-take-le _ _ (omega arith));
-      text = rw p (take-paste (a .line .now) (a .at) (a .word .now) (length (a .word .now)) (omega arith) (omega arith) ∙ rw take-length);
     }
 
 pub put-spec : {M : Type 1} → statement M

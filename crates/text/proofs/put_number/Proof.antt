@@ -1,8 +1,8 @@
 -- `text::put_number` meets its contract: the digits are appended.
-use lib.ListN.{length-take}
-use native.Mathlib.Omega.{arith}
+use mathlib.Core.Path.{_∙_}
 use borrow.Author.Needs.{needs}
-use Rattle.text.proofs.Laws.{few-digits, appended-number}
+use Rattle.text.specs.LinesLaws.{same-word}
+use Rattle.text.proofs.Laws.{number-digits}
 use Rattle.text.proofs.put_number.Statement.{statement}
 use Rattle.text.proofs.put_number.Tie as tie
 
@@ -18,8 +18,8 @@ slice-aggregate-put c = search needs
 put-requires : tie.Need-put-requires
 put-requires c κs =
     let d = c .before .before .decimal in
-    let k = few-digits (d .result) _ (c .before .before .before .before .before .fits .x .fits) (d .ensures .1 .0) in
-    simp length-take (omega arith)
+    let e = d .ensures .1 .1 ∙ number-digits (d .result) _ (c .before .before .before .before .before .fits .x .fits) (d .ensures .1 .0) in
+    rw e (c .before .before .before .before .before .pre)
 
 same-length : tie.Need-same-length
 same-length c = search needs
@@ -27,10 +27,8 @@ same-length c = search needs
 returns : tie.Need-returns
 returns c =
     let d = c .before .before .before .before .before .decimal in
-    let p = c .before .before .put .ensures in
     let x = c .before .before .before .before .before .before .before .before .fits .x .fits in
-    let k = few-digits (d .result) _ x (d .ensures .1 .0) in
-    (appended-number (d .result) _ _ x (d .ensures .1 .0) (d .ensures .1 .1) p, rw (p .ends) (simp length-take (omega arith)))
+    same-word (d .ensures .1 .1 ∙ number-digits (d .result) _ x (d .ensures .1 .0)) (c .before .before .put .ensures)
 
 pub put-number-spec : {M : Type 1} → statement M
 put-number-spec =

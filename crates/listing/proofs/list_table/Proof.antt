@@ -1,0 +1,68 @@
+-- `listing::list_table` meets its contract: the refusal, or the text of the planner's own plan.
+use native.Mathlib.Omega.{arith}
+use borrow.Author.Needs.{needs}
+use Rattle.text.specs.LinesLaws.{same-word}
+use Rattle.plan_text.specs.PlanTextLaws.{refused-most}
+use Rattle.listing.proofs.Tables.{own, refused-put, plan-adds, plan-fits, plan-put}
+use Rattle.listing.proofs.list_table.Statement.{statement}
+use Rattle.listing.proofs.list_table.Tie as tie
+
+slice-aggregate-plan-of : tie.Need-slice-aggregate-plan-of
+slice-aggregate-plan-of c = search needs
+
+plan-of-requires : tie.Need-plan-of-requires
+plan-of-requires c κs = search needs
+
+put-refused-requires : tie.Need-put-refused-requires
+put-refused-requires c κs = omega (arith, refused-most (c .before .before .before .before .plan-of .result .refusal), c .before .before .before .before .before .before .before .before .pre)
+
+same-length : tie.Need-same-length
+same-length c = search needs
+
+returns : tie.Need-returns
+returns c = same-word (refused-put (c .before .before .before .before .before .before .before .before .before .before .before .args .table .now) (c .before .before .before .before .before .before .before .plan-of .result) (c .before .before .before .before .before .before .before .plan-of .ensures .0) (c .before .before .before .before .if1 .taken)) (c .before .before .put-refused .ensures)
+
+cast-length : tie.Need-cast-length
+cast-length c = search needs
+
+array-share-prefix-plan : tie.Need-array-share-prefix-plan
+array-share-prefix-plan c = let p = c .before .before .before .before .before .plan-of in own (c .before .before .before .before .before .before .before .before .before .args .table .now) (p .result) (p .ensures .0) _ (p .ensures .1) (c .before .before .if1 .left) .within
+
+slice-aggregate-put-plan : tie.Need-slice-aggregate-put-plan
+slice-aggregate-put-plan c = let p = c .before .before .before .before .before .before .plan-of in own (c .before .before .before .before .before .before .before .before .before .before .args .table .now) (p .result) (p .ensures .0) _ (p .ensures .1) (c .before .before .before .if1 .left) .counts
+
+put-plan-requires : tie.Need-put-plan-requires
+put-plan-requires c κs =
+    let t = c .before .before .before .before .before .before .before .before .before .before .args .table .now in
+    let p = c .before .before .before .before .before .before .plan-of in
+    let z = c .before .before .before .if1 .left in (
+      own t (p .result) (p .ensures .0) _ (p .ensures .1) z .formed,
+      (
+        plan-adds t (p .result) (p .ensures .0) _ (p .ensures .1) z,
+        plan-fits t (p .result) (p .ensures .0) _ (p .ensures .1) z (c .before .before .before .before .before .before .before .before .before .before .args .out .now) (c .before .before .before .before .before .before .before .before .before .before .pre),
+      ),
+    )
+
+same-length-2 : tie.Need-same-length-2
+same-length-2 c = search needs
+
+returns-2 : tie.Need-returns-2
+returns-2 c =
+    let p = c .before .before .before .before .before .before .before .before .before .plan-of in
+    same-word (plan-put (c .before .before .before .before .before .before .before .before .before .before .before .before .before .args .table .now) (p .result) (p .ensures .0) _ (p .ensures .1) (c .before .before .before .before .before .before .if1 .left)) (c .before .before .put-plan .ensures)
+
+pub list-table-spec : {M : Type 1} → statement M
+list-table-spec =
+    tie.close
+    (tie.spec
+    slice-aggregate-plan-of
+    plan-of-requires
+    put-refused-requires
+    same-length
+    returns
+    cast-length
+    array-share-prefix-plan
+    slice-aggregate-put-plan
+    put-plan-requires
+    same-length-2
+    returns-2)

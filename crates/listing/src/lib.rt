@@ -1,0 +1,41 @@
+// The text that program planlist prints, written at the start of a buffer; its length.
+use text::Read;
+ghost use mathlib.Core.Path.{_≡_};
+ghost use mathlib.Core.List.{_++_};
+ghost use Prim.Native.Nat.{_≤_};
+ghost use lib.ListN.{length, drop};
+ghost use Rattle.io.specs.Counts.{Counts};
+ghost use Rattle.text.specs.Lines.{Appended};
+ghost use Rattle.plan_text.specs.PlanText.{mostText};
+ghost use Rattle.listing.specs.Listing.{tableText, listing};
+
+// the most bytes of a text
+pub const MOST_TEXT: usize = 192000;
+
+// of a table
+fn list_table(out: &mut [u8], table: &[u16]) -> usize
+    requires { ⌜ mostText ≤ length (now out) ⌝ }
+    ensures { λ r. ⌜ Appended (now (out .entry)) 0 (tableText (now (table .entry))) (now (out .exit)) r ⌝ }
+{
+    let mut plan = [0u32; planner::LEAST_PLAN];
+    let planned = own_plan::plan_of(table, &mut plan);
+    if planned.refusal != 0 {
+        return plan_text::put_refused(out, 0, planned.refusal);
+    }
+    let length = planned.length as usize;
+    plan_text::put_plan(out, &plan[..length], planned.ones, planned.additions)
+}
+
+// of a table's file
+pub fn list(file: &[u8], out: &mut [u8]) -> usize
+    requires { ⌜ mostText ≤ length (now out) ⌝ }
+    ensures text { λ r. ⌜ now (out .exit) ≡ listing (now (file .entry)) ++ drop r (now (out .entry)) ⌝ }
+    ensures length { λ r. ⌜ r ≡ length (listing (now (file .entry))) ⌝ }
+    ensures within { λ r. ⌜ Counts r (now (out .exit)) ⌝ }
+{
+    let mut words = [0u16; text::MOST_WORDS];
+    let Read::Count(n) = text::words_in(file, &mut words) else {
+        return plan_text::put_refused(out, 0, 3);
+    };
+    list_table(out, &words[..n])
+}

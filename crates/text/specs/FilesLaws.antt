@@ -1,0 +1,77 @@
+-- Laws of what was read, and of the words of a table's file.
+use mathlib.Core.Path.{_≡_, refl, sym, ap, _∙_, subst}
+use mathlib.Core.Bool.{Bool, true, false, not, _||_}
+use mathlib.Core.List.{List, [], _∷_}
+use Prim.Native.Nat.{ℕ, _-_, _*_, _/_, _%_, _≤_}
+use native.Mathlib.Omega.{arith}
+use borrow.Author.Tests.{eqb-true, ltb-false}
+use lib.Dec.{eqb, ltb}
+use lib.ListN.{length, take, drop, length-append}
+use lib.Seq.{take-at}
+use Rattle.io.specs.Counts.{Counts}
+use Rattle.text.specs.declared.Read.{Read}
+use Rattle.text.specs.declared.Read.the-variants.{Nothing, Count}
+use Rattle.text.specs.Files.{ReadInto, wordsOf, unfit, wordsRead, wordsAfter}
+
+-- so many bytes or words stand at the start of the buffer
+pub read-count : {r : Read} {n : ℕ} (buf : List ℕ) → ReadInto r buf → r ≡ Count n → Counts n buf
+read-count buf h e = subst (λ (r : Read). ReadInto r buf) e h
+
+-- as many words as pairs of bytes
+pub words-length : (file : List ℕ) (n : ℕ) → length file ≡ 2 * n → length (wordsOf file) ≡ n
+words-length [] n e = omega arith
+words-length (low ∷ []) n e = absurd (omega arith)
+words-length (low ∷ (high ∷ rest)) n e = let h = words-length rest (n - 1) (omega arith) in omega arith
+
+-- a file that isn't refused
+even : (a b : Bool) → (not a || b) ≡ false → (a ≡ true) × (b ≡ false)
+even true b e = (refl, e)
+even false b e = absurd (let z : _≡_ {A = ℕ} 0 1 = cc in omega arith)
+
+fit-words : (file : List ℕ) → unfit file ≡ false → length (wordsOf file) ≤ 6661
+fit-words file e =
+    let p = even (eqb (length file % 2) 0) (ltb 13322 (length file)) e in
+    let z = eqb-true (length file % 2) 0 (p .0) in
+    let m = ltb-false 13322 (length file) (p .1) in
+    let l = words-length file (length file / 2) (omega arith) in
+    omega arith
+
+-- its words stand at the start of the buffer
+pub record Taken (file words : List ℕ) (n : ℕ) : Type 0 where
+  pub fit : unfit file ≡ false
+  pub counts : Counts n (wordsAfter file words)
+  pub are : take n (wordsAfter file words) ≡ wordsOf file
+
+pub words-taken : (file words : List ℕ) (n : ℕ) → 6661 ≤ length words → wordsRead file ≡ Count n → Taken file words n
+unfolding wordsRead wordsAfter
+words-taken file words n h e = go (unfit file) refl
+  where
+    go : (b : Bool) → unfit file ≡ b → Taken file words n
+    go true u = absurd (let z : Nothing ≡ Count n = rw (u, wordsRead) at e in let o : _≡_ {A = ℕ} 0 1 = cc in omega arith)
+    go false u =
+        let c : Count (length (wordsOf file)) ≡ Count n = rw (u, wordsRead) at e in
+        let l : length (wordsOf file) ≡ n = cc in
+        let m = fit-words file u in
+        let t : take n (wordsAfter file words) ≡ wordsOf file = rw (u, wordsAfter) (take-at (wordsOf file) (drop (length (wordsOf file)) words) n l) in
+        record {
+          fit = u;
+          counts = (rw (u, wordsAfter) (simp length-append (omega arith)), sym (ap length t ∙ l));
+          are = t;
+        }
+
+-- no words of a file that is refused
+pub words-none : (file : List ℕ) → wordsRead file ≡ Nothing → unfit file ≡ true
+unfolding wordsRead
+words-none file e = go (unfit file) refl
+  where
+    go : (b : Bool) → unfit file ≡ b → unfit file ≡ true
+    go true u = u
+    go false u = absurd (let z : Count (length (wordsOf file)) ≡ Nothing = rw (u, wordsRead) at e in let o : _≡_ {A = ℕ} 0 1 = cc in omega arith)
+
+-- either way
+pub words-into : (file words : List ℕ) {r : Read} {words' : List ℕ} → 6661 ≤ length words → r ≡ wordsRead file → words' ≡ wordsAfter file words → ReadInto r words'
+words-into file words {r} {words'} h e f = go r refl
+  where
+    go : (x : Read) → r ≡ x → ReadInto r words'
+    go Nothing z = rw z tt
+    go (Count n) z = let t = words-taken file words n h (sym e ∙ z) in rw (z, f) (t .counts)
