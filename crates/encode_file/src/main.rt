@@ -76,7 +76,7 @@ fn main() {
         );
         return;
     }
-    let mut words = [0u16; text::MOST_WORDS];
+    let mut words = [0u16; table_file::MOST_WORDS];
     let Read::Count(n) = text::read_table(1, &mut words) else {
         return;
     };

@@ -13,10 +13,10 @@ use Rattle.planner.specs.declared.Planned.{Planned}
 use Rattle.planner.specs.Planning.{answered, planAnswer, planAfter, planningRefusal, leastPlan, workWords}
 use Rattle.theorems.specs.OwnPlan.{own-steps}
 use Rattle.own_plan.specs.Own.{Own, lentWork, own-refusal, own-plan}
-use Rattle.text.specs.declared.Read.{Read}
-use Rattle.text.specs.declared.Read.the-variants.{Count}
-use Rattle.text.specs.Files.{unfit, wordsRead, wordsAfter}
-use Rattle.text.specs.FilesLaws.{words-taken}
+use Rattle.table_file.specs.declared.Words.{Words}
+use Rattle.table_file.specs.declared.Words.the-variants.{Count}
+use Rattle.table_file.specs.Words.{unfit, wordsRead, wordsAfter}
+use Rattle.table_file.specs.WordsLaws.{words-taken}
 use Rattle.text.specs.Lines.{Appended}
 use Rattle.listing.specs.Listing.{tableText, listing}
 use Rattle.listing.specs.ListingLaws.{ones-few, accepted-text, refused-text}
@@ -73,7 +73,7 @@ wordBuffer = replicate 6661 0
 pub word-room : 6661 ≤ length wordBuffer
 word-room = rw (length-replicate {A = ℕ} 6661 0) (omega arith)
 
-pub words-text : (file : List ℕ) {r : Read} {words : List ℕ} {n : ℕ} → r ≡ wordsRead file → words ≡ wordsAfter file wordBuffer → r ≡ Count n
+pub words-text : (file : List ℕ) {r : Words} {words : List ℕ} {n : ℕ} → r ≡ wordsRead file → words ≡ wordsAfter file wordBuffer → r ≡ Count n
     → tableText (take n words) ≡ listing file
 unfolding listing
 words-text file {r} {words} {n} e w z =

@@ -6,7 +6,7 @@ use Prim.Native.Nat.{ℕ}
 use lib.Dec.{eqb}
 use Rattle.table.specs.Table.{places, size}
 use Rattle.planner.specs.Planning.{planOf, planningRefusal, leastPlan, workWords}
-use Rattle.text.specs.Files.{wordsOf, unfit}
+use Rattle.table_file.specs.Words.{wordsOf, unfit}
 use Rattle.plan_text.specs.PlanText.{planText, refusedLine}
 
 -- the plan of a table; "It prints "refused" and the number otherwise."

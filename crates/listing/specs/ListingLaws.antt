@@ -16,7 +16,7 @@ use Rattle.rule.specs.Accepted.{kept-weight}
 use Rattle.planner.specs.Planning.{planOf, numbersOf, planningRefusal, leastPlan, workWords}
 use Rattle.theorems.specs.Demands.{accepted-planning}
 use Rattle.theorems.specs.OwnPlan.{own-info, own-steps, own-accepted}
-use Rattle.text.specs.Files.{wordsOf, unfit}
+use Rattle.table_file.specs.Words.{wordsOf, unfit}
 use Rattle.listing.specs.Listing.{tableText, listing}
 use Rattle.plan_text.specs.PlanText.{planText, planTextOf, refusedLine, mostText}
 use Rattle.plan_text.specs.PlanTextLaws.{plan-most, refused-most}

@@ -1,5 +1,5 @@
 // The text that program planlist prints, written at the start of a buffer; its length.
-use text::Read;
+use table_file::Words;
 ghost use mathlib.Core.Path.{_≡_};
 ghost use mathlib.Core.List.{_++_};
 ghost use Prim.Native.Nat.{_≤_};
@@ -33,8 +33,8 @@ pub fn list(file: &[u8], out: &mut [u8]) -> usize
     ensures length { λ r. ⌜ r ≡ length (listing (now (file .entry))) ⌝ }
     ensures within { λ r. ⌜ Counts r (now (out .exit)) ⌝ }
 {
-    let mut words = [0u16; text::MOST_WORDS];
-    let Read::Count(n) = text::words_in(file, &mut words) else {
+    let mut words = [0u16; table_file::MOST_WORDS];
+    let Words::Count(n) = table_file::words_in(file, &mut words) else {
         return plan_text::put_refused(out, 0, 3);
     };
     list_table(out, &words[..n])

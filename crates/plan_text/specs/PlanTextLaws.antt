@@ -77,3 +77,6 @@ plan-most w W h few =
 
 pub refused-most : (k : ℕ) → length (refusedLine k) ≤ mostText
 refused-most k = let d = decimal-most k in simp length-append (omega arith)
+
+pub refused-room : (k : ℕ) (out : List ℕ) → mostText ≤ length out → 0 + length (refusedLine k) ≤ length out
+refused-room k out h = let m = refused-most k in omega arith

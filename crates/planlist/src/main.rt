@@ -3,7 +3,7 @@ use text::Read;
 
 fn main() {
     // a byte more than a table's file may have shows that there are too many
-    let mut file = [0u8; text::MOST_BYTES + 1];
+    let mut file = [0u8; table_file::MOST_BYTES + 1];
     let Read::Count(n) = text::read_into(libc::STDIN_FILENO, &mut file) else {
         return;
     };

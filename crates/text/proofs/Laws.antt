@@ -1,28 +1,14 @@
--- The words of a table's file, one by one and as they are taken, and a number's decimal digits.
-use mathlib.Core.Path.{_≡_, refl, sym, ap, ap₂, _∙_}
+-- A number's decimal digits.
+use mathlib.Core.Path.{_≡_, refl, ap, ap₂, _∙_}
 use mathlib.Core.List.{List, [], _∷_, _++_}
 use mathlib.Core.Bool.{Bool, true, false}
 use Prim.Native.Nat.{ℕ, zero, suc, _+_, _-_, _*_, _/_, _%_, _^_, _≤_, _<_}
 use native.Mathlib.Omega.{arith}
 use native.Mathlib.Nat.{pow-suc, pow-le-pow-right, mod-lt, mod-eq-of-lt}
-use borrow.Author.Tests.{lt-ltb, le-ltb, ltb-true, ltb-false, eq-eqb, ne-eqb}
-use lib.ListN.{length, getD, drop}
+use borrow.Author.Tests.{lt-ltb, le-ltb, ltb-true, ltb-false}
 use lib.Dec.{ltb}
 use Rattle.io.specs.Digits.{digits, Fewest, glyph}
-use Rattle.text.specs.declared.Read.the-variants.{Nothing, Count}
 use Rattle.text.specs.Lines.{digitsWithin, decimal}
-use Rattle.text.specs.Files.{wordsOf, unfit, wordsRead, wordsAfter}
-
--- the word at i
-pub words-at : (file : List ℕ) (n i : ℕ) → length file ≡ 2 * n → i < n
-    → getD (wordsOf file) i 0 ≡ getD file (2 * i) 0 + getD file (2 * i + 1) 0 * 256
-words-at [] n i e h = absurd (omega arith)
-words-at (low ∷ []) n i e h = absurd (omega arith)
-words-at (low ∷ (high ∷ rest)) n zero e h = refl
-words-at (low ∷ (high ∷ rest)) n (suc i) e h =
-    let d : 2 * suc i ≡ suc (suc (2 * i)) = omega arith in
-    let d' : 2 * suc i + 1 ≡ suc (suc (2 * i + 1)) = omega arith in
-    rw (d', d) (words-at rest (n - 1) i (omega arith) (omega arith))
 
 -- a digit's byte
 digit : (x : ℕ) → glyph (x % 10) ≡ 48 + x % 10
@@ -60,22 +46,3 @@ few-digits k x fits f = few (ltb 20 k) refl
 pub number-digits : (k x : ℕ) → x < 2 ^ 64 → Fewest 10 1 x k → digits 10 k x ≡ decimal x
 number-digits zero x fits f = absurd (omega (arith, f .0))
 number-digits (suc k) x fits f = digits-decimal k 20 x f (few-digits (suc k) x fits f)
-
--- ---- what is taken of a file
-refused : (file words : List ℕ) → unfit file ≡ true → (Nothing ≡ wordsRead file) × (words ≡ wordsAfter file words)
-unfolding wordsRead wordsAfter
-refused file words e = (rw (e, wordsRead) refl, rw (e, wordsAfter) refl)
-
-pub odd-refused : (file words : List ℕ) → (length file % 2 ≡ 0 → ⊥) → (Nothing ≡ wordsRead file) × (words ≡ wordsAfter file words)
-odd-refused file words h = refused file words (rw (ne-eqb (length file % 2) 0 h) refl)
-
-pub long-refused : (file words : List ℕ) → length file % 2 ≡ 0 → 13322 < length file → (Nothing ≡ wordsRead file) × (words ≡ wordsAfter file words)
-long-refused file words h l = refused file words (rw (eq-eqb (length file % 2) 0 h, lt-ltb 13322 (length file) l) refl)
-
-pub words-put : (file words v : List ℕ) (k : ℕ) → length file % 2 ≡ 0 → length file ≤ 13322 → v ≡ wordsOf file → length v ≡ k
-    → (Count k ≡ wordsRead file) × (v ++ drop k words ≡ wordsAfter file words)
-unfolding wordsRead wordsAfter
-words-put file words v k h l e n =
-    let f : unfit file ≡ false = rw (eq-eqb (length file % 2) 0 h, le-ltb 13322 (length file) l) refl in
-    let m : length (wordsOf file) ≡ k = sym (ap length e) ∙ n in
-    (rw (f, wordsRead, m) refl, rw (f, wordsAfter, m, e) refl)

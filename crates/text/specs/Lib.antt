@@ -1,4 +1,3 @@
 pub mod Files
-pub mod FilesLaws
 pub mod Lines
 pub mod LinesLaws

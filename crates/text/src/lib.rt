@@ -1,15 +1,10 @@
 // Lines of text, and the files that a program's arguments name.
-ghost use mathlib.Core.Path.{_≡_};
+use table_file::Words;
 ghost use mathlib.Core.List.{_++_};
-ghost use Prim.Native.Nat.{_+_, _*_, _≤_};
+ghost use Prim.Native.Nat.{_+_, _≤_};
 ghost use lib.ListN.{length};
 ghost use Rattle.text.specs.Lines.{Appended, decimal};
-ghost use Rattle.text.specs.Files.{ReadInto, wordsOf, wordsRead, wordsAfter};
-
-// the most bytes and words of a table's file
-pub const MOST_BYTES: usize = 13322;
-
-pub const MOST_WORDS: usize = 6661;
+ghost use Rattle.text.specs.Files.{ReadInto};
 
 // so many bytes or words were read, or none
 pub enum Read {
@@ -151,42 +146,6 @@ fn read_start(number: usize, buf: &mut [u8]) -> Read
     read
 }
 
-// a word of a table's file
-fn word(low: u8, high: u8) -> u16
-    ensures { λ r. ⌜ r ≡ low + high * 256 ⌝ }
-{
-    (low as u16) + (high as u16) * 256
-}
-
-// 16-bit words, low byte first
-fn fill_words(file: &[u8], words: &mut [u16])
-    requires { ⌜ length (now file) ≡ 2 * length (now words) ⌝ }
-    ensures { λ _. ⌜ now (words .exit) ≡ wordsOf (now (file .entry)) ⌝ }
-{
-    let mut i = 0;
-    while i < words.len() {
-        words[i] = word(file[2 * i], file[2 * i + 1]);
-        i += 1;
-    }
-}
-
-// The words of a table's file; nothing where it has an odd number of bytes, or too many.
-pub fn words_in(file: &[u8], words: &mut [u16]) -> Read
-    requires { ⌜ 6661 ≤ length (now words) ⌝ }
-    ensures answer { λ r. ⌜ r ≡ wordsRead (now (file .entry)) ⌝ }
-    ensures words { λ _. ⌜ now (words .exit) ≡ wordsAfter (now (file .entry)) (now (words .entry)) ⌝ }
-{
-    if file.len() % 2 != 0 {
-        return Read::Nothing;
-    }
-    if MOST_BYTES < file.len() {
-        return Read::Nothing;
-    }
-    let count = file.len() / 2;
-    fill_words(file, &mut words[..count]);
-    Read::Count(count)
-}
-
 // Reads the words of the table's file that an argument names. A file that can't be read, or is
 // refused with 3, gives nothing, and has been said.
 pub fn read_table(number: usize, words: &mut [u16]) -> Read
@@ -194,15 +153,15 @@ pub fn read_table(number: usize, words: &mut [u16]) -> Read
     ensures { λ r. ⌜ ReadInto r (now (words .exit)) ⌝ }
 {
     // one byte more shows that there are too many
-    let mut file = [0u8; MOST_BYTES + 1];
+    let mut file = [0u8; table_file::MOST_BYTES + 1];
     let Read::Count(n) = read_start(number, &mut file) else {
         return Read::Nothing;
     };
-    let read = words_in(&file[..n], words);
-    if let Read::Nothing = read {
+    let Words::Count(n) = table_file::words_in(&file[..n], words) else {
         say_refused(3);
-    }
-    read
+        return Read::Nothing;
+    };
+    Read::Count(n)
 }
 
 // Opens the file that an argument names, for reading; below 0, which has been said, if it can't.

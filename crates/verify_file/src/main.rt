@@ -32,7 +32,7 @@ fn main() {
         io::write_all(libc::STDERR_FILENO, b"usage: verify_file TABLE BLOCK\n");
         return;
     }
-    let mut words = [0u16; text::MOST_WORDS];
+    let mut words = [0u16; table_file::MOST_WORDS];
     let Read::Count(n) = text::read_table(1, &mut words) else {
         return;
     };

@@ -1,10 +1,9 @@
 -- `listing::list` meets its contract: refusal 3, or the text of the file's words.
 use mathlib.Core.Path.{sym, _∙_}
-use native.Mathlib.Omega.{arith}
 use borrow.Author.Needs.{needs}
-use Rattle.text.specs.FilesLaws.{words-none, words-into, read-count}
+use Rattle.table_file.specs.WordsLaws.{words-none, words-within}
 use Rattle.text.specs.LinesLaws.{same-word}
-use Rattle.plan_text.specs.PlanTextLaws.{refused-most}
+use Rattle.plan_text.specs.PlanTextLaws.{refused-room}
 use Rattle.listing.proofs.Tables.{at-start, unfit-text, words-text, wordBuffer, word-room}
 use Rattle.listing.proofs.list.Statement.{statement}
 use Rattle.listing.proofs.list.Tie as tie
@@ -22,7 +21,7 @@ enum-told : tie.Need-enum-told
 enum-told c = search needs
 
 put-refused-requires : tie.Need-put-refused-requires
-put-refused-requires c κs = omega (arith, refused-most 3, c .before .before .before .before .before .before .before .before .pre)
+put-refused-requires c κs = refused-room _ (c .before .before .before .before .before .before .before .before .args .out .now) (c .before .before .before .before .before .before .before .before .pre)
 
 same-length : tie.Need-same-length
 same-length c = search needs
@@ -33,10 +32,10 @@ returns c =
     at-start (same-word (unfit-text f (words-none f (sym (c .before .before .before .before .before .before .before .words-in .ensures .0) ∙ c .before .before .before .before .enum-told .given .1))) (c .before .before .put-refused .ensures))
 
 array-share-prefix-words : tie.Need-array-share-prefix-words
-array-share-prefix-words c = let w = c .before .before .before .before .before .words-in .ensures in read-count _ (words-into (c .before .before .before .before .before .before .before .before .before .args .file .now) wordBuffer word-room (w .0) (w .1)) (c .before .before .n .given .1) .0
+array-share-prefix-words c = let w = c .before .before .before .before .before .words-in .ensures in words-within (c .before .before .before .before .before .before .before .before .before .args .file .now) wordBuffer word-room (w .0) (w .1) (c .before .before .n .given .1) .0
 
 slice-aggregate-list-table : tie.Need-slice-aggregate-list-table
-slice-aggregate-list-table c = let w = c .before .before .before .before .before .before .words-in .ensures in read-count _ (words-into (c .before .before .before .before .before .before .before .before .before .before .args .file .now) wordBuffer word-room (w .0) (w .1)) (c .before .before .before .n .given .1) .1
+slice-aggregate-list-table c = let w = c .before .before .before .before .before .before .words-in .ensures in words-within (c .before .before .before .before .before .before .before .before .before .before .args .file .now) wordBuffer word-room (w .0) (w .1) (c .before .before .before .n .given .1) .1
 
 list-table-requires : tie.Need-list-table-requires
 list-table-requires c κs = search needs

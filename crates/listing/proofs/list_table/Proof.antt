@@ -1,8 +1,9 @@
 -- `listing::list_table` meets its contract: the refusal, or the text of the planner's own plan.
+use mathlib.Core.Path.{_≡_}
 use native.Mathlib.Omega.{arith}
 use borrow.Author.Needs.{needs}
 use Rattle.text.specs.LinesLaws.{same-word}
-use Rattle.plan_text.specs.PlanTextLaws.{refused-most}
+use Rattle.plan_text.specs.PlanTextLaws.{refused-room}
 use Rattle.listing.proofs.Tables.{own, refused-put, plan-adds, plan-fits, plan-put}
 use Rattle.listing.proofs.list_table.Statement.{statement}
 use Rattle.listing.proofs.list_table.Tie as tie
@@ -14,32 +15,32 @@ plan-of-requires : tie.Need-plan-of-requires
 plan-of-requires c κs = search needs
 
 put-refused-requires : tie.Need-put-refused-requires
-put-refused-requires c κs = omega (arith, refused-most (c .before .before .before .before .plan-of .result .refusal), c .before .before .before .before .before .before .before .before .pre)
+put-refused-requires c κs = refused-room _ (c .before .before .before .before .before .before .before .before .args .out .now) (c .before .before .before .before .before .before .before .before .pre)
 
 same-length : tie.Need-same-length
 same-length c = search needs
 
 returns : tie.Need-returns
-returns c = same-word (refused-put (c .before .before .before .before .before .before .before .before .before .before .before .args .table .now) (c .before .before .before .before .before .before .before .plan-of .result) (c .before .before .before .before .before .before .before .plan-of .ensures .0) (c .before .before .before .before .if1 .taken)) (c .before .before .put-refused .ensures)
+returns c = let p = c .before .before .before .before .before .before .before .plan-of in same-word (refused-put (c .before .before .before .before .before .before .before .before .before .before .before .args .table .now) (p .result) (p .ensures .0) (λ e. omega (arith, c .before .before .before .before .if1 .taken))) (c .before .before .put-refused .ensures)
 
 cast-length : tie.Need-cast-length
 cast-length c = search needs
 
 array-share-prefix-plan : tie.Need-array-share-prefix-plan
-array-share-prefix-plan c = let p = c .before .before .before .before .before .plan-of in own (c .before .before .before .before .before .before .before .before .before .args .table .now) (p .result) (p .ensures .0) _ (p .ensures .1) (c .before .before .if1 .left) .within
+array-share-prefix-plan c = let p = c .before .before .before .before .before .plan-of in own (c .before .before .before .before .before .before .before .before .before .args .table .now) (p .result) (p .ensures .0) _ (p .ensures .1) (omega (arith, c .before .before .if1 .left)) .within
 
 slice-aggregate-put-plan : tie.Need-slice-aggregate-put-plan
-slice-aggregate-put-plan c = let p = c .before .before .before .before .before .before .plan-of in own (c .before .before .before .before .before .before .before .before .before .before .args .table .now) (p .result) (p .ensures .0) _ (p .ensures .1) (c .before .before .before .if1 .left) .counts
+slice-aggregate-put-plan c = let p = c .before .before .before .before .before .before .plan-of in own (c .before .before .before .before .before .before .before .before .before .before .args .table .now) (p .result) (p .ensures .0) _ (p .ensures .1) (omega (arith, c .before .before .before .if1 .left)) .counts
 
 put-plan-requires : tie.Need-put-plan-requires
 put-plan-requires c κs =
-    let t = c .before .before .before .before .before .before .before .before .before .before .args .table .now in
+    let a = c .before .before .before .before .before .before .before .before .before .before .args in
     let p = c .before .before .before .before .before .before .plan-of in
-    let z = c .before .before .before .if1 .left in (
-      own t (p .result) (p .ensures .0) _ (p .ensures .1) z .formed,
+    let z : p .result .refusal ≡ 0 = omega (arith, c .before .before .before .if1 .left) in (
+      own (a .table .now) (p .result) (p .ensures .0) _ (p .ensures .1) z .formed,
       (
-        plan-adds t (p .result) (p .ensures .0) _ (p .ensures .1) z,
-        plan-fits t (p .result) (p .ensures .0) _ (p .ensures .1) z (c .before .before .before .before .before .before .before .before .before .before .args .out .now) (c .before .before .before .before .before .before .before .before .before .before .pre),
+        plan-adds (a .table .now) (p .result) (p .ensures .0) _ (p .ensures .1) z,
+        plan-fits (a .table .now) (p .result) (p .ensures .0) _ (p .ensures .1) z (a .out .now) (c .before .before .before .before .before .before .before .before .before .before .pre),
       ),
     )
 
@@ -49,7 +50,7 @@ same-length-2 c = search needs
 returns-2 : tie.Need-returns-2
 returns-2 c =
     let p = c .before .before .before .before .before .before .before .before .before .plan-of in
-    same-word (plan-put (c .before .before .before .before .before .before .before .before .before .before .before .before .before .args .table .now) (p .result) (p .ensures .0) _ (p .ensures .1) (c .before .before .before .before .before .before .if1 .left)) (c .before .before .put-plan .ensures)
+    same-word (plan-put (c .before .before .before .before .before .before .before .before .before .before .before .before .before .args .table .now) (p .result) (p .ensures .0) _ (p .ensures .1) (omega (arith, c .before .before .before .before .before .before .if1 .left))) (c .before .before .put-plan .ensures)
 
 pub list-table-spec : {M : Type 1} → statement M
 list-table-spec =

@@ -4,8 +4,9 @@ use mathlib.Core.List.{List}
 use Prim.Native.Nat.{ℕ, _+_, _≤_}
 use native.Mathlib.Omega.{arith}
 use borrow.Author.Needs.{needs}
-use lib.ListN.{length}
+use lib.ListN.{length, length-append}
 use Rattle.plan.specs.Layout.{planPlaces, planSize, planGap, planKept, infoIn, stepsOf}
+use Rattle.text.specs.Lines.{decimal}
 use Rattle.text.specs.LinesLaws.{left-all, left-room, left-next, left-last, same-word}
 use Rattle.plan_text.specs.PlanText.{heading, planTextOf, infoLine, stepLines, addsLine}
 use Rattle.plan_text.proofs.Counts.{counts-of}
@@ -61,7 +62,9 @@ put-line-requires c κs =
     let l1 = left-next (fromInfo (a .plan .now)) h l0 in
     let l2 = left-next (fromSteps (a .plan .now)) (c .before .before .before .before .before .before .before .before .put-info .ensures) l1 in
     let l3 = left-next (fromAdds (a .plan .now)) (c .before .before .before .before .put-steps .ensures) l2 in
-    rw (c .before .before .before .before .before .before .before .before .before .before .before .before .before .before .before .before .before .before .before .before .pre .1 .0) (l3 .room)
+    let e = ap (λ (k : ℕ). length (decimal k)) (c .before .before .before .before .before .before .before .before .before .before .before .before .before .before .before .before .before .before .before .before .pre .1 .0) in
+    let r = simp length-append at (l3 .room) in
+    simp length-append (omega arith)
 
 same-length : tie.Need-same-length
 same-length c = search needs

@@ -1,6 +1,6 @@
 -- `planlist::main` is safe: what was read lies within the buffer.
 use borrow.Author.Needs.{needs}
-use Rattle.text.specs.FilesLaws.{read-count}
+use Rattle.text.specs.Files.{read-count}
 use Rattle.planlist.proofs.main.Statement.{statement}
 use Rattle.planlist.proofs.main.Tie as tie
 

@@ -1,6 +1,6 @@
 -- `repair_file::repair_files` is safe: what was read lies within the buffers.
 use borrow.Author.Needs.{needs}
-use Rattle.text.specs.FilesLaws.{read-count}
+use Rattle.text.specs.Files.{read-count}
 use Rattle.repair_file.proofs.repair_files.Statement.{statement}
 use Rattle.repair_file.proofs.repair_files.Tie as tie
 

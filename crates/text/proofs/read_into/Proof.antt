@@ -5,7 +5,7 @@ use native.Mathlib.Omega.{arith}
 use borrow.Author.Needs.{needs}
 use lib.Seq.{length-take-le}
 use lib.ListN.{length}
-use Rattle.text.specs.FilesLaws.{read-count}
+use Rattle.text.specs.Files.{read-count}
 use Rattle.text.proofs.read_into.Statement.{statement}
 use Rattle.text.proofs.read_into.Tie as tie
 

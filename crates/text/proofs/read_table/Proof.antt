@@ -1,6 +1,7 @@
 -- `text::read_table` meets its contract: the words stand at the start of the buffer.
 use borrow.Author.Needs.{needs}
-use Rattle.text.specs.FilesLaws.{read-count, words-into}
+use Rattle.table_file.specs.WordsLaws.{words-within}
+use Rattle.text.specs.Files.{read-count}
 use Rattle.text.proofs.read_table.Statement.{statement}
 use Rattle.text.proofs.read_table.Tie as tie
 
@@ -28,26 +29,26 @@ slice-aggregate-words-in c = read-count _ (c .before .before .before .before .be
 words-in-requires : tie.Need-words-in-requires
 words-in-requires c κs = search needs
 
+enum-known-n-2 : tie.Need-enum-known-n-2
+enum-known-n-2 c = search needs
+
 enum-told-2 : tie.Need-enum-told-2
 enum-told-2 c = search needs
 
 say-refused-requires : tie.Need-say-refused-requires
 say-refused-requires c κs = search needs
 
-enum-told-3 : tie.Need-enum-told-3
-enum-told-3 c = search needs
-
 same-length : tie.Need-same-length
 same-length c = search needs
 
 returns-2 : tie.Need-returns-2
-returns-2 c = words-into _ (c .before .before .before .before .before .before .before .before .before .before .before .before .before .before .before .args .words .now) (c .before .before .before .before .before .before .before .before .before .before .before .before .before .before .before .pre) (c .before .before .before .before .before .words-in .ensures .0) (c .before .before .before .before .before .words-in .ensures .1)
+returns-2 c = search needs
 
 same-length-2 : tie.Need-same-length-2
 same-length-2 c = search needs
 
 returns-3 : tie.Need-returns-3
-returns-3 c = words-into _ (c .before .before .before .before .before .before .before .before .before .before .before .before .before .before .args .words .now) (c .before .before .before .before .before .before .before .before .before .before .before .before .before .before .pre) (c .before .before .before .before .words-in .ensures .0) (c .before .before .before .before .words-in .ensures .1)
+returns-3 c = words-within _ (c .before .before .before .before .before .before .before .before .before .before .before .before .before .before .before .args .words .now) (c .before .before .before .before .before .before .before .before .before .before .before .before .before .before .before .pre) (c .before .before .before .before .before .words-in .ensures .0) (c .before .before .before .before .before .words-in .ensures .1) (c .before .n2 .given .1)
 
 pub read-table-spec : {M : Type 1} → statement M
 read-table-spec =
@@ -61,9 +62,9 @@ read-table-spec =
     array-share-prefix-file
     slice-aggregate-words-in
     words-in-requires
+    enum-known-n-2
     enum-told-2
     say-refused-requires
-    enum-told-3
     same-length
     returns-2
     same-length-2

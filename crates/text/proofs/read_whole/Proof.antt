@@ -1,6 +1,6 @@
 -- `text::read_whole` meets its contract: what was read lies within the buffer.
 use borrow.Author.Needs.{needs}
-use Rattle.text.specs.FilesLaws.{read-count}
+use Rattle.text.specs.Files.{read-count}
 use Rattle.text.proofs.read_whole.Statement.{statement}
 use Rattle.text.proofs.read_whole.Tie as tie
 

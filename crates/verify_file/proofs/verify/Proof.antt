@@ -1,6 +1,6 @@
 -- `verify_file::verify` is safe: the bytes that were read lie within the block's buffer.
 use borrow.Author.Needs.{needs}
-use Rattle.text.specs.FilesLaws.{read-count}
+use Rattle.text.specs.Files.{read-count}
 use Rattle.verify_file.proofs.verify.Statement.{statement}
 use Rattle.verify_file.proofs.verify.Tie as tie
 

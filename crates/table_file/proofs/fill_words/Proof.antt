@@ -1,15 +1,15 @@
--- `text::fill_words` meets its contract. The loop's invariant: the first i words are the file's.
+-- `table_file::fill_words` meets its contract. The loop's invariant: the first i words are the file's.
 use mathlib.Core.Path.{_≡_, refl, sym, _∙_}
 use Prim.Native.Nat.{ℕ, _+_, _-_, _*_, _≤_, _<_}
 use native.Mathlib.Omega.{arith}
 use borrow.Author.Count.{below-more}
 use lib.ListN.{length, getD, length-set}
 use lib.Seq.{getD-set-same, getD-set-other, ext-getD}
-use Rattle.text.specs.Files.{wordsOf}
-use Rattle.text.specs.FilesLaws.{words-length}
-use Rattle.text.proofs.Laws.{words-at}
-use Rattle.text.proofs.fill_words.Statement.{statement}
-use Rattle.text.proofs.fill_words.Tie as tie
+use Rattle.table_file.specs.Words.{wordsOf}
+use Rattle.table_file.specs.WordsLaws.{words-length}
+use Rattle.table_file.proofs.Laws.{words-at}
+use Rattle.table_file.proofs.fill_words.Statement.{statement}
+use Rattle.table_file.proofs.fill_words.Tie as tie
 
 abbrev Inv-loop : tie.InvT-loop
 Inv-loop file words₀ i₀ words i = (i ≤ length words) × (length words ≡ length words₀) × ((k : ℕ) → k < i → getD words k 0 ≡ getD file (2 * k) 0 + getD file (2 * k + 1) 0 * 256)

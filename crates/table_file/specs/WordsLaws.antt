@@ -1,5 +1,5 @@
--- Laws of what was read, and of the words of a table's file.
-use mathlib.Core.Path.{_≡_, refl, sym, ap, _∙_, subst}
+-- Laws of the words of a table's file.
+use mathlib.Core.Path.{_≡_, refl, sym, ap, _∙_}
 use mathlib.Core.Bool.{Bool, true, false, not, _||_}
 use mathlib.Core.List.{List, [], _∷_}
 use Prim.Native.Nat.{ℕ, _-_, _*_, _/_, _%_, _≤_}
@@ -9,13 +9,9 @@ use lib.Dec.{eqb, ltb}
 use lib.ListN.{length, take, drop, length-append}
 use lib.Seq.{take-at}
 use Rattle.io.specs.Counts.{Counts}
-use Rattle.text.specs.declared.Read.{Read}
-use Rattle.text.specs.declared.Read.the-variants.{Nothing, Count}
-use Rattle.text.specs.Files.{ReadInto, wordsOf, unfit, wordsRead, wordsAfter}
-
--- so many bytes or words stand at the start of the buffer
-pub read-count : {r : Read} {n : ℕ} (buf : List ℕ) → ReadInto r buf → r ≡ Count n → Counts n buf
-read-count buf h e = subst (λ (r : Read). ReadInto r buf) e h
+use Rattle.table_file.specs.declared.Words.{Words}
+use Rattle.table_file.specs.declared.Words.the-variants.{Refused, Count}
+use Rattle.table_file.specs.Words.{wordsOf, unfit, wordsRead, wordsAfter}
 
 -- as many words as pairs of bytes
 pub words-length : (file : List ℕ) (n : ℕ) → length file ≡ 2 * n → length (wordsOf file) ≡ n
@@ -47,7 +43,7 @@ unfolding wordsRead wordsAfter
 words-taken file words n h e = go (unfit file) refl
   where
     go : (b : Bool) → unfit file ≡ b → Taken file words n
-    go true u = absurd (let z : Nothing ≡ Count n = rw (u, wordsRead) at e in let o : _≡_ {A = ℕ} 0 1 = cc in omega arith)
+    go true u = absurd (let z : Refused ≡ Count n = rw (u, wordsRead) at e in let o : _≡_ {A = ℕ} 0 1 = cc in omega arith)
     go false u =
         let c : Count (length (wordsOf file)) ≡ Count n = rw (u, wordsRead) at e in
         let l : length (wordsOf file) ≡ n = cc in
@@ -60,18 +56,15 @@ words-taken file words n h e = go (unfit file) refl
         }
 
 -- no words of a file that is refused
-pub words-none : (file : List ℕ) → wordsRead file ≡ Nothing → unfit file ≡ true
+pub words-none : (file : List ℕ) → wordsRead file ≡ Refused → unfit file ≡ true
 unfolding wordsRead
 words-none file e = go (unfit file) refl
   where
     go : (b : Bool) → unfit file ≡ b → unfit file ≡ true
     go true u = u
-    go false u = absurd (let z : Count (length (wordsOf file)) ≡ Nothing = rw (u, wordsRead) at e in let o : _≡_ {A = ℕ} 0 1 = cc in omega arith)
+    go false u = absurd (let z : Count (length (wordsOf file)) ≡ Refused = rw (u, wordsRead) at e in let o : _≡_ {A = ℕ} 0 1 = cc in omega arith)
 
--- either way
-pub words-into : (file words : List ℕ) {r : Read} {words' : List ℕ} → 6661 ≤ length words → r ≡ wordsRead file → words' ≡ wordsAfter file words → ReadInto r words'
-words-into file words {r} {words'} h e f = go r refl
-  where
-    go : (x : Read) → r ≡ x → ReadInto r words'
-    go Nothing z = rw z tt
-    go (Count n) z = let t = words-taken file words n h (sym e ∙ z) in rw (z, f) (t .counts)
+-- so that so many words stand in the buffer
+pub words-within : (file words : List ℕ) {r : Words} {words' : List ℕ} {n : ℕ} → 6661 ≤ length words → r ≡ wordsRead file → words' ≡ wordsAfter file words
+    → r ≡ Count n → Counts n words'
+words-within file words {r} {words'} {n} h e f z = rw f (words-taken file words n h (sym e ∙ z) .counts)

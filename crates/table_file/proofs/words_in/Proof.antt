@@ -1,14 +1,14 @@
--- `text::words_in` meets its contract: an odd or a long file is refused; the words of any other stand at the start.
+-- `table_file::words_in` meets its contract: an odd or a long file is refused; the words of any other stand at the start.
 use mathlib.Core.Path.{_≡_, sym, ap, _∙_}
 use Prim.Native.Nat.{_/_}
 use native.Mathlib.Omega.{arith}
 use borrow.Author.Needs.{needs}
 use lib.ListN.{length, take}
 use lib.Seq.{length-take-le}
-use Rattle.text.specs.FilesLaws.{words-length}
-use Rattle.text.proofs.Laws.{odd-refused, long-refused, words-put}
-use Rattle.text.proofs.words_in.Statement.{statement}
-use Rattle.text.proofs.words_in.Tie as tie
+use Rattle.table_file.specs.WordsLaws.{words-length}
+use Rattle.table_file.proofs.Laws.{odd-refused, long-refused, words-put}
+use Rattle.table_file.proofs.words_in.Statement.{statement}
+use Rattle.table_file.proofs.words_in.Tie as tie
 
 returns : tie.Need-returns
 returns c = let a = c .before .before .before .args in odd-refused (a .file .now) (a .words .now) (λ e. omega (arith, c .if1 .taken))
