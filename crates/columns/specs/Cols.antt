@@ -5,7 +5,7 @@ use Prim.Native.Nat.{ℕ, zero, suc, _+_, _<_, _≤_}
 use lib.ListN.{length, getD, take, drop}
 use Rattle.gf2.specs.Fit.{column}
 use Rattle.table.specs.Checks.{check, offset, Places}
-use Rattle.rule.specs.Rule.{Solved, reduce}
+use Rattle.rule.specs.Rule.{Solved, putInAll}
 
 -- col holds the columns of the rows E
 pub record Columns (E col : List ℕ) : Type 0 where

@@ -12,7 +12,7 @@ use Rattle.gf2.specs.Span.{byBool}
 use Rattle.table.specs.Table.{refusal}
 use Rattle.plan.specs.Layout.{planRefusal, mostAside}
 use Rattle.planner.specs.declared.Planned.{Planned}
-use Rattle.planner.specs.Planning.{planOf, numbersOf, answered, answerAt, plans, planAnswer, planAfter, planningRefusal, leastPlan, workWords}
+use Rattle.planner.specs.Planning.{planOf, numbersOf, answered, answerAt, planningRefused, planAnswer, planAfter, planningRefusal, leastPlan, workWords}
 use Rattle.theorems.specs.OwnPlan.{own-accepted}
 
 -- the plan stands at the start of the buffer and is well-formed
@@ -47,7 +47,7 @@ answer-refusal (suc p) t = refl
 
 pub accepted-plan : (t buf work : List ℕ) (r : Planned) (buf' : List ℕ) → answered r ≡ planAnswer t buf work → buf' ≡ planAfter t buf work → r .refusal ≡ 0 → Own t r buf'
 accepted-plan t buf work r buf' a b z =
-    let e : plans t buf work ≡ 0 = sym (answer-refusal (plans t buf work) t) ∙ sym (ap (λ x. x .refusal) a) ∙ z in
+    let e : planningRefused t buf work ≡ 0 = sym (answer-refusal (planningRefused t buf work) t) ∙ sym (ap (λ x. x .refusal) a) ∙ z in
     let ok = accepted-table t (length buf) (length work) e in
     let l : length (numbersOf t) ≡ r .length = sym (rw e at (ap (λ x. x .length) a)) in
     let w : buf' ≡ numbersOf t ++ drop (length (numbersOf t)) buf = rw (e, planAfter) at b in

@@ -1,17 +1,18 @@
 -- The causes of the planner, in their order, and what each leaves.
-use mathlib.Core.Path.{_≡_, refl, sym, ap, ap₂, _∙_, subst}
+use mathlib.Core.Path.{_≡_, refl, sym, ap, _∙_}
 use mathlib.Core.Bool.{Bool, true, false, cond}
-use mathlib.Core.List.{List, [], _∷_, _++_}
-use Prim.Native.Nat.{ℕ, zero, suc, _+_, _<_, _≤_}
+use mathlib.Core.List.{List}
+use Prim.Native.Nat.{ℕ, zero, suc, _<_, _≤_}
 use native.Mathlib.Omega.{arith}
 use borrow.Author.Tests.{eq-eqb, ne-eqb, le-leb, lt-leb, lt-ltb, le-ltb}
 use lib.Dec.{eqb, ltb, leb}
-use lib.ListN.{length, drop, replicate}
+use lib.ListN.{length, replicate}
 use Rattle.table.specs.Table.{refusal, tooShort, beyondLimits, badLengths, badPlaces}
 use Rattle.plan.specs.Layout.{mostAside, leastPlan}
 use Rattle.rule.specs.Buffers.{peeling}
+use Rattle.rule.specs.PlanOf.{planOf, withNumbers}
 use Rattle.rule.specs.Rule.{setAsideOf}
-use Rattle.planner.specs.Planning.{workWords, planningRefusal, planOf, numbersOf, refusedBy, answerAt, plans, planAnswer, planAfter, workAfter, Answer}
+use Rattle.planner.specs.Planning.{workWords, planningRefusal, refusedBy, answerAt, planningRefused, planAnswer, planAfter, workAfter, Answer}
 
 -- a table's causes are 1 to 4
 four : (a b c d : Bool) → cond a 1 (cond b 2 (cond c 3 (cond d 4 0))) ≤ 4
@@ -24,23 +25,6 @@ four false false false false = omega arith
 refusal-most : (t : List ℕ) → refusal t ≤ 4
 refusal-most t = four (tooShort t) (beyondLimits t) (badLengths t) (badPlaces t)
 
--- by the number of the cause
-abbrev planAt : List ℕ → List ℕ → ℕ → List ℕ
-planAt t P r = elim (eqb r 0) [ true ↦ numbersOf t ++ drop (length (numbersOf t)) P | false ↦ P ]
-
-abbrev workAt : List ℕ → ℕ → List ℕ
-workAt W r = elim (eqb r 0) [
-  | true ↦ replicate workWords 0
-  | false ↦
-      elim (eqb r 6) [ true ↦ replicate workWords 0 | false ↦ W ]
-]
-
-plan-kept : (t P : List ℕ) (r : ℕ) → eqb r 0 ≡ false → planAt t P r ≡ P
-plan-kept t P r h = rw (h, planAt)
-
-work-kept : (W : List ℕ) (r : ℕ) → eqb r 0 ≡ false → eqb r 6 ≡ false → workAt W r ≡ W
-work-kept W r h k = rw (h, workAt, k)
-
 -- the call as it answers r, and leaves the plan and the work
 pub record Outcome (t P W : List ℕ) (r : Answer) (plan work : List ℕ) : Type 0 where
   pub answer : r ≡ planAnswer t P W
@@ -48,64 +32,65 @@ pub record Outcome (t P W : List ℕ) (r : Answer) (plan work : List ℕ) : Type
   pub work-is : work ≡ workAfter t P W
 
 module _ (t P W : List ℕ) where
-  stays : (r : ℕ) → plans t P W ≡ r → 0 < r → r < 6 → Outcome t P W (refusedBy r) P W
+  stays : (r : ℕ) → planningRefused t P W ≡ r → 0 < r → r < 6 → Outcome t P W (refusedBy r) P W
   stays zero e a b = absurd (omega arith)
-  stays (suc r) e a b = record {
-    answer = rw e;
-    plan-is = sym (ap (planAt t P) e ∙ plan-kept t P (suc r) (ne-eqb (suc r) 0 (λ (q : suc r ≡ 0). omega arith)));
-    work-is = sym (ap (workAt W) e ∙ work-kept W (suc r) (ne-eqb (suc r) 0 (λ (q : suc r ≡ 0). omega arith)) (ne-eqb (suc r) 6 (λ (q : suc r ≡ 6). omega arith)));
-  }
+  stays (suc r) e a b =
+      let z : eqb (planningRefused t P W) 0 ≡ false = ap (λ (k : ℕ). eqb k 0) e ∙ ne-eqb (suc r) 0 (λ (q : suc r ≡ 0). omega arith) in
+      let s : eqb (planningRefused t P W) 6 ≡ false = ap (λ (k : ℕ). eqb k 6) e ∙ ne-eqb (suc r) 6 (λ (q : suc r ≡ 6). omega arith) in
+      record { answer = rw e; plan-is = rw (z, planAfter); work-is = rw (z, workAfter, s) }
 
-  plans-table : (eqb (refusal t) 0 ≡ false) → plans t P W ≡ refusal t
+  table-decides : (eqb (refusal t) 0 ≡ false) → planningRefused t P W ≡ refusal t
   unfolding planningRefusal
-  plans-table h = rw (h, planningRefusal)
+  table-decides h = rw (h, planningRefusal)
 
   pub by-table : (r : ℕ) → r ≡ refusal t → (r ≡ 0 → ⊥) → Outcome t P W (refusedBy r) P W
   by-table r e h =
       let l = refusal-most t in
-      stays r (plans-table (ne-eqb (refusal t) 0 (λ (q : refusal t ≡ 0). h (e ∙ q))) ∙ sym e) (pos r h) (omega arith)
+      stays r (table-decides (ne-eqb (refusal t) 0 (λ (q : refusal t ≡ 0). h (e ∙ q))) ∙ sym e) (pos r h) (omega arith)
     where
       pos : (x : ℕ) → (x ≡ 0 → ⊥) → 0 < x
       pos zero z = absurd (z refl)
       pos (suc x) z = omega arith
 
-  plans-plan : refusal t ≡ 0 → leb leastPlan (length P) ≡ false → plans t P W ≡ 5
+  plan-decides : refusal t ≡ 0 → leb leastPlan (length P) ≡ false → planningRefused t P W ≡ 5
   unfolding planningRefusal
-  plans-plan a b = rw (eq-eqb (refusal t) 0 a, planningRefusal, b)
+  plan-decides a b = rw (eq-eqb (refusal t) 0 a, planningRefusal, b)
 
-  plans-work : refusal t ≡ 0 → leb leastPlan (length P) ≡ true → eqb (length W) workWords ≡ false → plans t P W ≡ 5
+  work-decides : refusal t ≡ 0 → leb leastPlan (length P) ≡ true → eqb (length W) workWords ≡ false → planningRefused t P W ≡ 5
   unfolding planningRefusal
-  plans-work a b c = rw (eq-eqb (refusal t) 0 a, planningRefusal, b, c)
+  work-decides a b c = rw (eq-eqb (refusal t) 0 a, planningRefusal, b, c)
 
-  plans-gap : (x : Bool) → refusal t ≡ 0 → leb leastPlan (length P) ≡ true → eqb (length W) workWords ≡ true → ltb mostAside (planOf t .g) ≡ x → plans t P W ≡ cond x 6 0
+  gap-decides : (x : Bool) → refusal t ≡ 0 → leb leastPlan (length P) ≡ true → eqb (length W) workWords ≡ true → ltb mostAside (planOf t .g) ≡ x → planningRefused t P W ≡ cond x 6 0
   unfolding planningRefusal
-  plans-gap true a b c d = rw (eq-eqb (refusal t) 0 a, planningRefusal, b, c, d)
-  plans-gap false a b c d = rw (eq-eqb (refusal t) 0 a, planningRefusal, b, c, d)
+  gap-decides true a b c d = rw (eq-eqb (refusal t) 0 a, planningRefusal, b, c, d)
+  gap-decides false a b c d = rw (eq-eqb (refusal t) 0 a, planningRefusal, b, c, d)
 
   pub short-plan : refusal t ≡ 0 → length P < leastPlan → Outcome t P W (refusedBy 5) P W
-  short-plan a b = stays 5 (plans-plan a (lt-leb leastPlan (length P) b)) (omega arith) (omega arith)
+  short-plan a b = stays 5 (plan-decides a (lt-leb leastPlan (length P) b)) (omega arith) (omega arith)
 
   pub wrong-work : refusal t ≡ 0 → leastPlan ≤ length P → (length W ≡ workWords → ⊥) → Outcome t P W (refusedBy 5) P W
-  wrong-work a b c = stays 5 (plans-work a (le-leb leastPlan (length P) b) (ne-eqb (length W) workWords c)) (omega arith) (omega arith)
+  wrong-work a b c = stays 5 (work-decides a (le-leb leastPlan (length P) b) (ne-eqb (length W) workWords c)) (omega arith) (omega arith)
 
   pub many-aside : refusal t ≡ 0 → leastPlan ≤ length P → length W ≡ workWords → mostAside < planOf t .g → Outcome t P W (refusedBy 6) P (replicate workWords 0)
   many-aside a b c d =
-      let e = plans-gap true a (le-leb leastPlan (length P) b) (eq-eqb (length W) workWords c) (lt-ltb mostAside (planOf t .g) d) in
-      record { answer = rw e; plan-is = sym (ap (planAt t P) e); work-is = sym (ap (workAt W) e) }
+      let e = gap-decides true a (le-leb leastPlan (length P) b) (eq-eqb (length W) workWords c) (lt-ltb mostAside (planOf t .g) d) in
+      let z : eqb (planningRefused t P W) 0 ≡ false = ap (λ (k : ℕ). eqb k 0) e in
+      let s : eqb (planningRefused t P W) 6 ≡ true = ap (λ (k : ℕ). eqb k 6) e in
+      record { answer = rw e; plan-is = rw (z, planAfter); work-is = rw (z, workAfter, s) }
 
   pub served : refusal t ≡ 0 → leastPlan ≤ length P → length W ≡ workWords → planOf t .g ≤ mostAside
-      → Outcome t P W (answerAt 0 t) (numbersOf t ++ drop (length (numbersOf t)) P) (replicate workWords 0)
+      → Outcome t P W (answerAt 0 t) (withNumbers t P) (replicate workWords 0)
   served a b c d =
-      let e = plans-gap false a (le-leb leastPlan (length P) b) (eq-eqb (length W) workWords c) (le-ltb mostAside (planOf t .g) d) in
-      record { answer = rw e; plan-is = sym (ap (planAt t P) e); work-is = sym (ap (workAt W) e) }
+      let e = gap-decides false a (le-leb leastPlan (length P) b) (eq-eqb (length W) workWords c) (le-ltb mostAside (planOf t .g) d) in
+      record { answer = rw e; plan-is = rw (e, planAfter); work-is = rw (e, workAfter) }
 
 pub gap-is : (t : List ℕ) → planOf t .g ≡ length (setAsideOf (peeling t))
 unfolding planOf
 gap-is t = refl
 
 pub outcome-as : (t P W : List ℕ) {r s : Answer} {p q v w : List ℕ} → Outcome t P W r p v → s ≡ r → q ≡ p → w ≡ v
-    → (s ≡ planAnswer t P W) × (q ≡ planAfter t P W) × (w ≡ workAfter t P W)
-outcome-as t P W o a b c = (a ∙ o .answer, b ∙ o .plan-is, c ∙ o .work-is)
+    → (s ≡ planAnswer t P W) × ((q ≡ planAfter t P W) × (w ≡ workAfter t P W))
+outcome-as t P W o a b c = (a ∙ o .answer, (b ∙ o .plan-is, c ∙ o .work-is))
 
 -- the same, clause by clause
 pub outcome-of : (t P W : List ℕ) {r s : Answer} {p v : List ℕ} → Outcome t P W r p v → s ≡ r

@@ -25,11 +25,12 @@ use Rattle.plan.specs.Layout.{stepsOf, mostAside, planRefusal, infoCount, stepC
 use Rattle.rule.specs.Rule.{plan, Plan}
 use Rattle.rule.specs.Encoded.{encode}
 use Rattle.rule.specs.OneBlock.{Encodes, block, block-encodes, one-block}
-use Rattle.rule.specs.Info.{info-number, kept-few, getD-has}
+use Rattle.rule.specs.Info.{info-number, kept-few}
+use Rattle.gf2.specs.ListLaws.{getD-has}
 use Rattle.rule.specs.Bound.{adds-most, kept-ones, adds-bound, fitted-number}
 use Rattle.rule.specs.WellFormed.{info-low}
 use Rattle.gf2.specs.Span.{byBool}
-use Rattle.planner.specs.Planning.{planOf, numbersOf, plans, planningRefusal, leastPlan, workWords, planAnswer, planAfter, answerAt as planAnswerAt}
+use Rattle.planner.specs.Planning.{planOf, numbersOf, planningRefused, planningRefusal, leastPlan, workWords, planAnswer, planAfter, answerAt as planAnswerAt}
 use Rattle.encoder.specs.Encoding.{stepsWithin, slotsAfter, encodeRefusal, encodes, encodeAnswer, answerAt, blockAfter, scratchAfter}
 use Rattle.theorems.specs.OwnPlan.{own-info, own-steps, own-places, own-accepted, own-count}
 
@@ -45,7 +46,7 @@ pub record Lent (t information blockBuffer scratchBuffer : List ℕ) (limit : �
   pub info-long : length information ≡ (places t - planOf t .M) * size t
   pub block-long : length blockBuffer ≡ places t * size t
   pub scratch-long : length scratchBuffer ≡ planOf t .g * size t
-  pub all-steps : length (planOf t .list) ≤ limit
+  pub all-steps : length (planOf t .steps) ≤ limit
 
 -- the encoding by the plan p is accepted, its block is as it must be, and no other block is
 pub record TheOneBlock (t p information blockBuffer scratchBuffer : List ℕ) (limit : ℕ) : Type 0 where
@@ -96,12 +97,12 @@ module _ (t : List ℕ) (ok : refusal t ≡ 0) where
   }
 
   module _ (few : planOf t .g ≤ mostAside) where
-    counted : (information b c : List ℕ) (limit : ℕ) → encodeAnswer (numbersOf t) information b c limit .additions ≤ addSteps (planOf t .list)
+    counted : (information b c : List ℕ) (limit : ℕ) → encodeAnswer (numbersOf t) information b c limit .additions ≤ addSteps (planOf t .steps)
     unfolding planOf numbersOf
     counted information b c limit =
         let p = answered (encodes (numbersOf t) information b c limit) (addSteps (stepsWithin (numbersOf t) limit)) in
-        let q : addSteps (stepsWithin (numbersOf t) limit) ≤ addSteps (planOf t .list) =
-        subst (λ l. addSteps (take limit l) ≤ addSteps (planOf t .list)) (sym (own-steps t ok few)) (fewer limit (planOf t .list)) in
+        let q : addSteps (stepsWithin (numbersOf t) limit) ≤ addSteps (planOf t .steps) =
+        subst (λ l. addSteps (take limit l) ≤ addSteps (planOf t .steps)) (sym (own-steps t ok few)) (fewer limit (planOf t .steps)) in
         omega arith
 
     -- demand 3, the bound
@@ -142,7 +143,7 @@ module _ (t : List ℕ) (ok : refusal t ≡ 0) where
       slots-are : slotsAfter (numbersOf t) information limit ≡ encode n s (planOf t) ps
       unfolding planOf numbersOf
       slots-are = ap₂ (λ I l. carryOutAll s (atStart (n + planOf t .g) s I (packets s (infoCount (numbersOf t)) information)) (take limit l)) (own-info t ok few) (own-steps t ok few)
-          ∙ ap₂ (λ c l. carryOutAll s (atStart (n + planOf t .g) s (planOf t .info) (packets s c information)) l) (own-places t ok few) (take-all limit (planOf t .list) (lent .all-steps))
+          ∙ ap₂ (λ c l. carryOutAll s (atStart (n + planOf t .g) s (planOf t .info) (packets s c information)) l) (own-places t ok few) (take-all limit (planOf t .steps) (lent .all-steps))
 
       after : blockAfter (numbersOf t) information blockBuffer scratchBuffer limit ≡ joined (block n s (checks t) ps)
       unfolding planOf numbersOf
@@ -196,7 +197,7 @@ module _ (t : List ℕ) (ok : refusal t ≡ 0) where
 
 -- ---- the calls, one after the other
 -- an accepted planning
-pub accepted-planning : (t planBuffer work : List ℕ) → plans t planBuffer work ≡ 0 → (refusal t ≡ 0) × (planOf t .g ≤ mostAside)
+pub accepted-planning : (t planBuffer work : List ℕ) → planningRefused t planBuffer work ≡ 0 → (refusal t ≡ 0) × (planOf t .g ≤ mostAside)
 unfolding planningRefusal
 accepted-planning t pb w h = byBool (eqb (refusal t) 0)
     (λ a. byBool (leb leastPlan (length pb))
@@ -208,7 +209,7 @@ accepted-planning t pb w h = byBool (eqb (refusal t) 0)
     (λ b. absurd (omega (arith, rw (a, planningRefusal, b) at h))))
     (λ a. absurd (eqb-false (refusal t) 0 a (rw (a, planningRefusal) at h)))
 
-module _ (t planBuffer work : List ℕ) (ok : plans t planBuffer work ≡ 0) where
+module _ (t planBuffer work : List ℕ) (ok : planningRefused t planBuffer work ≡ 0) where
   -- the plan as the planner wrote it
   abbrev pub handed : List ℕ
   handed = take (planAnswer t planBuffer work .length) (planAfter t planBuffer work)

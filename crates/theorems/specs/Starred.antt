@@ -32,7 +32,7 @@ block2 = 0x01 ∷ 0x02 ∷ 0x04 ∷ 0x0e ∷ 0x08 ∷ 0x0b ∷ 0x0d ∷ []
 -- ---- what the calls give, as lists of numbers
 -- the planner: refusal, own places in the order of solving, information places, and M, W, g, additions
 abbrev planned : List ℕ → List (List ℕ)
-planned t = (planningRefusal t leastPlan workWords ∷ []) ∷ planOf t .own ∷ planOf t .info ∷ (planOf t .M ∷ planOf t .W ∷ planOf t .g ∷ addSteps (planOf t .list) ∷ []) ∷ []
+planned t = (planningRefusal t leastPlan workWords ∷ []) ∷ planOf t .own ∷ planOf t .info ∷ (planOf t .M ∷ planOf t .W ∷ planOf t .g ∷ addSteps (planOf t .steps) ∷ []) ∷ []
 
 -- planning and then encoding to the last step: refusal and additions, and the block
 abbrev encoded : List ℕ → List ℕ → List ℕ → List ℕ → List (List ℕ)
@@ -74,7 +74,7 @@ starred =
     -- P9: no information, block 00, 0 additions, bound 0
     ∷ record { given = (planOf table9 .info) ∷ (bound table9 ∷ []) ∷ encoded table9 [] (9 ∷ []) []; paper = [] ∷ (0 ∷ []) ∷ (0 ∷ 0 ∷ []) ∷ (0x00 ∷ []) ∷ [] }
     -- P10: three information places, no step
-    ∷ record { given = (planOf table10 .info) ∷ (length (planOf table10 .list) ∷ []) ∷ []; paper = (0 ∷ 1 ∷ 2 ∷ []) ∷ (0 ∷ []) ∷ [] }
+    ∷ record { given = (planOf table10 .info) ∷ (length (planOf table10 .steps) ∷ []) ∷ []; paper = (0 ∷ 1 ∷ 2 ∷ []) ∷ (0 ∷ []) ∷ [] }
     ∷ []
 
 pub starred-cases : map (λ c. c .given) starred ≡ map (λ c. c .paper) starred
