@@ -19,12 +19,13 @@ use Rattle.gf2.specs.Width.{All, All.nil, All.cons, Zero}
 use Rattle.table.specs.Checks.{check, offset, Places}
 use Rattle.table.specs.Table.{number, places, checks}
 use Rattle.table.specs.TableLaws.{accepted}
-use Rattle.rule.specs.Rule.{Solved, reduce, reduced, owns, restricted, inverse}
+use Rattle.rule.specs.Rule.{Solved, putInAll, reduced, owns, restricted, inverse}
 use Rattle.rule.specs.Buffers.{solved, maskBits, Fitted}
-use Rattle.rule.specs.Info.{getD-has}
+use Rattle.gf2.specs.ListLaws.{getD-has, append-nil, length-rev}
 use Rattle.rule.specs.Inverse.{pow, res-bit-in}
-use Rattle.rule.specs.Main.{ts, az, E, C, F, same, own-zero, dF, ind, good, lens, append-nil, length-rev}
-use Rattle.rule.specs.Val.{lin-comb, valOn-lin, sum-ext-in}
+use Rattle.rule.specs.AllChecksZero.{ts, az, E, C, F, same, own-zero, dF, ind, good, lens}
+use Rattle.gf2.specs.Linear.{lin-comb}
+use Rattle.gf2.specs.RowValue.{valOn-lin, sum-ext-in}
 use Rattle.columns.specs.Dot.{dot}
 use Rattle.columns.specs.Fitting.{Aside, Units, Scan, Ready}
 use Rattle.columns.specs.Cols.{Columns, Taken}
@@ -92,7 +93,7 @@ module _ (n : ℕ) (cs : List (List ℕ)) (d : All Distinct cs) (low : All (λ c
   all-places = choose-some (column EE) (λ p. not (has p (owns (ts n cs d low)))) (λ p e. column-zero p (own-zero n cs d low p (not-false _ e))) [] (below n)
 
   rows-number : length EE ≡ gap
-  rows-number = length-map (az n cs d low) (λ c. reduce (ts n cs d low) (rowOf c))
+  rows-number = length-map (az n cs d low) (λ c. putInAll (ts n cs d low) (rowOf c))
 
   module _ {r : ℕ} {M L : List ℕ} (s : Scan (column EE) (choose XorGroup isZero (column EE) [] (below n)) gap 0 r M L) where
     found : C n cs d low ≡ rev (slice r gap L)
@@ -169,9 +170,9 @@ abbrev Ends : ℕ → List Solved → List (List ℕ) → ℕ → Type 0
 Ends n T Z g = (r : ℕ) (M L : List ℕ) → Scan (column (reduced T Z)) (choose XorGroup isZero (column (reduced T Z)) [] (below n)) g 0 r M L → Fitted n T Z g L M
 
 -- the columns that pushing leaves
-map-reduced : (T : List Solved) (Z : List (List ℕ)) → map (reduce T) (map rowOf Z) ≡ reduced T Z
+map-reduced : (T : List Solved) (Z : List (List ℕ)) → map (putInAll T) (map rowOf Z) ≡ reduced T Z
 map-reduced T [] = refl
-map-reduced T (c ∷ Z) = ap (λ r. reduce T (rowOf c) ∷ r) (map-reduced T Z)
+map-reduced T (c ∷ Z) = ap (λ r. putInAll T (rowOf c) ∷ r) (map-reduced T Z)
 
 pub fits-table : {t : List ℕ} {m n : ℕ} {starts order owns : List ℕ} {taken : ℕ} {aside : List ℕ} {g : ℕ} → Ready t m n starts order owns taken aside g
     → Ends n (solved (check t m) order owns taken) (map (check t m) (take g aside)) g
@@ -228,9 +229,9 @@ module _ {t : List ℕ} {m n : ℕ} {starts order owns : List ℕ} {taken : ℕ}
   Z = map (check t m) (take g aside)
 
   set-aside-number : g ≡ length (reduced T Z)
-  set-aside-number = sym (length-map Z (λ c. reduce T (rowOf c)) ∙ length-map (take g aside) (check t m) ∙ length-take-le g aside (y .chosen .room .1 .1))
+  set-aside-number = sym (length-map Z (λ c. putInAll T (rowOf c)) ∙ length-map (take g aside) (check t m) ∙ length-take-le g aside (y .chosen .room .1 .1))
 
-  pub all-fitted : (col : List ℕ) {r : ℕ} {U N L L′ : List ℕ} → Columns (map (reduce T) (map rowOf Z)) col → Units g U → g ≤ length U → g ≤ length L
+  pub all-fitted : (col : List ℕ) {r : ℕ} {U N L L′ : List ℕ} → Columns (map (putInAll T) (map rowOf Z)) col → Units g U → g ≤ length U → g ≤ length L
       → ((f : ℕ → ℕ) → (W : List ℕ) → ((p : ℕ) → p < n → f p ≡ getD col p 0) → Scan f W g n g U L → Scan f W g 0 r N L′) → Fitted n T Z g L′ N
   all-fitted col {r} {U} {N} {L} {L′} k u lu ll h = fits-table y r N L′
       (h (column (reduced T Z)) (choose XorGroup isZero (column (reduced T Z)) [] (below n)) (λ p l. ap (λ (R : List ℕ). column R p) (sym (map-reduced T Z)) ∙ sym (k .each p))

@@ -16,7 +16,7 @@ use Rattle.rule.specs.Buffers.{solved}
 use Rattle.table.specs.Checks.{check, offset, Places}
 use Rattle.gf2.specs.Bit.{bit, num, bit-adds, eqb-true}
 use Rattle.gf2.specs.Fit.{column}
-use Rattle.rule.specs.Rule.{Solved, put, reduce}
+use Rattle.rule.specs.Rule.{Solved, putIn, putInAll}
 use Rattle.gf2.specs.Places.{has, par, rowOf, bit-row}
 use Rattle.gf2.specs.Span.{byBool}
 use Rattle.live.specs.Live.{Upd}
@@ -57,7 +57,7 @@ push-digit a b true false = xor-block 1 a b 1 0 (omega arith) (omega arith)
 push-digit a b false true = xor-block 1 a b 0 1 (omega arith) (omega arith)
 push-digit a b false false = xor-block 1 a b 0 0 (omega arith) (omega arith)
 
-bit-put : (t : Solved) (p e : ℕ) → bit p (put t e) ≡ bxor (bit p e) (cond (bit p (rowOf (t .check))) (bit (t .own) e) false)
+bit-put : (t : Solved) (p e : ℕ) → bit p (putIn t e) ≡ bxor (bit p e) (cond (bit p (rowOf (t .check))) (bit (t .own) e) false)
 bit-put t p e = byBool (bit (t .own) e)
     (λ h. rw h (bit-adds p (rowOf (t .check)) e ∙ byBool (bit p (rowOf (t .check))) (λ k. rw k (sw (bit p e))) (λ k. rw k (sw′ (bit p e)))))
     (λ h. rw h (byBool (bit p (rowOf (t .check))) (λ k. rw k (sw′ (bit p e))) (λ k. rw k (sw′ (bit p e)))))
@@ -70,52 +70,52 @@ bit-put t p e = byBool (bit (t .own) e)
     sw′ true = refl
     sw′ false = refl
 
-pub column-put : (t : Solved) (E : List ℕ) (p : ℕ) → column (map (put t) E) p ≡ bitXor (column E p) (cond (bit p (rowOf (t .check))) (column E (t .own)) 0)
+pub column-put : (t : Solved) (E : List ℕ) (p : ℕ) → column (map (putIn t) E) p ≡ bitXor (column E p) (cond (bit p (rowOf (t .check))) (column E (t .own)) 0)
 column-put t [] p = byBool (bit p (rowOf (t .check))) (λ k. rw k) (λ k. rw k)
 column-put t (e ∷ E) p = ap₂ (λ (a : ℕ) (b : Bool). a * 2 + num b) (column-put t E p) (bit-put t p e) ∙ byBool (bit p (rowOf (t .check)))
     (λ k. rw k (sym (push-digit (column E p) (column E (t .own)) (bit p e) (bit (t .own) e))))
     (λ k. rw k (sym (push-digit (column E p) 0 (bit p e) false)))
 
 -- ---- the loop
-reduce-snoc : (ts : List Solved) (t : Solved) (e : ℕ) → reduce (ts ++ (t ∷ [])) e ≡ put t (reduce ts e)
+reduce-snoc : (ts : List Solved) (t : Solved) (e : ℕ) → putInAll (ts ++ (t ∷ [])) e ≡ putIn t (putInAll ts e)
 reduce-snoc [] t e = refl
-reduce-snoc (u ∷ ts) t e = reduce-snoc ts t (put u e)
+reduce-snoc (u ∷ ts) t e = reduce-snoc ts t (putIn u e)
 
-map-snoc : (ts : List Solved) (t : Solved) (E : List ℕ) → map (reduce (ts ++ (t ∷ []))) E ≡ map (put t) (map (reduce ts) E)
+map-snoc : (ts : List Solved) (t : Solved) (E : List ℕ) → map (putInAll (ts ++ (t ∷ []))) E ≡ map (putIn t) (map (putInAll ts) E)
 map-snoc ts t [] = refl
 map-snoc ts t (e ∷ E) = ap₂ (λ (x : ℕ) (l : List ℕ). x ∷ l) (reduce-snoc ts t e) (map-snoc ts t E)
 
-map-none : (E : List ℕ) → map (reduce []) E ≡ E
+map-none : (E : List ℕ) → map (putInAll []) E ≡ E
 map-none [] = refl
 map-none (e ∷ E) = ap (λ l. e ∷ l) (map-none E)
 
-pub start : (g : ℕ → List ℕ) (order owns E col : List ℕ) → Columns E col → Columns (map (reduce (solved g order owns 0)) E) col
+pub start : (g : ℕ → List ℕ) (order owns E col : List ℕ) → Columns E col → Columns (map (putInAll (solved g order owns 0)) E) col
 unfolding solved
 start g order owns E col c = rw (map-none E) c
 
 pub turn : (t : List ℕ) (m n j o at wt : ℕ) (order owns E : List ℕ) (k : ℕ) {col d : List ℕ} → Places t (5 + m + offset t j) (getD t (4 + j) 0) n
     → j ≡ getD order k 0 → o ≡ getD owns k 0 → at ≡ 5 + m + offset t j → wt ≡ getD t (4 + j) 0
-    → Columns (map (reduce (solved (check t m) order owns k)) E) col → Upd (λ a. bitXor a (getD col o 0)) col (take wt (drop at t)) d
-    → Columns (map (reduce (solved (check t m) order owns (k + 1))) E) d
+    → Columns (map (putInAll (solved (check t m) order owns k)) E) col → Upd (λ a. bitXor a (getD col o 0)) col (take wt (drop at t)) d
+    → Columns (map (putInAll (solved (check t m) order owns (k + 1))) E) d
 unfolding solved check
 turn t m n j o at wt order owns E k {col} {d} v qj qo qa qw c u =
     let T : Solved = record { own = o; check = take wt (drop at t) } in
-    let R = map (reduce (solved (check t m) order owns k)) E in
+    let R = map (putInAll (solved (check t m) order owns k)) E in
     let same : _≡_ {A = Solved} (record { own = getD owns k 0; check = check t m (getD order k 0) }) T =
     ap₂ (λ (x y : ℕ). record { own = x; check = check t m y }) (sym qo) (sym qj)
     ∙ ap₂ (λ (x y : ℕ). record { own = o; check = take x (drop y t) }) (sym qw) (sym qa) in
-    let list : map (reduce (solved (check t m) order owns (k + 1))) E ≡ map (put T) R =
-    ap (λ (i : ℕ). map (reduce (solved (check t m) order owns i)) E) (add-one k)
-    ∙ ap (λ (x : Solved). map (reduce (solved (check t m) order owns k ++ (x ∷ []))) E) same
+    let list : map (putInAll (solved (check t m) order owns (k + 1))) E ≡ map (putIn T) R =
+    ap (λ (i : ℕ). map (putInAll (solved (check t m) order owns i)) E) (add-one k)
+    ∙ ap (λ (x : Solved). map (putInAll (solved (check t m) order owns k ++ (x ∷ []))) E) same
     ∙ map-snoc (solved (check t m) order owns k) T E in
     let v′ : Places t at wt n = rw (qa, qw) v in
     record {
       each = λ p. byBool (has p (take wt (drop at t)))
           (λ h. let a : getD d p 0 ≡ bitXor (getD col p 0) (getD col o 0) = u .each p ∙ rw h in
-          let b : column (map (put T) R) p ≡ bitXor (column R p) (column R o) = column-put T R p ∙ rw (once t at wt n v′ p, h) in
+          let b : column (map (putIn T) R) p ≡ bitXor (column R p) (column R o) = column-put T R p ∙ rw (once t at wt n v′ p, h) in
           a ∙ ap₂ bitXor (c .each p) (c .each o) ∙ sym (ap (λ (l : List ℕ). column l p) list ∙ b))
           (λ h. let a : getD d p 0 ≡ getD col p 0 = u .each p ∙ rw h in
-          let b : column (map (put T) R) p ≡ column R p = column-put T R p ∙ rw (once t at wt n v′ p, h) (xor-zero-r _) in
+          let b : column (map (putIn T) R) p ≡ column R p = column-put T R p ∙ rw (once t at wt n v′ p, h) (xor-zero-r _) in
           a ∙ c .each p ∙ sym (ap (λ (l : List ℕ). column l p) list ∙ b));
     }
 

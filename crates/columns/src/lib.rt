@@ -4,7 +4,7 @@ ghost use mathlib.Core.List.{List, [], map};
 ghost use Prim.Native.Nat.{ℕ, _+_, _*_, _^_, _≤_, _<_};
 ghost use lib.ListN.{length, getD, take, drop};
 ghost use lib.Bits.{bitXor};
-ghost use Rattle.rule.specs.Rule.{reduce};
+ghost use Rattle.rule.specs.Rule.{putInAll};
 ghost use Rattle.rule.specs.Buffers.{solved, Fitted};
 ghost use Rattle.table.specs.Checks.{check, Places};
 ghost use Rattle.live.specs.Live.{Upd};
@@ -66,7 +66,7 @@ pub fn push_all(
 )
     requires { ⌜ Taken (now t) m (length (now col)) (now starts) (now order) (now owns) taken ⌝ }
     ensures { λ _. ⌜ ((E : List ℕ) → Columns E (now (col .entry))
-        → Columns (map (reduce (solved (check (now (t .entry)) m) (now (order .entry)) (now (owns .entry)) taken)) E) (now (col .exit))) ⌝ }
+        → Columns (map (putInAll (solved (check (now (t .entry)) m) (now (order .entry)) (now (owns .entry)) taken)) E) (now (col .exit))) ⌝ }
 {
     let mut k = 0;
     while k < taken {

@@ -1,18 +1,18 @@
 -- The fitted places in their buffer, and the steps by rows of the inverse: those of the rule.
 use mathlib.Core.Path.{_≡_, refl, ap, ap₂}
 use mathlib.Core.Bool.{Bool}
-use mathlib.Core.List.{List, [], _∷_, _++_}
+use mathlib.Core.List.{List, [], _++_}
 use Prim.Native.Nat.{ℕ, zero, suc, _+_, _<_, _≤_}
 use native.Mathlib.Omega.{arith}
 use lib.ListN.{length, getD, take, drop}
 use lib.Seq.{getD-take, drop-cons, length-take-le}
 use Rattle.gf2.specs.Fit.{column}
+use Rattle.gf2.specs.GreedyLaws.{all-choose}
+use Rattle.gf2.specs.ListLaws.{all-rev}
 use Rattle.gf2.specs.Lists.{below-of, all-filter}
 use Rattle.gf2.specs.Width.{All, All.nil, All.cons}
-use Rattle.rule.specs.Codeword.{all-rev}
-use Rattle.rule.specs.Main.{all-choose}
-use Rattle.rule.specs.Rule.{Solved, clearAndAdd, slotsNamed, fittingSteps, fittedPlaces, reduced}
 use Rattle.rule.specs.Buffers.{maskBits, Fitted}
+use Rattle.rule.specs.Rule.{Solved, clearAndAdd, slotsNamed, fittingSteps, fittedPlaces, reduced}
 use Rattle.emit.specs.Emit.{fittingRows, Below}
 
 all-at : {P : ℕ → Type 0} {l : List ℕ} → All P l → (i : ℕ) → i < length l → P (getD l i 0)

@@ -4,8 +4,8 @@ use mathlib.Core.List.{List, [], _∷_, _++_}
 use Prim.Native.Nat.{ℕ, zero, suc, _+_, _-_, _<_}
 use native.Mathlib.Numerals.{add-one}
 use native.Mathlib.Omega.{arith}
-use lib.ListN.{getD}
 use borrow.Author.Tests.{eq-eqb, ne-eqb}
+use lib.ListN.{getD}
 use Rattle.gf2.specs.Fit.{below}
 use Rattle.gf2.specs.Lists.{rev}
 use Rattle.gf2.specs.Places.{minus}
@@ -18,7 +18,7 @@ unfolding from
 from-snoc i zero = let e : i ≡ i + 0 = omega arith in ap (λ x. x ∷ []) e
 from-snoc i (suc c) = let e : suc i + c ≡ i + suc c = omega arith in ap (λ l. i ∷ l) (from-snoc (suc i) c ∙ ap (λ x. from (suc i) c ++ (x ∷ [])) e)
 
-pub from-below : (n : ℕ) → from 0 n ≡ rev (below n)
+from-below : (n : ℕ) → from 0 n ≡ rev (below n)
 unfolding from
 from-below zero = refl
 from-below (suc n) = let e : 0 + n ≡ n = omega arith in from-snoc 0 n ∙ ap₂ (λ l x. l ++ (x ∷ [])) (from-below n) e

@@ -2,11 +2,12 @@
 use mathlib.Core.Path.{_≡_, refl, sym, ap, ap₂, _∙_}
 use mathlib.Core.Bool.{Bool, not}
 use mathlib.Core.List.{List, [], _∷_, _++_, map}
-use Prim.Native.Nat.{ℕ, _+_, _-_, _<_, _≤_}
+use Prim.Native.Nat.{ℕ, _+_, _<_, _≤_}
 use native.Mathlib.Omega.{arith}
 use lib.ListN.{length, take, replicate, length-replicate, length-map}
 use lib.Seq.{length-take-le}
 use Rattle.gf2.specs.Fit.{below, length-below}
+use Rattle.gf2.specs.ListLaws.{length-rev, append-nil}
 use Rattle.gf2.specs.Lists.{rev}
 use Rattle.gf2.specs.Places.{has, filter, minus}
 use Rattle.gf2.specs.Span.{byBool}
@@ -14,13 +15,12 @@ use Rattle.table.specs.Checks.{check}
 use Rattle.table.specs.Table.{places, number}
 use Rattle.plan.specs.declared.Step.{Step}
 use Rattle.plan.specs.Step.{pack}
-use Rattle.rule.specs.Main.{length-rev, append-nil}
 use Rattle.rule.specs.Rule.{Solved, solvingSteps, scratchSteps, fittingSteps, planSteps, fittedPlaces, inverse, reduced}
 use Rattle.emit.specs.Emit.{Room, WroteSteps, marked, marking, solvedIn, asideIn, solveSteps, wholeSteps, asideSteps, fittingRows, Below, Readable}
-use Rattle.emit.specs.WroteLaws.{packed-append, packed-length, Left, left-all, left-is, left-more, left-steps, left-done}
 use Rattle.emit.specs.MarkLaws.{minus-same, solving-same, scratch-same, none-marked, marked-more, marking-length, below-more}
-use Rattle.compose.proofs.Fitting.{fitting-is, fitted-low}
+use Rattle.emit.specs.WroteLaws.{packed-append, packed-length, Left, left-all, left-is, left-more, left-steps, left-done}
 use Rattle.compose.specs.Compose.{gapSteps, Phases}
+use Rattle.compose.proofs.Fitting.{fitting-is, fitted-low}
 
 -- ---- the information places
 filter-few : (f : ℕ → Bool) (l : List ℕ) → length (filter f l) ≤ length l

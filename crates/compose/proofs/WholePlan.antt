@@ -1,7 +1,7 @@
 -- The whole plan of an accepted table from its phases: its numbers section by section, their limits, and how many steps are clear steps.
 use mathlib.Core.Path.{_≡_, refl, sym, ap, ap₂, _∙_}
 use mathlib.Core.List.{List, [], _∷_, _++_}
-use Prim.Native.Nat.{ℕ, zero, suc, _+_, _-_, _≤_}
+use Prim.Native.Nat.{ℕ, zero, suc, _+_, _≤_}
 use native.Mathlib.Omega.{arith}
 use lib.ListN.{length, getD, take, drop, length-append}
 use lib.Seq.{take-suc, length-take-le}
@@ -14,10 +14,10 @@ use Rattle.plan.specs.declared.Step.{Step}
 use Rattle.plan.specs.Head.{HeadFits}
 use Rattle.plan.specs.Layout.{mostSteps, leastPlan, leastNumbers, planHead, infoNumbers, stepNumbers, planNumbers, infoCountAt}
 use Rattle.plan.specs.Step.{addSteps}
-use Rattle.rule.specs.Accepted.{steps-limit, words-limit, kept-length}
-use Rattle.rule.specs.Rule.{Solved, owns, planSteps, fittedPlaces, solvedOf, setAsideOf, plan}
+use Rattle.rule.specs.Accepted.{steps-limit, numbers-limit, kept-length}
 use Rattle.rule.specs.Buffers.{solved, peeling}
 use Rattle.rule.specs.PlanOf.{planOf, numbersOf}
+use Rattle.rule.specs.Rule.{Solved, owns, planSteps, fittedPlaces, solvedOf, setAsideOf}
 use Rattle.emit.specs.Emit.{Wrote, Room, solvedIn, asideIn}
 use Rattle.emit.specs.WroteLaws.{wrote-is, wrote-length, wrote-append, packed-length}
 use Rattle.compose.specs.Compose.{planStepsIn, clearCount, freePlaces, infoPlaces, Phases, Composable, Composed}
@@ -25,7 +25,7 @@ use Rattle.compose.proofs.ClearSteps.{clears-are}
 use Rattle.compose.proofs.Sections.{aside-length}
 
 -- ---- a list written from the start
-pub wrote-whole : {l ws e : List ℕ} {r : ℕ} → Wrote l 0 ws e r → e ≡ ws ++ drop (length ws) l
+wrote-whole : {l ws e : List ℕ} {r : ℕ} → Wrote l 0 ws e r → e ≡ ws ++ drop (length ws) l
 wrote-whole {l} {ws} w = let z : 0 + length ws ≡ length ws = omega arith in w .list ∙ ap (λ k. ws ++ drop k l) z
 
 -- ---- the solved checks
@@ -63,7 +63,7 @@ module _ {t starts order us : List ℕ} {taken : ℕ} {aside : List ℕ} {g : �
   abbrev pub info : List ℕ
   info = infoPlaces (places t) us taken fs g
 
-  steps-are : planOf t .list ≡ steps
+  steps-are : planOf t .steps ≡ steps
   unfolding planOf
   steps-are = ap₂ (planSteps (places t)) (q .chosen .took) (q .chosen .set-aside)
 
@@ -80,7 +80,7 @@ module _ {t starts order us : List ℕ} {taken : ℕ} {aside : List ℕ} {g : �
   gap-are = ap length (q .chosen .set-aside) ∙ aside-length phases
 
   -- the numbers, section by section
-  pub numbers-are : planNumbers (places t) (size t) g kept info steps ≡ numbersOf t
+  numbers-are : planNumbers (places t) (size t) g kept info steps ≡ numbersOf t
   unfolding numbersOf
   numbers-are = ap₂ (λ x y. planNumbers (places t) (size t) x y info steps) (sym gap-are) (q .number-kept)
       ∙ ap₂ (planNumbers (places t) (size t) (planOf t .g) (planOf t .M)) (sym info-are) (sym steps-are)
@@ -91,10 +91,10 @@ module _ {t starts order us : List ℕ} {taken : ℕ} {aside : List ℕ} {g : �
   steps-few = let d = accepted t (q .accepted) in let f = q .few in
       let h = steps-limit (places t) (checks t) (d .distinct) (d .low) (d .few-ones) (omega (arith, gap-are)) in omega (arith, ap length steps-are)
 
-  pub numbers-few : leastNumbers + length info + length steps ≤ leastPlan
+  numbers-few : leastNumbers + length info + length steps ≤ leastPlan
   unfolding planOf
   numbers-few = let d = accepted t (q .accepted) in let f = q .few in
-      let h = words-limit (places t) (checks t) (d .distinct) (d .low) (d .few-places) (d .few-ones) (omega (arith, gap-are)) in omega (arith, ap length steps-are, ap length info-are)
+      let h = numbers-limit (places t) (checks t) (d .distinct) (d .low) (d .few-places) (d .few-ones) (omega (arith, gap-are)) in omega (arith, ap length steps-are, ap length info-are)
 
   kept-low : kept ≤ mostChecks
   unfolding planOf
@@ -110,7 +110,7 @@ module _ {t starts order us : List ℕ} {taken : ℕ} {aside : List ℕ} {g : �
   }
 
   -- add steps and clear steps
-  pub clears-count : length steps ≡ addSteps (planOf t .list) + clearCount taken g
+  pub clears-count : length steps ≡ addSteps (planOf t .steps) + clearCount taken g
   clears-count =
       let z = aside-length phases in
       let l = solved-length (check t (number t)) order us taken in

@@ -2,7 +2,7 @@
 use mathlib.Core.Path.{_≡_}
 use mathlib.Core.List.{List, _++_}
 use Prim.Native.Nat.{ℕ, zero, suc, _+_, _*_, _≤_}
-use lib.ListN.{length, take, drop}
+use lib.ListN.{length, take}
 use Rattle.gf2.specs.Fit.{below}
 use Rattle.gf2.specs.Lists.{rev}
 use Rattle.gf2.specs.Places.{minus}
@@ -11,9 +11,9 @@ use Rattle.table.specs.Table.{places, number, refusal}
 use Rattle.plan.specs.declared.Step.{Step}
 use Rattle.plan.specs.Layout.{mostAside}
 use Rattle.plan.specs.Step.{addSteps}
-use Rattle.rule.specs.Rule.{Solved, stepsWithGap, fittedPlaces, inverse, reduced, planSteps, Plan}
 use Rattle.rule.specs.Buffers.{maskWidth, Chosen, Fitted}
-use Rattle.rule.specs.PlanOf.{planOf, numbersOf}
+use Rattle.rule.specs.PlanOf.{planOf, numbersOf, withNumbers}
+use Rattle.rule.specs.Rule.{Solved, stepsWithGap, fittedPlaces, inverse, reduced, planSteps}
 use Rattle.emit.specs.Emit.{solvedIn, asideIn, Numbers, Below}
 
 -- ---- the steps
@@ -64,6 +64,6 @@ pub record Composable (t starts order owns : List ℕ) (taken : ℕ) (aside : Li
 
 -- the plan's numbers are written and the rest is kept; their count, and the number of add steps
 pub record Composed (t before after : List ℕ) (count adds : ℕ) : Type 0 where
-  pub list : after ≡ numbersOf t ++ drop (length (numbersOf t)) before
+  pub list : after ≡ withNumbers t before
   pub numbers : count ≡ length (numbersOf t)
-  pub additions : adds ≡ addSteps (planOf t .list)
+  pub additions : adds ≡ addSteps (planOf t .steps)

@@ -12,8 +12,8 @@ use Rattle.gf2.specs.Span.{byBool}
 use Rattle.table.specs.Checks.{check, offset, Places, Checks}
 use Rattle.table.specs.Table.{places, number}
 use Rattle.plan.specs.Step.{pack}
-use Rattle.rule.specs.Rule.{Solved, clearAndAdd, solvingSteps, scratchSteps, slotsNamed}
 use Rattle.rule.specs.Buffers.{solved, maskBits}
+use Rattle.rule.specs.Rule.{Solved, clearAndAdd, solvingSteps, scratchSteps, slotsNamed}
 use Rattle.emit.specs.Emit.{marked, solvedIn, asideIn, fittingRows, Readable}
 use Rattle.emit.specs.MarkLaws.{solving-same, none-marked}
 use Rattle.emit.specs.WroteLaws.{packed-append}
@@ -34,7 +34,7 @@ check-read {t} start weight j r h a b =
     (check-is t (number t) j start weight s b, rw (s, b) (wider (r .each .each j h) (r .each .narrow)))
 
 -- its places are below n
-pub check-low : (t : List ℕ) (n j : ℕ) → Checks t (number t) n → j < number t → (i : ℕ) → i < length (check t (number t) j) → getD (check t (number t) j) i 0 < n
+check-low : (t : List ℕ) (n j : ℕ) → Checks t (number t) n → j < number t → (i : ℕ) → i < length (check t (number t) j) → getD (check t (number t) j) i 0 < n
 unfolding check
 check-low t n j c h i l =
     let p = c .each j h in
@@ -44,7 +44,7 @@ check-low t n j c h i l =
     rw (← part-at t at (getD t (4 + j) 0) i (omega arith)) b
 
 -- a slot above its places is none of them
-pub minus-above : (to : ℕ) (c X : List ℕ) → ((i : ℕ) → i < length c → getD c i 0 < to) → minus c (to ∷ X) ≡ minus c X
+minus-above : (to : ℕ) (c X : List ℕ) → ((i : ℕ) → i < length c → getD c i 0 < to) → minus c (to ∷ X) ≡ minus c X
 minus-above to [] X h = refl
 minus-above to (p ∷ c) X h =
     let ih = minus-above to c X (λ i l. h (suc i) (omega arith)) in

@@ -6,14 +6,14 @@ use Prim.Native.Nat.{ℕ, suc, _+_, _-_, _/_, _%_, _^_, _<_}
 use native.Mathlib.Nat.{div-div-eq-div-mul, div-one, pow-suc}
 use native.Mathlib.Numerals.{add-one}
 use native.Mathlib.Omega.{arith}
-use lib.Dec.{eqb}
 use lib.Bits.{bitAnd, and-mask}
+use lib.Dec.{eqb}
 use Rattle.gf2.specs.Bit.{bit, odd, eqb-true, eqb-false}
 use Rattle.gf2.specs.Span.{byBool}
 use Rattle.plan.specs.declared.Step.the-variants.{Add}
 use Rattle.plan.specs.Step.{pack}
-use Rattle.rule.specs.Rule.{slotsNamed}
 use Rattle.rule.specs.Buffers.{maskBits}
+use Rattle.rule.specs.Rule.{slotsNamed}
 
 -- the add steps of the slots from number i on
 abbrev pub named : ℕ → ℕ → ℕ → ℕ → ℕ → List ℕ

@@ -4,9 +4,9 @@ use mathlib.Core.List.{List, _∷_, map}
 use Prim.Native.Nat.{ℕ, _+_, _<_, _≤_}
 use native.Mathlib.Numerals.{add-one}
 use native.Mathlib.Omega.{arith}
+use borrow.Author.Tests.{eq-eqb, ne-eqb}
 use lib.ListN.{length, getD, take, drop, length-drop, length-map}
 use lib.Seq.{drop-cons, getD-take, getD-drop, length-take-le}
-use borrow.Author.Tests.{eq-eqb, ne-eqb}
 use Rattle.gf2.specs.Places.{minus}
 use Rattle.plan.specs.declared.Step.the-variants.{Add}
 use Rattle.plan.specs.Step.{pack}

@@ -3,8 +3,8 @@
 use mathlib.Core.Path.{_≡_}
 use mathlib.Core.List.{List, [], _∷_, _++_, map}
 use Prim.Native.Nat.{ℕ, zero, suc, _+_, _<_, _≤_}
-use lib.ListN.{length, getD, set, take}
 use lib.Dec.{eqb}
+use lib.ListN.{length, getD, set, take}
 use Rattle.gf2.specs.Lists.{rev}
 use Rattle.gf2.specs.Places.{filter, minus}
 use Rattle.table.specs.Checks.{check, from, Checks, Starts}
@@ -12,8 +12,8 @@ use Rattle.table.specs.Packets.{written}
 use Rattle.table.specs.Table.{mostPlaces, places, number}
 use Rattle.plan.specs.declared.Step.{Step}
 use Rattle.plan.specs.Step.{pack}
-use Rattle.rule.specs.Rule.{Solved, clearAndAdd, solvingSteps, scratchSteps, slotsNamed}
 use Rattle.rule.specs.Buffers.{solved, maskBits}
+use Rattle.rule.specs.Rule.{Solved, clearAndAdd, solvingSteps, scratchSteps, slotsNamed}
 
 -- ---- a list in a longer buffer
 -- e is l with ws from at on, and r the next place

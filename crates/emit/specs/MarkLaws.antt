@@ -2,18 +2,18 @@
 use mathlib.Core.Path.{_≡_, refl, sym, ap, ap₂, _∙_}
 use mathlib.Core.Bool.{Bool, true, false, _||_}
 use mathlib.Core.List.{List, [], _∷_, _++_}
-use Prim.Native.Nat.{ℕ, zero, suc, _+_, _-_, _<_, _≤_}
+use Prim.Native.Nat.{ℕ, zero, suc, _+_, _<_, _≤_}
 use native.Mathlib.Omega.{arith}
+use borrow.Author.Tests.{eq-eqb, ne-eqb, ltb-true, ltb-false}
 use lib.Dec.{eqb, ltb}
 use lib.ListN.{length, getD, set, take, replicate, length-set, List·getD-eq-default}
 use lib.Seq.{getD-set-same, getD-set-other, getD-take, length-take-le}
-use borrow.Author.Tests.{eq-eqb, ne-eqb, ltb-true, ltb-false}
 use Rattle.gf2.specs.Bit.{eqb-true, eqb-false}
+use Rattle.gf2.specs.ListLaws.{has-kept}
 use Rattle.gf2.specs.Lists.{getD-zeros}
 use Rattle.gf2.specs.Places.{has, minus, has-filter}
 use Rattle.gf2.specs.Span.{byBool}
 use Rattle.table.specs.Checks.{from}
-use Rattle.rule.specs.Info.{has-kept}
 use Rattle.rule.specs.Rule.{Solved, clearAndAdd, solvingSteps, scratchSteps}
 use Rattle.emit.specs.Emit.{marked, marking, Below}
 
@@ -85,7 +85,7 @@ has-append p (q ∷ a) b = ap (λ r. eqb p q || r) (has-append p a b) ∙ or-ass
     or-assoc true y z = refl
     or-assoc false y z = refl
 
-pub below-taken : {n : ℕ} {ps : List ℕ} {k : ℕ} → Below n ps k → (i : ℕ) → i < length (take k ps) → getD (take k ps) i 0 < n
+below-taken : {n : ℕ} {ps : List ℕ} {k : ℕ} → Below n ps k → (i : ℕ) → i < length (take k ps) → getD (take k ps) i 0 < n
 below-taken {n} {ps} {k} b i h = let l = length-take-le k ps (b .room) in rw (getD-take k ps i 0 (omega arith)) (b .each i (omega arith))
 
 -- the places marked before, and those marked now

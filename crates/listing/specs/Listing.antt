@@ -13,7 +13,7 @@ use Rattle.plan_text.specs.PlanText.{planText, refusedLine}
 unfoldable pub tableText : List ℕ → List ℕ
 tableText t =
     elim (eqb (planningRefusal t leastPlan workWords) 0) [
-      | true ↦ planText (places t) (size t) (planOf t .M) (planOf t .W) (planOf t .g) (planOf t .info) (planOf t .list)
+      | true ↦ planText (places t) (size t) (planOf t .M) (planOf t .W) (planOf t .g) (planOf t .info) (planOf t .steps)
       | false ↦ refusedLine (planningRefusal t leastPlan workWords)
     ]
 

@@ -28,7 +28,7 @@ ones-few t ok = let a = kept-weight (places t) (checks t) in let b = accepted t 
 
 -- the text of an accepted table is that of its plan's numbers
 pub own-text : (t : List ℕ) → refusal t ≡ 0 → planOf t .g ≤ mostAside
-    → planTextOf (numbersOf t) (planOf t .W) ≡ planText (places t) (size t) (planOf t .M) (planOf t .W) (planOf t .g) (planOf t .info) (planOf t .list)
+    → planTextOf (numbersOf t) (planOf t .W) ≡ planText (places t) (size t) (planOf t .M) (planOf t .W) (planOf t .g) (planOf t .info) (planOf t .steps)
 unfolding numbersOf
 own-text t ok few = ap₂ (planText (places t) (size t) (planOf t .M) (planOf t .W) (planOf t .g)) (own-info t ok few) (own-steps t ok few)
 

@@ -13,11 +13,11 @@ use lib.Seq.{drop-cons}
 use Rattle.gf2.specs.Lists.{allPass}
 use Rattle.gf2.specs.Places.{has}
 use Rattle.gf2.specs.Span.{byBool}
+use Rattle.table.specs.Table.{rising}
 use Rattle.plan.specs.declared.Decoded.the-variants.{Valid, Invalid}
 use Rattle.plan.specs.declared.Step.{Step}
 use Rattle.plan.specs.declared.Step.the-variants.{Clear, Add}
 use Rattle.plan.specs.Layout.{goodStep, infoIn, stepsIn, slots, planRefusal, badCounts, planPlaces, planGap, stepsAt}
-use Rattle.table.specs.Table.{rising}
 use Rattle.plan.specs.LookOver.{Marks, isMarked, writable, goodStepBy}
 use Rattle.plan.specs.Step.{unpack, decodedOf}
 

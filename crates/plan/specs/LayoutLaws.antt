@@ -142,7 +142,7 @@ abbrev pub Leaves : List ℕ → Step → Type 0
 Leaves I (Clear to) = has to I ≡ false
 Leaves I (Add to from) = has to I ≡ false
 
-abbrev pub Apart : Step → Type 0
+abbrev Apart : Step → Type 0
 Apart (Clear to) = Unit
 Apart (Add to from) = to ≡ from → ⊥
 
@@ -177,7 +177,7 @@ sound-slots k I (Clear to) h r = let b = r .below in omega arith
 sound-slots k I (Add to from) h r = let b = r .below in (omega arith, omega arith)
 
 -- a number that is a step gives it
-pub unpackAll-cons : (w : ℕ) (ws : List ℕ) (x : Step) → unpack w ≡ some x → unpackAll (w ∷ ws) ≡ x ∷ unpackAll ws
+unpackAll-cons : (w : ℕ) (ws : List ℕ) (x : Step) → unpack w ≡ some x → unpackAll (w ∷ ws) ≡ x ∷ unpackAll ws
 unpackAll-cons w ws x e = rw (e, unpackAll)
 
 -- numbers that all are such steps
@@ -186,22 +186,22 @@ module _ (k : ℕ) (I : List ℕ) where
   allGood ws = allPass (λ x. goodStep k I (unpack x)) ws
 
   -- a number that passes is a step
-  pub good-some : (o : Option Step) → goodStep k I o ≡ true → (x : Step) × (o ≡ some x)
+  good-some : (o : Option Step) → goodStep k I o ≡ true → (x : Step) × (o ≡ some x)
   good-some none h = absurd (false≢true h)
   good-some (some x) h = (x, refl)
 
   -- one step a number
-  pub unpacks : (w : ℕ) (ws : List ℕ) → goodStep k I (unpack w) ≡ true → (x : Step) × ((unpack w ≡ some x) × (unpackAll (w ∷ ws) ≡ x ∷ unpackAll ws))
+  unpacks : (w : ℕ) (ws : List ℕ) → goodStep k I (unpack w) ≡ true → (x : Step) × ((unpack w ≡ some x) × (unpackAll (w ∷ ws) ≡ x ∷ unpackAll ws))
   unpacks w ws h = let r = good-some (unpack w) h in (r .0, (r .1, unpackAll-cons w ws (r .0) (r .1)))
 
-  pub unpackAll-length : (ws : List ℕ) → allGood ws ≡ true → length (unpackAll ws) ≡ length ws
+  unpackAll-length : (ws : List ℕ) → allGood ws ≡ true → length (unpackAll ws) ≡ length ws
   unpackAll-length [] h = refl
   unpackAll-length (w ∷ ws) h =
       ap length (unpacks w ws (and-left (goodStep k I (unpack w)) (allGood ws) h) .1 .1)
       ∙ ap suc (unpackAll-length ws (and-right (goodStep k I (unpack w)) (allGood ws) h))
 
   -- the i-th number is the i-th step
-  pub unpackAll-at : (d : Step) (ws : List ℕ) → allGood ws ≡ true → (i : ℕ) → i < length ws → unpack (getD ws i 0) ≡ some (getD (unpackAll ws) i d)
+  unpackAll-at : (d : Step) (ws : List ℕ) → allGood ws ≡ true → (i : ℕ) → i < length ws → unpack (getD ws i 0) ≡ some (getD (unpackAll ws) i d)
   unpackAll-at d [] h i l = absurd (omega arith)
   unpackAll-at d (w ∷ ws) h zero l =
       let r = unpacks w ws (and-left (goodStep k I (unpack w)) (allGood ws) h) in
@@ -211,7 +211,7 @@ module _ (k : ℕ) (I : List ℕ) where
       unpackAll-at d ws (and-right (goodStep k I (unpack w)) (allGood ws) h) i (omega arith)
       ∙ ap (λ (xs : List Step). some (getD xs (suc i) d)) (sym (r .1 .1))
 
-  pub good-at : (ws : List ℕ) → allGood ws ≡ true → (i : ℕ) → i < length ws → goodStep k I (unpack (getD ws i 0)) ≡ true
+  good-at : (ws : List ℕ) → allGood ws ≡ true → (i : ℕ) → i < length ws → goodStep k I (unpack (getD ws i 0)) ≡ true
   good-at [] h i l = absurd (omega arith)
   good-at (w ∷ ws) h zero l = and-left (goodStep k I (unpack w)) (allGood ws) h
   good-at (w ∷ ws) h (suc i) l = good-at ws (and-right (goodStep k I (unpack w)) (allGood ws) h) i (omega arith)
@@ -246,16 +246,12 @@ module _ (w : List ℕ) (f : Formed w) where
   pub info-length : length (infoIn w) ≡ infoCount w
   info-length = info-long w (let c = f .counts in omega arith)
 
-  pub steps-in : length (stepsIn w) ≡ stepCount w
+  steps-in : length (stepsIn w) ≡ stepCount w
   steps-in = let c = f .counts in let d = length-drop (stepsAt w) w in omega arith
 
   -- every information place is below n
   pub info-below : (k : ℕ) → k < infoCount w → getD (infoIn w) k 0 < planPlaces w
   info-below k l = rising-at (planPlaces w) 0 (infoIn w) (f .rises) k (let e = info-length in omega arith) .1
-
-  -- and they ascend
-  pub info-order : (i k : ℕ) → i < k → k < infoCount w → getD (infoIn w) i 0 < getD (infoIn w) k 0
-  info-order i k l m = rising-order (planPlaces w) 0 (infoIn w) (f .rises) i k l (let e = info-length in omega arith)
 
   -- one step a number
   pub steps-length : length (stepsOf w) ≡ stepCount w

@@ -1,8 +1,11 @@
+pub mod AtStart
+pub mod ByteByByte
 pub mod Head
 pub mod Layout
 pub mod LayoutLaws
 pub mod LookOver
 pub mod ReadBack
+pub mod Run
 pub mod Step
 pub mod StepLaws
 pub mod Steps

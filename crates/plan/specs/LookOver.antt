@@ -22,6 +22,10 @@ abbrev pub badLimits : List ℕ → Bool
 badLimits w = outside mostPlaces (planPlaces w) || (outside mostBytes (planSize w) || (ltb mostAside (planGap w) || (ltb (planKept w) (planGap w)
     || (ltb (planPlaces w) (planKept w) || (ltb mostChecks (planKept w) || badLengths w)))))
 
+-- places and scratch slots
+abbrev pub mostSlots : ℕ
+mostSlots = mostPlaces + mostAside
+
 -- a marked slot
 abbrev pub isMarked : List ℕ → ℕ → Bool
 isMarked marks p = eqb (getD marks p 0) 1

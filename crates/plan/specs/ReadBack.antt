@@ -1,19 +1,20 @@
 -- A plan's numbers, once written, are read back: the information places, the counts and the steps.
 use mathlib.Core.Path.{_≡_, refl, sym, ap, _∙_}
-use mathlib.Core.Bool.{Bool, true, false, _&&_}
+use mathlib.Core.Bool.{true}
 use mathlib.Core.List.{List, [], _∷_, _++_, map, append-assoc}
 use mathlib.Core.Option.{some}
 use Prim.Native.Nat.{ℕ, _+_, _≤_}
 use native.Mathlib.Omega.{arith}
-use lib.ListN.{length, getD, drop, length-append, length-map}
+use lib.ListN.{length, drop, length-append, length-map}
 use lib.Seq.{take-at, drop-at, getD-at}
 use Rattle.gf2.specs.Width.{All, All.nil, All.cons}
 use Rattle.plan.specs.declared.Step.{Step}
-use Rattle.plan.specs.Layout.{leastNumbers, planHead, infoNumbers, stepNumbers, planNumbers, infoAt, infoIn, stepCount, stepsAt, stepsIn, goodStep}
+use Rattle.plan.specs.Layout.{leastNumbers, planHead, infoNumbers, stepNumbers, planNumbers, infoAt, infoIn, stepCount, stepsIn, goodStep}
 use Rattle.plan.specs.LayoutLaws.{Sound, sound-good, sound-slots, allGood}
 use Rattle.plan.specs.Step.{pack, unpack, unpackAll}
 use Rattle.plan.specs.StepLaws.{unpack-pack}
 
+-- ---- the three sections
 module _ (n s g M : ℕ) (info : List ℕ) (steps : List Step) where
   abbrev numbers : List ℕ
   numbers = planNumbers n s g M info steps

@@ -1,7 +1,7 @@
 -- What the steps give (document 01, "What the steps give, written out"): n + g slots of s bytes.
 use mathlib.Core.List.{List, [], _∷_}
-use Prim.Native.Nat.{ℕ, _+_}
-use lib.ListN.{length, getD, set, replicate, take, drop}
+use Prim.Native.Nat.{ℕ}
+use lib.ListN.{getD, set, replicate}
 use Rattle.gf2.specs.Group.{XorGroup}
 use Rattle.gf2.specs.Vectors.{add}
 use Rattle.plan.specs.declared.Step.{Step}

@@ -75,7 +75,7 @@ pub const MOST_ASIDE: usize = 32;
 pub const MOST_STEPS: usize = 13344;
 
 // places and scratch slots
-const MOST_SLOTS: usize = 1056;
+const MOST_SLOTS: usize = MOST_PLACES + MOST_ASIDE;
 
 // ---- the layout
 // the first number: how many follow it in the first section
@@ -162,7 +162,8 @@ pub fn steps_at(w: &[u32]) -> usize
 
 // the k-th information place
 pub fn info_place(w: &[u32], k: usize) -> usize
-    requires { ⌜ (k < infoCount (now w)) × (infoAt + infoCount (now w) ≤ length (now w)) ⌝ }
+    requires number { ⌜ k < infoCount (now w) ⌝ }
+    requires places { ⌜ infoAt + infoCount (now w) ≤ length (now w) ⌝ }
     ensures { λ r. ⌜ r ≡ getD (infoIn (now (w .entry))) k 0 ⌝ }
 {
     wide(w[INFO_AT + k])
@@ -177,7 +178,8 @@ fn beyond(most: usize, x: usize) -> bool
 
 // wrong counts or length, over 13,344 steps
 fn bad_lengths(w: &[u32]) -> bool
-    requires { ⌜ (leastNumbers ≤ length (now w)) × (planKept (now w) ≤ planPlaces (now w)) ⌝ }
+    requires counts { ⌜ leastNumbers ≤ length (now w) ⌝ }
+    requires kept { ⌜ planKept (now w) ≤ planPlaces (now w) ⌝ }
     ensures { λ r. ⌜ r ≡ badLengths (now (w .entry)) ⌝ }
 {
     if info_count(w) != places(w) - kept(w) {
@@ -222,7 +224,10 @@ fn bad_counts(w: &[u32]) -> bool
 
 // Marks the information places, a byte a slot; false where one is not below n or does not ascend.
 fn mark_places(w: &[u32], n: usize, marks: &mut [u8]) -> bool
-    requires { ⌜ (leastNumbers ≤ length (now w)) × (infoAt + infoCount (now w) ≤ length (now w)) × (n ≤ length (now marks)) × Marks [] (now marks) ⌝ }
+    requires counts { ⌜ leastNumbers ≤ length (now w) ⌝ }
+    requires places { ⌜ infoAt + infoCount (now w) ≤ length (now w) ⌝ }
+    requires room { ⌜ n ≤ length (now marks) ⌝ }
+    requires unmarked { ⌜ Marks [] (now marks) ⌝ }
     ensures { λ r. ⌜ Marking n (infoIn (now (w .entry))) r (now (marks .exit)) ⌝ }
 {
     let count = info_count(w);
@@ -286,7 +291,8 @@ fn good_number(k: usize, marks: &[u8], word: u32) -> bool
 
 // all numbers from at on
 fn good_steps(k: usize, marks: &[u8], w: &[u32], at: usize) -> bool
-    requires { ⌜ (k ≤ length (now marks)) × (at ≤ length (now w)) ⌝ }
+    requires marks { ⌜ k ≤ length (now marks) ⌝ }
+    requires start { ⌜ at ≤ length (now w) ⌝ }
     ensures { λ r. ⌜ r ≡ allPass (λ x. goodStepBy k (isMarked (now (marks .entry))) (unpack x)) (drop at (now (w .entry))) ⌝ }
 {
     let mut i = at;

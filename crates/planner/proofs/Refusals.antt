@@ -1,36 +1,20 @@
 -- The causes of the planner, in their order, and what each leaves.
-use mathlib.Core.Path.{_≡_, refl, sym, ap, ap₂, _∙_, subst}
-use mathlib.Core.Bool.{Bool, true, false}
-use mathlib.Core.List.{List, [], _∷_, _++_}
-use Prim.Native.Nat.{ℕ, zero, suc, _+_, _<_, _≤_}
+use mathlib.Core.Path.{_≡_, refl, sym, ap, _∙_}
+use mathlib.Core.Bool.{true, false}
+use mathlib.Core.List.{List}
+use Prim.Native.Nat.{ℕ, zero, suc, _<_, _≤_}
 use native.Mathlib.Omega.{arith}
 use borrow.Author.Tests.{ne-eqb, lt-ltb, le-ltb}
 use lib.Dec.{eqb}
-use lib.ListN.{length, drop, replicate}
+use lib.ListN.{length, replicate}
 use Rattle.table.specs.Table.{refusal}
 use Rattle.table.specs.TableLaws.{refusal-small}
 use Rattle.plan.specs.Layout.{mostAside, leastPlan}
 use Rattle.rule.specs.Buffers.{peeling}
+use Rattle.rule.specs.PlanOf.{planOf, withNumbers}
 use Rattle.rule.specs.Rule.{setAsideOf}
-use Rattle.planner.specs.Planning.{workWords, planOf, numbersOf, refusedBy, answerAt, plans, planAnswer, planAfter, workAfter, Answer}
+use Rattle.planner.specs.Planning.{workWords, refusedBy, answerAt, planningRefused, planAnswer, planAfter, workAfter, Answer}
 use Rattle.planner.specs.PlanningLaws.{table-refused, plan-short, work-wrong, gap-decides}
-
--- by the number of the cause
-abbrev planAt : List ℕ → List ℕ → ℕ → List ℕ
-planAt t P r = elim (eqb r 0) [ true ↦ numbersOf t ++ drop (length (numbersOf t)) P | false ↦ P ]
-
-abbrev workAt : List ℕ → ℕ → List ℕ
-workAt W r = elim (eqb r 0) [
-  | true ↦ replicate workWords 0
-  | false ↦
-      elim (eqb r 6) [ true ↦ replicate workWords 0 | false ↦ W ]
-]
-
-plan-kept : (t P : List ℕ) (r : ℕ) → eqb r 0 ≡ false → planAt t P r ≡ P
-plan-kept t P r h = rw (h, planAt)
-
-work-kept : (W : List ℕ) (r : ℕ) → eqb r 0 ≡ false → eqb r 6 ≡ false → workAt W r ≡ W
-work-kept W r h k = rw (h, workAt, k)
 
 -- the call as it answers r, and leaves the plan and the work
 pub record Outcome (t P W : List ℕ) (r : Answer) (plan work : List ℕ) : Type 0 where
@@ -39,13 +23,12 @@ pub record Outcome (t P W : List ℕ) (r : Answer) (plan work : List ℕ) : Type
   pub work-is : work ≡ workAfter t P W
 
 module _ (t P W : List ℕ) where
-  stays : (r : ℕ) → plans t P W ≡ r → 0 < r → r < 6 → Outcome t P W (refusedBy r) P W
+  stays : (r : ℕ) → planningRefused t P W ≡ r → 0 < r → r < 6 → Outcome t P W (refusedBy r) P W
   stays zero e a b = absurd (omega arith)
-  stays (suc r) e a b = record {
-    answer = rw e;
-    plan-is = sym (ap (planAt t P) e ∙ plan-kept t P (suc r) (ne-eqb (suc r) 0 (λ (q : suc r ≡ 0). omega arith)));
-    work-is = sym (ap (workAt W) e ∙ work-kept W (suc r) (ne-eqb (suc r) 0 (λ (q : suc r ≡ 0). omega arith)) (ne-eqb (suc r) 6 (λ (q : suc r ≡ 6). omega arith)));
-  }
+  stays (suc r) e a b =
+      let z : eqb (planningRefused t P W) 0 ≡ false = ap (λ (k : ℕ). eqb k 0) e ∙ ne-eqb (suc r) 0 (λ (q : suc r ≡ 0). omega arith) in
+      let s : eqb (planningRefused t P W) 6 ≡ false = ap (λ (k : ℕ). eqb k 6) e ∙ ne-eqb (suc r) 6 (λ (q : suc r ≡ 6). omega arith) in
+      record { answer = rw e; plan-is = rw (z, planAfter); work-is = rw (z, workAfter, s) }
 
   pub by-table : (r : ℕ) → r ≡ refusal t → (r ≡ 0 → ⊥) → Outcome t P W (refusedBy r) P W
   by-table r e h =
@@ -65,21 +48,23 @@ module _ (t P W : List ℕ) where
   pub many-aside : refusal t ≡ 0 → leastPlan ≤ length P → length W ≡ workWords → mostAside < planOf t .g → Outcome t P W (refusedBy 6) P (replicate workWords 0)
   many-aside a b c d =
       let e = gap-decides t (length P) (length W) true a b c (lt-ltb mostAside (planOf t .g) d) in
-      record { answer = rw e; plan-is = sym (ap (planAt t P) e); work-is = sym (ap (workAt W) e) }
+      let z : eqb (planningRefused t P W) 0 ≡ false = ap (λ (k : ℕ). eqb k 0) e in
+      let s : eqb (planningRefused t P W) 6 ≡ true = ap (λ (k : ℕ). eqb k 6) e in
+      record { answer = rw e; plan-is = rw (z, planAfter); work-is = rw (z, workAfter, s) }
 
   pub served : refusal t ≡ 0 → leastPlan ≤ length P → length W ≡ workWords → planOf t .g ≤ mostAside
-      → Outcome t P W (answerAt 0 t) (numbersOf t ++ drop (length (numbersOf t)) P) (replicate workWords 0)
+      → Outcome t P W (answerAt 0 t) (withNumbers t P) (replicate workWords 0)
   served a b c d =
       let e = gap-decides t (length P) (length W) false a b c (le-ltb mostAside (planOf t .g) d) in
-      record { answer = rw e; plan-is = sym (ap (planAt t P) e); work-is = sym (ap (workAt W) e) }
+      record { answer = rw e; plan-is = rw (e, planAfter); work-is = rw (e, workAfter) }
 
 pub gap-is : (t : List ℕ) → planOf t .g ≡ length (setAsideOf (peeling t))
 unfolding planOf
 gap-is t = refl
 
 pub outcome-as : (t P W : List ℕ) {r s : Answer} {p q v w : List ℕ} → Outcome t P W r p v → s ≡ r → q ≡ p → w ≡ v
-    → (s ≡ planAnswer t P W) × (q ≡ planAfter t P W) × (w ≡ workAfter t P W)
-outcome-as t P W o a b c = (a ∙ o .answer, b ∙ o .plan-is, c ∙ o .work-is)
+    → (s ≡ planAnswer t P W) × ((q ≡ planAfter t P W) × (w ≡ workAfter t P W))
+outcome-as t P W o a b c = (a ∙ o .answer, (b ∙ o .plan-is, c ∙ o .work-is))
 
 -- the same, clause by clause
 pub outcome-of : (t P W : List ℕ) {r s : Answer} {p v : List ℕ} → Outcome t P W r p v → s ≡ r

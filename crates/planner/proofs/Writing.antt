@@ -1,24 +1,22 @@
 -- The counts of a plan fit 32 bits, and the answer is the rule's.
-use mathlib.Core.Path.{_≡_, refl, sym, ap, ap₂, _∙_, subst}
-use mathlib.Core.List.{List, [], _∷_, _++_, map}
-use Prim.Native.Nat.{ℕ, zero, suc, _+_, _<_, _≤_}
+use mathlib.Core.Path.{_≡_, refl, sym, _∙_, subst}
+use mathlib.Core.List.{List, [], _∷_, map}
+use Prim.Native.Nat.{ℕ, _+_, _≤_}
 use native.Mathlib.Omega.{arith}
-use lib.ListN.{length, take, drop}
-use Rattle.table.specs.Table.{mostChecks, mostOnes, places, size, checks, ones, refusal}
-use Rattle.table.specs.TableLaws.{accepted}
-use Rattle.plan.specs.Layout.{mostAside, leastPlan, leastNumbers}
-use Rattle.plan.specs.Step.{addSteps}
-use Rattle.plan.specs.declared.Step.{Step}
-use Rattle.plan.specs.declared.Step.the-variants.{Clear, Add}
-use Rattle.rule.specs.Accepted.{words-limit, kept-length, kept-weight}
-use Rattle.plan.specs.ReadBack.{numbers-length}
-use Rattle.rule.specs.PlanOf.{planOf, numbersOf}
-use Rattle.rule.specs.Rule.{kept, setAsideOf, plan}
-use Rattle.rule.specs.Buffers.{peeling}
+use lib.ListN.{length, take}
 use Rattle.table.specs.Checks.{check, Starts}
 use Rattle.table.specs.ChecksLaws.{each-check}
-use Rattle.table.specs.Table.{number}
-use Rattle.rule.specs.Buffers.{solved, Fitted}
+use Rattle.table.specs.Table.{mostChecks, mostOnes, places, size, checks, ones, refusal, number}
+use Rattle.table.specs.TableLaws.{accepted}
+use Rattle.plan.specs.declared.Step.{Step}
+use Rattle.plan.specs.declared.Step.the-variants.{Clear, Add}
+use Rattle.plan.specs.Layout.{mostAside, leastPlan, leastNumbers}
+use Rattle.plan.specs.ReadBack.{numbers-length}
+use Rattle.plan.specs.Step.{addSteps}
+use Rattle.rule.specs.Accepted.{numbers-limit, kept-length, kept-weight}
+use Rattle.rule.specs.Buffers.{peeling, solved, Fitted}
+use Rattle.rule.specs.PlanOf.{planOf, numbersOf, withNumbers}
+use Rattle.rule.specs.Rule.{kept, setAsideOf}
 use Rattle.peel.specs.Choice.{ChoiceOf}
 use Rattle.columns.specs.Fitting.{Ready}
 use Rattle.compose.specs.Compose.{Composable, Composed}
@@ -30,7 +28,7 @@ adds-few (Clear to ∷ xs) = let h = adds-few xs in omega arith
 adds-few (Add to from ∷ xs) = let h = adds-few xs in omega arith
 
 -- six numbers make the answer
-pub same-answer : {r l k o g d r′ l′ k′ o′ g′ d′ : ℕ} → r ≡ r′ → l ≡ l′ → k ≡ k′ → o ≡ o′ → g ≡ g′ → d ≡ d′
+same-answer : {r l k o g d r′ l′ k′ o′ g′ d′ : ℕ} → r ≡ r′ → l ≡ l′ → k ≡ k′ → o ≡ o′ → g ≡ g′ → d ≡ d′
     → _≡_ {A = Answer} (record { refusal = r; length = l; kept = k; ones = o; gap = g; additions = d })
     (record { refusal = r′; length = l′; kept = k′; ones = o′; gap = g′; additions = d′ })
 same-answer a b c d e f = cc
@@ -53,20 +51,20 @@ module _ (t : List ℕ) (ok : refusal t ≡ 0) where
   unfolding planOf
   kept-few = let a = kept-length (places t) (checks t) in let b = accepted t ok .few-checks in omega arith
 
-  pub ones-few : planOf t .W ≤ mostOnes
+  ones-few : planOf t .W ≤ mostOnes
   unfolding planOf
   ones-few = let a = kept-weight (places t) (checks t) in let b = accepted t ok .few-ones in omega arith
 
-  words : planOf t .g ≤ mostAside → leastNumbers + length (planOf t .info) + length (planOf t .list) ≤ leastPlan
+  words : planOf t .g ≤ mostAside → leastNumbers + length (planOf t .info) + length (planOf t .steps) ≤ leastPlan
   unfolding planOf
-  words h = let a = accepted t ok in words-limit (places t) (checks t) (a .distinct) (a .low) (a .few-places) (a .few-ones) h
+  words h = let a = accepted t ok in numbers-limit (places t) (checks t) (a .distinct) (a .low) (a .few-places) (a .few-ones) h
 
-  pub length-few : planOf t .g ≤ mostAside → length (numbersOf t) ≤ leastPlan
+  length-few : planOf t .g ≤ mostAside → length (numbersOf t) ≤ leastPlan
   unfolding numbersOf
-  length-few h = let a = numbers-length (places t) (size t) (planOf t .g) (planOf t .M) (planOf t .info) (planOf t .list) in let b = words h in omega arith
+  length-few h = let a = numbers-length (places t) (size t) (planOf t .g) (planOf t .M) (planOf t .info) (planOf t .steps) in let b = words h in omega arith
 
-  pub adds-most : planOf t .g ≤ mostAside → addSteps (planOf t .list) ≤ leastPlan
-  adds-most h = let a = adds-few (planOf t .list) in let b = words h in omega arith
+  pub adds-most : planOf t .g ≤ mostAside → addSteps (planOf t .steps) ≤ leastPlan
+  adds-most h = let a = adds-few (planOf t .steps) in let b = words h in omega arith
 
   -- ---- what the next phases ask
   module _ {starts order owns aside : List ℕ} {M W taken put : ℕ} (st : Starts t (number t) starts) (ch : ChoiceOf t order owns aside M W taken put) (few : put ≤ mostAside) where
@@ -94,7 +92,7 @@ module _ (t : List ℕ) (ok : refusal t ≡ 0) where
       number-kept = ch .keeps ∙ sym kept-is;
     }
 
-    pub gap-few : planOf t .g ≤ mostAside
+    gap-few : planOf t .g ≤ mostAside
     gap-few = let a = gap-is in let b = ch .gap in omega arith
 
     pub kept-fits : M ≤ mostChecks
@@ -111,7 +109,7 @@ module _ (t : List ℕ) (ok : refusal t ≡ 0) where
 
     pub written-out : {before after : List ℕ} {count adds : ℕ} → Composed t before after count adds
         → (_≡_ {A = Answer} (record { refusal = 0; length = count; kept = M; ones = W; gap = put; additions = adds }) (answerAt 0 t))
-        × (after ≡ numbersOf t ++ drop (length (numbersOf t)) before)
+        × (after ≡ withNumbers t before)
     written-out {before} {after} {count} {adds} e = (
       same-answer refl (e .numbers) (ch .keeps ∙ sym kept-is) (ch .with-ones ∙ sym ones-is) (ch .gap ∙ sym gap-is) (e .additions),
       e .list,

@@ -10,7 +10,7 @@ use Rattle.table.specs.Table.{tableCauses}
 use Rattle.plan.specs.Step.{addSteps}
 use Rattle.plan.specs.Layout.{mostAside}
 pub use Rattle.plan.specs.Layout.{leastPlan}
-use Rattle.rule.specs.Rule.{Plan}
+use Rattle.rule.specs.PlanOf.{withNumbers}
 unfoldable pub use Rattle.rule.specs.PlanOf.{planOf, numbersOf}
 use Rattle.planner.specs.declared.Planned.{Planned}
 
@@ -52,7 +52,7 @@ answerAt zero t = record {
   kept = planOf t .M;
   ones = planOf t .W;
   gap = planOf t .g;
-  additions = addSteps (planOf t .list);
+  additions = addSteps (planOf t .steps);
 }
 answerAt (suc r) t = refusedBy (suc r)
 
@@ -68,20 +68,20 @@ answered p = record {
 }
 
 module _ (t planBuffer work : List ℕ) where
-  abbrev pub plans : ℕ
-  plans = planningRefusal t (length planBuffer) (length work)
+  abbrev pub planningRefused : ℕ
+  planningRefused = planningRefusal t (length planBuffer) (length work)
 
   abbrev pub planAnswer : Answer
-  planAnswer = answerAt plans t
+  planAnswer = answerAt planningRefused t
 
   -- the plan's numbers are written and the rest is kept; on refusal as it was
   abbrev pub planAfter : List ℕ
-  planAfter = elim (eqb plans 0) [ true ↦ numbersOf t ++ drop (length (numbersOf t)) planBuffer | false ↦ planBuffer ]
+  planAfter = elim (eqb planningRefused 0) [ true ↦ withNumbers t planBuffer | false ↦ planBuffer ]
 
   -- "all zero after planning and after refusal 6"; else as it was
   abbrev pub workAfter : List ℕ
-  workAfter = elim (eqb plans 0) [
+  workAfter = elim (eqb planningRefused 0) [
     | true ↦ replicate workWords 0
     | false ↦
-        elim (eqb plans 6) [ true ↦ replicate workWords 0 | false ↦ work ]
+        elim (eqb planningRefused 6) [ true ↦ replicate workWords 0 | false ↦ work ]
   ]

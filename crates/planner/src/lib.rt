@@ -2,19 +2,23 @@
 use peel::Choice;
 use table::wide;
 ghost use mathlib.Core.Path.{_≡_};
-ghost use mathlib.Core.List.{_++_};
 ghost use Prim.Native.Nat.{_≤_};
-ghost use lib.ListN.{length, drop};
+ghost use lib.ListN.{length};
 ghost use Rattle.table.specs.Checks.{Starts};
 ghost use Rattle.table.specs.Table.{number, refusal};
 ghost use Rattle.peel.specs.Choice.{ChoiceOf};
-ghost use Rattle.planner.specs.Planning.{answered, refusedBy, answerAt, numbersOf, planAnswer, planAfter, workAfter};
+ghost use Rattle.plan.specs.Layout.{mostAside, leastPlan};
+ghost use Rattle.rule.specs.PlanOf.{withNumbers};
+ghost use Rattle.planner.specs.Planning.{workWords, answered, refusedBy, answerAt, planAnswer, planAfter, workAfter};
 
 // the least length of the plan's buffer
 pub const LEAST_PLAN: usize = 15360;
 
 // the length of the work buffer
 pub const WORK_WORDS: usize = 8192;
+
+// the bits of a row of the inverse
+const MASK_WIDTH: usize = 32;
 
 // the refusal, 0 for none; the plan's length, M, W, g and the number of add steps
 pub struct Planned {
@@ -49,14 +53,19 @@ fn write_out(
     aside: &[u16],
     c: Choice,
 ) -> Planned
-    requires { ⌜ (refusal (now t) ≡ 0) × Starts (now t) (number (now t)) (now starts) × ChoiceOf (now t) (now order) (now owns) (now aside) (c .kept) (c .ones) (c .taken) (c .aside) × (c .aside ≤ 32) × (15360 ≤ length (now plan)) ⌝ }
-    ensures { λ r. ⌜ (answered r ≡ answerAt 0 (now (t .entry))) × (now (plan .exit) ≡ numbersOf (now (t .entry)) ++ drop (length (numbersOf (now (t .entry)))) (now (plan .entry))) ⌝ }
+    requires table { ⌜ refusal (now t) ≡ 0 ⌝ }
+    requires starts { ⌜ Starts (now t) (number (now t)) (now starts) ⌝ }
+    requires choice { ⌜ ChoiceOf (now t) (now order) (now owns) (now aside) (c .kept) (c .ones) (c .taken) (c .aside) ⌝ }
+    requires few { ⌜ c .aside ≤ mostAside ⌝ }
+    requires room { ⌜ leastPlan ≤ length (now plan) ⌝ }
+    ensures answer { λ r. ⌜ answered r ≡ answerAt 0 (now (t .entry)) ⌝ }
+    ensures plan { λ _. ⌜ now (plan .exit) ≡ withNumbers (now (t .entry)) (now (plan .entry)) ⌝ }
 {
     let n = wide(t[1]);
     let m = wide(t[3]);
     let g = c.aside;
-    let mut fitted = [0u16; 32];
-    let mut rows = [0u32; 32];
+    let mut fitted = [0u16; MASK_WIDTH];
+    let mut rows = [0u32; MASK_WIDTH];
     columns::fit_places(
         t,
         m,
@@ -95,8 +104,12 @@ fn write_out(
 
 // the plan of an accepted table, or refusal 6
 fn plan_table(t: &[u16], plan: &mut [u32], work: &mut [u64]) -> Planned
-    requires { ⌜ (refusal (now t) ≡ 0) × (15360 ≤ length (now plan)) × (length (now work) ≡ 8192) ⌝ }
-    ensures { λ r. ⌜ (answered r ≡ planAnswer (now (t .entry)) (now (plan .entry)) (now (work .entry))) × (now (plan .exit) ≡ planAfter (now (t .entry)) (now (plan .entry)) (now (work .entry))) × (now (work .exit) ≡ workAfter (now (t .entry)) (now (plan .entry)) (now (work .entry))) ⌝ }
+    requires table { ⌜ refusal (now t) ≡ 0 ⌝ }
+    requires room { ⌜ leastPlan ≤ length (now plan) ⌝ }
+    requires work { ⌜ length (now work) ≡ workWords ⌝ }
+    ensures answer { λ r. ⌜ answered r ≡ planAnswer (now (t .entry)) (now (plan .entry)) (now (work .entry)) ⌝ }
+    ensures plan { λ _. ⌜ now (plan .exit) ≡ planAfter (now (t .entry)) (now (plan .entry)) (now (work .entry)) ⌝ }
+    ensures work { λ _. ⌜ now (work .exit) ≡ workAfter (now (t .entry)) (now (plan .entry)) (now (work .entry)) ⌝ }
 {
     let n = wide(t[1]);
     let m = wide(t[3]);

@@ -1,28 +1,25 @@
 -- How many add steps a plan has at most.
-use mathlib.Core.Path.{_≡_, refl, sym, ap, ap₂, _∙_, subst}
-use mathlib.Core.Bool.{Bool, true, false, cond, not, _||_, true≢false, false≢true}
+use mathlib.Core.Path.{_≡_, refl, sym, ap, _∙_, subst}
+use mathlib.Core.Bool.{Bool}
 use mathlib.Core.List.{List, [], _∷_, _++_, map}
-use Prim.Native.Nat.{ℕ, zero, suc, _+_, _-_, _*_, _<_, _≤_}
-use native.Mathlib.Omega.{arith}
+use Prim.Native.Nat.{ℕ, _+_, _-_, _*_, _<_, _≤_}
 use native.Mathlib.Nat.{mul-add, mul-one}
-use lib.Dec.{eqb}
-use lib.ListN.{length, length-map, length-append}
-use Rattle.gf2.specs.Group.{Group2, XorGroup}
-use Rattle.rule.specs.Codeword.{all-rev}
-use Rattle.rule.specs.Count.{count-append, solvedOnes, count-solving, count-scratch, count-fitting}
-use Rattle.gf2.specs.Independent.{Indep, Indep.empty, Indep.free}
-use Rattle.rule.specs.Info.{tri-has, peels-count}
+use native.Mathlib.Omega.{arith}
+use lib.ListN.{length, length-map}
+use Rattle.gf2.specs.Group.{XorGroup}
+use Rattle.gf2.specs.Independent.{Indep, Indep.free}
+use Rattle.gf2.specs.ListLaws.{all-rev, length-rev}
 use Rattle.gf2.specs.Lists.{Distinct, rev}
-use Rattle.rule.specs.Main.{ts, az, F, E, tri, peels, indK, same, lens, length-rev}
-use Rattle.rule.specs.Peel.{Peels, Peels.stop, Peels.took′, Peels.aside′, Pulled, Pulled.here, Pulled.there, peels-indep}
-use Rattle.rule.specs.Rule.{Solved, row, clearAndAdd, solvingSteps, scratchSteps, fittingSteps, stepsWithGap, plan, Plan, planSteps, fittedPlaces, inverse, reduced}
-use Rattle.gf2.specs.Places.{has, rowOf, minus, filter}
-use Rattle.gf2.specs.Span.{byBool, Span, span-zero}
-use Rattle.plan.specs.declared.Step.{Step}
-use Rattle.plan.specs.declared.Step.the-variants.{Clear, Add}
-use Rattle.plan.specs.Step.{addSteps}
+use Rattle.gf2.specs.Places.{rowOf}
+use Rattle.gf2.specs.Span.{span-zero}
+use Rattle.gf2.specs.Width.{All}
 use Rattle.table.specs.Table.{ones}
-use Rattle.gf2.specs.Width.{All, All.nil, All.cons, all-map}
+use Rattle.plan.specs.Step.{addSteps}
+use Rattle.rule.specs.AllChecksZero.{ts, az, F, tri, peels, indK, same, lens}
+use Rattle.rule.specs.Count.{count-append, solvedOnes, count-solving, count-scratch, count-fitting}
+use Rattle.rule.specs.Info.{tri-has, peels-count}
+use Rattle.rule.specs.Peel.{Peels, Peels.stop, Peels.took′, Peels.aside′, Pulled, Pulled.here, Pulled.there, peels-indep}
+use Rattle.rule.specs.Rule.{Solved, row, solvingSteps, scratchSteps, fittingSteps, stepsWithGap, plan, planSteps, fittedPlaces, inverse, reduced}
 
 -- ---- the ones of the kept checks, however they are ordered
 pulled-ones : {x : List ℕ} {L L′ : List (List ℕ)} → Pulled x L L′ → ones L ≡ length x + ones L′
@@ -99,7 +96,7 @@ module _ (n : ℕ) (cs : List (List ℕ)) (d : All Distinct cs) (low : All (λ c
       let h = count-steps n T Z FF (inverse (reduced T Z) FF) in omega arith)
 
   -- the additions number at most 2(W - M) + g(g + 1)
-  pub adds-most : addSteps (plan n cs .list) + 2 * plan n cs .M ≤ 2 * plan n cs .W + g * (g + 1)
+  pub adds-most : addSteps (plan n cs .steps) + 2 * plan n cs .M ≤ 2 * plan n cs .W + g * (g + 1)
   adds-most =
       let a = parts Z refl in
       let b = asides-some in
@@ -118,5 +115,5 @@ module _ (n : ℕ) (cs : List (List ℕ)) (d : All Distinct cs) (low : All (λ c
       omega arith
 
   -- and at most 4(W - M) where few checks are set aside
-  pub adds-bound : g * (g + 1) ≤ 2 * (plan n cs .W - plan n cs .M) → addSteps (plan n cs .list) ≤ 4 * (plan n cs .W - plan n cs .M)
+  pub adds-bound : g * (g + 1) ≤ 2 * (plan n cs .W - plan n cs .M) → addSteps (plan n cs .steps) ≤ 4 * (plan n cs .W - plan n cs .M)
   adds-bound h = let a = adds-most in let b = kept-ones in omega arith

@@ -1,12 +1,12 @@
 -- What the planner's buffers hold, by the rule's definitions.
 use mathlib.Core.Path.{_≡_}
-use mathlib.Core.Bool.{Bool, true, false}
+use mathlib.Core.Bool.{Bool}
 use mathlib.Core.List.{List, [], _∷_, _++_, map}
-use Prim.Native.Nat.{ℕ, zero, suc, _+_, _/_, _<_, _≤_}
+use Prim.Native.Nat.{ℕ, zero, suc, _/_, _<_, _≤_}
 use lib.ListN.{length, getD, take}
 use Rattle.gf2.specs.Bit.{bit}
 use Rattle.table.specs.Checks.{check}
-use Rattle.table.specs.Table.{places, number, checks, ones}
+use Rattle.table.specs.Table.{places, number, checks}
 use Rattle.rule.specs.Rule.{Solved, kept, peel, solvedOf, setAsideOf, PeelEvent, reduced, fittedPlaces, inverse}
 
 -- k solved checks: their numbers in order, their own places in owns, by the order of taking

@@ -1,31 +1,25 @@
 -- The information places: how many there are, and what they hold after encoding.
-use mathlib.Core.Path.{_≡_, refl, sym, ap, ap₂, _∙_, subst}
-use mathlib.Core.Bool.{Bool, true, false, cond, not, _||_, true≢false, false≢true}
+use mathlib.Core.Path.{_≡_, refl, sym, ap, _∙_}
+use mathlib.Core.Bool.{true, false, not, true≢false, false≢true}
 use mathlib.Core.List.{List, [], _∷_, _++_, map}
-use Prim.Native.Nat.{ℕ, zero, suc, _+_, _-_, _<_, _≤_}
+use Prim.Native.Nat.{ℕ, suc, _+_, _-_, _<_, _≤_}
 use native.Mathlib.Omega.{arith}
 use lib.Dec.{eqb}
-use lib.ListN.{length, getD, set, replicate, length-replicate, length-set, length-map, length-append}
-use lib.Seq.{getD-set-same, getD-set-other}
-use Rattle.gf2.specs.Bit.{eqb-true, eqb-false, eqb-self, eqb-comm}
-use Rattle.rule.specs.Codeword.{all-rev, all-self}
-use Rattle.rule.specs.Encoded.{encode}
-use Rattle.rule.specs.Final.{tri-own, put-other, put-length}
+use lib.ListN.{length, getD, replicate, length-replicate, length-map, length-append}
+use Rattle.gf2.specs.Bit.{eqb-true, eqb-comm}
 use Rattle.gf2.specs.Fit.{below, length-below}
-use Rattle.table.specs.Packets.{Packets}
-use Rattle.gf2.specs.Lists.{Distinct, Distinct.dnil, Distinct.dnew, rev, all-zip, below-of, all-in, par-has}
-use Rattle.rule.specs.Main.{ts, az, F, E, tri, lowT, free-good, peels, same, dF, freeF, distinct-filter, distinct-below, distinct-rev, length-rev}
-use Rattle.rule.specs.Peel.{Peels, Peels.stop, Peels.took′, Peels.aside′, Pulled, pulled-length}
-use Rattle.rule.specs.Rule.{Solved, owns, kept, plan, Plan}
-use Rattle.gf2.specs.Places.{has, par, has-par, filter, minus, or-false-l, or-false-r}
-use Rattle.gf2.specs.Span.{byBool, or-l, or-r}
-use Rattle.plan.specs.LayoutLaws.{Sound, Leaves}
-use Rattle.plan.specs.declared.Step.{Step}
-use Rattle.plan.specs.declared.Step.the-variants.{Clear, Add}
-use Rattle.plan.specs.Steps.{withPackets, carryOutAll, carryOut}
-use Rattle.rule.specs.Solved.{Tri, Tri.done, Tri.also}
-use Rattle.rule.specs.WellFormed.{well-formed, info-low}
+use Rattle.gf2.specs.ListLaws.{distinct-filter, distinct-below, distinct-rev, length-rev, has-kept, low-has, getD-has}
+use Rattle.gf2.specs.Lists.{Distinct, Distinct.dnil, Distinct.dnew, rev, par-has}
+use Rattle.gf2.specs.Places.{has, filter, minus, or-false-l, or-false-r}
+use Rattle.gf2.specs.Span.{byBool}
 use Rattle.gf2.specs.Width.{All, All.nil, All.cons, all-map}
+use Rattle.plan.specs.AtStart.{put-at, runs-keep}
+use Rattle.rule.specs.AllChecksZero.{ts, az, F, tri, lowT, free-good, peels, same, dF, freeF}
+use Rattle.rule.specs.Encoded.{encode}
+use Rattle.rule.specs.Peel.{Peels, Peels.stop, Peels.took′, Peels.aside′, pulled-length}
+use Rattle.rule.specs.Rule.{Solved, owns, plan}
+use Rattle.rule.specs.Solved.{tri-own, Tri, Tri.done, Tri.also}
+use Rattle.rule.specs.WellFormed.{well-formed, info-low}
 
 -- ---- taking places out of a list without repeats
 none-out : (x : ℕ) (c : List ℕ) → has x c ≡ false → filter (λ p. not (eqb p x)) c ≡ c
@@ -46,15 +40,6 @@ minus-cons x X [] = refl
 minus-cons x X (q ∷ c) = byBool (has q X)
     (λ e. byBool (eqb q x) (λ f. rw (e, f) (minus-cons x X c)) (λ f. rw (e, f) (minus-cons x X c)))
     (λ e. byBool (eqb q x) (λ f. rw (e, f) (minus-cons x X c)) (λ f. rw (e, f) (ap (λ r. q ∷ r) (minus-cons x X c))))
-
--- what passes the filter stays
-pub has-kept : (f : ℕ → Bool) (p : ℕ) (c : List ℕ) → f p ≡ true → has p c ≡ true → has p (filter f c) ≡ true
-has-kept f p [] t h = h
-has-kept f p (q ∷ c) t h = byBool (eqb p q)
-    (λ e. let u : f q ≡ true = ap f (sym (eqb-true p q e)) ∙ t in rw (u, filter) (rw e))
-    (λ e. byBool (f q)
-    (λ u. rw (u, filter) (rw e (has-kept f p c t (rw e at h))))
-    (λ u. rw (u, filter) (has-kept f p c t (rw e at h))))
 
 -- as many are left as there were, less those taken out
 minus-count : {X c : List ℕ} → Distinct X → Distinct c → All (λ x. has x c ≡ true) X → length (minus c X) + length X ≡ length c
@@ -97,48 +82,6 @@ peels-count stop = refl
 peels-count (took′ u h o r) = let a = pulled-length u in let b = peels-count r in omega arith
 peels-count (aside′ u r) = let a = pulled-length u in let b = peels-count r in omega arith
 
--- membership in a list with one more at the end
-has-snoc-l : (p x : ℕ) (l : List ℕ) → has p l ≡ true → has p (l ++ (x ∷ [])) ≡ true
-has-snoc-l p x [] h = absurd (false≢true h)
-has-snoc-l p x (y ∷ l) h = byBool (eqb p y) (λ e. rw e) (λ e. rw e (has-snoc-l p x l (rw e at h)))
-
--- the one at the end
-has-snoc-r : (p : ℕ) (l : List ℕ) → has p (l ++ (p ∷ [])) ≡ true
-has-snoc-r p [] = rw (eqb-self p)
-has-snoc-r p (y ∷ l) = or-r (eqb p y) _ (has-snoc-r p l)
-
--- every place below n is listed
-pub low-has : (n p : ℕ) → p < n → has p (rev (below n)) ≡ true
-low-has zero p h = absurd (omega arith)
-low-has (suc n) p h = byBool (eqb p n)
-    (λ e. subst (λ x. has p (rev (below n) ++ (x ∷ [])) ≡ true) (eqb-true p n e) (has-snoc-r p (rev (below n))))
-    (λ e. let ne = eqb-false p n e in has-snoc-l p n (rev (below n)) (low-has n p (omega arith)))
-
--- ---- the encoder leaves the information places alone
-
--- a place that no step writes keeps its packet
-runs-keep : (s k p : ℕ) {I : List ℕ} {xs : List Step} → has p I ≡ true → All (Sound k I) xs → (st : List (List ℕ)) → getD (carryOutAll s st xs) p [] ≡ getD st p []
-runs-keep s k p h nil st = refl
-runs-keep s k p {I} h (cons {x = x} r a) st = runs-keep s k p h a _ ∙ kept-by x (r .leaves)
-  where
-    kept-by : (x : Step) → Leaves I x → getD (carryOut s st x) p [] ≡ getD st p []
-    kept-by (Clear to) e = getD-set-other st to p _ [] (λ q. true≢false (sym h ∙ ap (λ x. has x I) q ∙ e))
-    kept-by (Add to from) e = getD-set-other st to p _ [] (λ q. true≢false (sym h ∙ ap (λ x. has x I) q ∙ e))
-
--- the k-th packet is put at the k-th place
-put-at : (st : List (List ℕ)) {is : List ℕ} (ps : List (List ℕ)) → Distinct is → All (λ i. i < length st) is → length ps ≡ length is
-    → (k : ℕ) → k < length is → getD (withPackets st is ps) (getD is k 0) [] ≡ getD ps k []
-put-at st ps dnil a l k h = absurd (omega arith)
-put-at st [] (dnew n d) (cons b a) l k h = absurd (omega arith)
-put-at st (p ∷ ps) (dnew {x = i} {l = is} n d) (cons b a) l zero h = put-other (set st i p) is ps i n ∙ getD-set-same st i p [] b
-put-at st (p ∷ ps) (dnew {x = i} {l = is} n d) (cons b a) l (suc k) h = put-at (set st i p) ps d (all-map (λ j q. subst (λ m. j < m) (sym (length-set st i p)) q) a) (omega arith) k (omega arith)
-
--- what stands at a number of the list is a member
-pub getD-has : (l : List ℕ) (k : ℕ) → k < length l → has (getD l k 0) l ≡ true
-getD-has [] k h = absurd (omega arith)
-getD-has (x ∷ l) zero h = or-l (eqb x x) (has x l) (eqb-self x)
-getD-has (x ∷ l) (suc k) h = or-r (eqb (getD l k 0) x) (has (getD l k 0) l) (getD-has l k (omega arith))
-
 module _ (n : ℕ) (cs : List (List ℕ)) (d : All Distinct cs) (low : All (λ c. All (λ p. p < n) c) cs) where
   -- short names
   abbrev T : List Solved
@@ -152,7 +95,7 @@ module _ (n : ℕ) (cs : List (List ℕ)) (d : All Distinct cs) (low : All (λ c
   used = owns T ++ FF
 
   -- owned and fitted places are below n
-  pub used-low : All (λ p. p < n) used
+  used-low : All (λ p. p < n) used
   used-low = all-after (λ t. t .own) (all-map (λ t r. r .0) (tri-own (tri n cs d low) (lowT n cs d low))) (all-map (λ f r. r .0) (free-good n cs d low))
 
   used-distinct : Distinct used

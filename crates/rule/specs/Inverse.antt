@@ -1,25 +1,26 @@
 -- The fitted places, the inverse, and what it solves.
 use mathlib.Core.Path.{_≡_, refl, sym, ap, ap₂, _∙_, subst}
-use mathlib.Core.Bool.{Bool, true, false, cond, not, _||_, true≢false, false≢true}
-use mathlib.Core.List.{List, [], _∷_, _++_, map}
-use Prim.Native.Nat.{ℕ, zero, suc, _+_, _^_, _<_, _≤_}
+use mathlib.Core.Bool.{Bool, true, false, cond, true≢false, false≢true}
+use mathlib.Core.List.{List, [], _∷_, map}
+use Prim.Native.Nat.{ℕ, _^_}
 use native.Mathlib.Omega.{arith}
-use lib.Dec.{eqb}
 use lib.Bits.{bitXor}
+use lib.Dec.{eqb}
 use lib.ListN.{length, length-map}
-use Rattle.gf2.specs.Group.{Group2, XorGroup, bxor, sumOver, zr, cancel, eq-zero}
-use Rattle.gf2.specs.Bit.{bit, bit-adds, bit-hom, bit-zero, bit-pow, eqb-true, eqb-false, eqb-self, eqb-comm}
-use Rattle.gf2.specs.Independent.{Indep, Indep.empty, Indep.free}
+use Rattle.gf2.specs.Bit.{bit, bit-adds, bit-hom, bit-zero, bit-pow, eqb-true, eqb-self}
 use Rattle.gf2.specs.Fit.{isZero, isZero-sound}
+use Rattle.gf2.specs.Group.{Group2, XorGroup, bxor, sumOver, eq-zero}
+use Rattle.gf2.specs.Independent.{Indep, Indep.empty, Indep.free}
+use Rattle.gf2.specs.Linear.{Lin, lin-comb, carry}
 use Rattle.gf2.specs.Lists.{Distinct, Distinct.dnil, Distinct.dnew}
-use Rattle.rule.specs.Rule.{restricted}
 use Rattle.gf2.specs.Places.{has, or-false-l, or-false-r}
+use Rattle.gf2.specs.RowValue.{at, valOn, valOn-lin, sum-ext-in}
 use Rattle.gf2.specs.Span.{byBool, comb, comb-nil, Span, span-zero, span-add, span-head, span-tail, span-within, Within, Within.none, Within.more, madd, comb-add, isSum, isSum-sound, isSum-complete}
-use Rattle.rule.specs.Val.{Lin, lin-o, lin-comb, at, valOn, valOn-lin, sum-ext-in, carry}
 use Rattle.gf2.specs.Width.{All, All.nil, All.cons, all-map, Tells, width}
+use Rattle.rule.specs.Rule.{restricted}
 
 module _ {A B : Type 0} (G : Group2 A) (K : Group2 B) {f : A → B} (h : Lin G K f) where
-  pub indep-map : {R : List A} → Indep G R → ((x : A) → Span G R x → f x ≡ K .o → x ≡ G .o) → Indep K (map f R)
+  indep-map : {R : List A} → Indep G R → ((x : A) → Span G R x → f x ≡ K .o → x ≡ G .o) → Indep K (map f R)
   indep-map empty inj = empty
   indep-map (free {x = x} {X = X} n i) inj = free
       (λ p. n (record {
@@ -98,7 +99,7 @@ res-bit-in p (dnew {x = q} {l = F} k d) h e = bit-adds p (cond (bit q e) (2 ^ q)
     other-bit false t = bit-zero p
 
 module _ (E F : List ℕ) (d : Distinct F) (ind : Indep XorGroup E) (tells : Tells XorGroup bit F E) (same : length F ≡ length E) where
-  abbrev pub square : List ℕ
+  abbrev square : List ℕ
   square = map (restricted F) E
 
   pub square-indep : Indep XorGroup square

@@ -1,38 +1,37 @@
 -- The block that belongs to a table and its information packets: encoding gives it, and there is no other.
 use mathlib.Core.Path.{_≡_, refl, sym, ap, ap₂, _∙_, subst}
-use mathlib.Core.Bool.{Bool, true, false, cond, not, _||_, true≢false, false≢true}
+use mathlib.Core.Bool.{Bool, true, false, cond, not, true≢false}
 use mathlib.Core.List.{List, [], _∷_, _++_, map}
-use Prim.Native.Nat.{ℕ, zero, suc, _+_, _-_, _^_, _<_, _≤_}
+use Prim.Native.Nat.{ℕ, _+_, _-_, _<_}
 use native.Mathlib.Omega.{arith}
 use lib.Dec.{eqb}
-use lib.Bits.{bitXor}
-use lib.ListN.{length, getD, set, replicate, take, length-replicate, length-set, length-map}
+use lib.ListN.{length, getD, replicate, take, length-replicate}
 use lib.Seq.{ext-getD, getD-take, length-take-le}
-use Rattle.gf2.specs.Group.{Group2, XorGroup, sumOver, sumOver-add, zr, eq-zero}
-use Rattle.table.specs.PacketLaws.{view, sum-view}
-use Rattle.gf2.specs.Bit.{bit, eqb-true, eqb-false, eqb-self, eqb-comm}
-use Rattle.rule.specs.Codeword.{all-rev, all-unrev, tri-ord, all-self, none-has, has-none}
-use Rattle.rule.specs.Encoded.{encode}
-use Rattle.rule.specs.Final.{tri-own, encoded, fit-parts, put-length, put-packets, all-replicate, start}
+use Rattle.gf2.specs.Bit.{bit, eqb-true}
 use Rattle.gf2.specs.Fit.{below}
+use Rattle.gf2.specs.GreedyLaws.{all-choose}
+use Rattle.gf2.specs.Group.{Group2, XorGroup, sumOver, sumOver-add, zr, eq-zero}
+use Rattle.gf2.specs.Linear.{lin-zero}
+use Rattle.gf2.specs.ListLaws.{all-rev, all-unrev, all-self, none-has, has-none, all-replicate, has-kept, low-has, getD-has, has-append-none, all-take, all-index}
+use Rattle.gf2.specs.Lists.{Distinct, rev, all-zip, all-has, below-of, all-in, map-all, all-getD, getD-zeros, all-every}
+use Rattle.gf2.specs.Places.{has, rowOf, minus, sum-apart}
+use Rattle.gf2.specs.RowValue.{at, val, val-lin, val-pow, val-row, sum-ext-in}
+use Rattle.gf2.specs.Span.{byBool}
+use Rattle.gf2.specs.Width.{All, All.nil, All.cons, all-map}
+use Rattle.table.specs.PacketLaws.{view, sum-view}
 use Rattle.table.specs.Packets.{packetSum, Packets}
-use Rattle.rule.specs.Info.{has-kept, low-has, info-number, info-holds, getD-has}
+use Rattle.plan.specs.AtStart.{put-length, put-packets}
+use Rattle.plan.specs.ByteByByte.{runs-length, runs-packets}
+use Rattle.rule.specs.AllChecksZero.{ts, az, F, E, tri, lowT, lowA, free-good, peels, dF, good}
+use Rattle.rule.specs.Encoded.{encode}
+use Rattle.rule.specs.EncodedZero.{encoded}
+use Rattle.rule.specs.Info.{info-number, info-holds}
 use Rattle.rule.specs.Inverse.{res-bit-in, res-bit-out}
-use Rattle.gf2.specs.Lists.{Distinct, all-filter, rev, all-zip, all-has, below-of, all-in, map-all, all-getD, getD-zeros, all-every}
-use Rattle.rule.specs.Main.{ts, az, F, E, tri, lowT, lowA, free-good, peels, dF, good, all-choose, lin-zero}
 use Rattle.rule.specs.Peel.{peels-all}
-use Rattle.gf2.specs.Vectors.{add, getD-add, length-add}
-use Rattle.rule.specs.Rule.{Solved, row, reduce, restricted, owns, plan, Plan, inverse}
-use Rattle.rule.specs.Run.{Ord, Ord.done, Ord.also, own-out}
-use Rattle.gf2.specs.Places.{has, par, rowOf, filter, minus, sum-apart, or-false-l, or-false-r}
-use Rattle.rule.specs.Sim.{Fits, does-length, does-packets}
-use Rattle.gf2.specs.Span.{byBool, comb}
-use Rattle.plan.specs.declared.Step.{Step}
-use Rattle.plan.specs.Steps.{carryOutAll, carryOut}
-use Rattle.rule.specs.Solved.{reduce-clears}
-use Rattle.rule.specs.Val.{at, val, val-lin, val-pow, val-row, val-reduce, sum-ext-in}
-use Rattle.rule.specs.WellFormed.{info-low as places-low}
-use Rattle.gf2.specs.Width.{All, All.nil, All.cons, all-map, all-of}
+use Rattle.rule.specs.Rule.{Solved, row, putInAll, restricted, owns, plan, inverse}
+use Rattle.rule.specs.Solved.{tri-own, putInAll-clears, val-putIn}
+use Rattle.rule.specs.Solving.{tri-ord, Ord, Ord.done, Ord.also}
+use Rattle.rule.specs.WellFormed.{info-low as places-low, well-formed}
 
 -- ---- a sum of which all but one place are zero
 module _ {A : Type 0} (G : Group2 A) (x : ℕ → A) where
@@ -61,11 +60,6 @@ module _ {A : Type 0} (G : Group2 A) (x : ℕ → A) where
       mine = sym (zr G (x (u .own))) ∙ ap₂ _⊕_ (sym (ap (λ b. cond b (x (u .own)) o) q)) (sym (sum-zeros (others (all-zip (b .1) (all-self (u .check))))))
           ∙ sym (sum-apart G x (u .own) (u .check)) ∙ z
 
--- in neither part
-has-append-none : (p : ℕ) (l m : List ℕ) → has p l ≡ false → has p m ≡ false → has p (l ++ m) ≡ false
-has-append-none p [] m h k = k
-has-append-none p (q ∷ l) m h k = rw (or-false-l (eqb p q) (has p l) h) (has-append-none p l m (or-false-r (eqb p q) (has p l) h) k)
-
 module _ {A : Type 0} (G : Group2 A) (n : ℕ) (cs : List (List ℕ)) (d : All Distinct cs) (low : All (λ c. All (λ p. p < n) c) cs) where
   open Group2 G using (_⊕_, o, assoc, comm, self, zl)
 
@@ -92,13 +86,13 @@ module _ {A : Type 0} (G : Group2 A) (n : ℕ) (cs : List (List ℕ)) (d : All D
         (has-kept (λ q. not (has q (owns T ++ FF))) p (rev (below n)) (ap not (has-append-none p (owns T) FF k h)) (low-has n p l)) no-info
 
     -- of a reduced row only the fitted places count
-    at-fitted : (e p : ℕ) → p < n → at G x (reduce T e) p ≡ at G x (restricted FF (reduce T e)) p
+    at-fitted : (e p : ℕ) → p < n → at G x (putInAll T e) p ≡ at G x (restricted FF (putInAll T e)) p
     at-fitted e p l = byBool (has p FF)
-        (λ h. ap (λ b. cond b (x p) o) (sym (res-bit-in p (dF n cs d low) h (reduce T e))))
+        (λ h. ap (λ b. cond b (x p) o) (sym (res-bit-in p (dF n cs d low) h (putInAll T e))))
         (λ h. byBool (has p (owns T))
-        (λ k. ap (λ b. cond b (x p) o) (all-has (λ q. bit q (reduce T e) ≡ false) (λ t. t .own) p k (reduce-clears (tri n cs d low) e)))
-        (λ k. ap (λ y. cond (bit p (reduce T e)) y o) (rest p l h k) ∙ cond-o (bit p (reduce T e)))
-        ∙ sym (ap (λ b. cond b (x p) o) (res-bit-out p FF h (reduce T e))))
+        (λ k. ap (λ b. cond b (x p) o) (all-has (λ q. bit q (putInAll T e) ≡ false) (λ t. t .own) p k (putInAll-clears (tri n cs d low) e)))
+        (λ k. ap (λ y. cond (bit p (putInAll T e)) y o) (rest p l h k) ∙ cond-o (bit p (putInAll T e)))
+        ∙ sym (ap (λ b. cond b (x p) o) (res-bit-out p FF h (putInAll T e))))
       where
         cond-o : (b : Bool) → cond b o o ≡ o
         cond-o true = refl
@@ -106,8 +100,8 @@ module _ {A : Type 0} (G : Group2 A) (n : ℕ) (cs : List (List ℕ)) (d : All D
 
     -- the rows of the square matrix come to zero
     square-zero : All (λ r. val G x n r ≡ o) (map (restricted FF) (E n cs d low))
-    square-zero = map-all (restricted FF) (map-all (λ c. reduce T (rowOf c)) (all-map
-        (λ c r. sym (sum-ext-in G (below-of n (at-fitted (rowOf c)))) ∙ val-reduce G x n valT (rowOf c) ∙ val-row G x n (r .1) ∙ r .0)
+    square-zero = map-all (restricted FF) (map-all (λ c. putInAll T (rowOf c)) (all-map
+        (λ c r. sym (sum-ext-in G (below-of n (at-fitted (rowOf c)))) ∙ val-putIn G x n valT (rowOf c) ∙ val-row G x n (r .1) ∙ r .0)
         (all-zip (sums .1) (lowA n cs d low))))
 
     -- so every fitted place is zero
@@ -122,7 +116,7 @@ module _ {A : Type 0} (G : Group2 A) (n : ℕ) (cs : List (List ℕ)) (d : All D
         (λ h. rest p l h (has-none (λ t. t .own) p (all-unrev T (none-has (λ t. t .own) p (rev T) k)))))
 
   -- two codewords that agree at the information places agree everywhere
-  pub same-block : (x y : ℕ → A) → All (λ p. x p ≡ y p) (plan n cs .info) → All (λ c. sumOver G x c ≡ o) cs → All (λ c. sumOver G y c ≡ o) cs
+  same-block : (x y : ℕ → A) → All (λ p. x p ≡ y p) (plan n cs .info) → All (λ c. sumOver G x c ≡ o) cs → All (λ c. sumOver G y c ≡ o) cs
       → (p : ℕ) → p < n → x p ≡ y p
   same-block x y a h k p l = eq-zero G (x p) (y p) (zero-block (λ q. x q ⊕ y q)
       (all-map (λ q e. ap (λ z. z ⊕ y q) e ∙ self (y q)) a)
@@ -142,39 +136,18 @@ pub record Encodes (n s : ℕ) (cs ps b : List (List ℕ)) : Type 0 where
 abbrev pub block : ℕ → ℕ → List (List ℕ) → List (List ℕ) → List (List ℕ)
 block n s cs ps = take n (encode n s (plan n cs) ps)
 
--- the run keeps the number of slots
-runs-length : (s : ℕ) (xs : List Step) (st : List (List ℕ)) → length (carryOutAll s st xs) ≡ length st
-runs-length s [] st = refl
-runs-length s (x ∷ xs) st = runs-length s xs (carryOut s st x) ∙ does-length s st x
-
--- the run keeps the size of packets
-runs-packets : (s k : ℕ) {xs : List Step} → All (Fits k) xs → (st : List (List ℕ)) → length st ≡ k → Packets s st → Packets s (carryOutAll s st xs)
-runs-packets s k nil st l w = w
-runs-packets s k (cons {x = x} f fs) st l w = runs-packets s k fs (carryOut s st x) (does-length s st x ∙ l) (does-packets s st x w (subst (λ k. Fits k x) (sym l) f))
-
--- a property of the first n
-all-take : {P : List ℕ → Type 0} (n : ℕ) {l : List (List ℕ)} → All P l → All P (take n l)
-all-take zero a = nil
-all-take (suc n) nil = nil
-all-take (suc n) (cons p a) = cons p (all-take n a)
-
--- from every number of the list to all members
-all-index : {P : ℕ → Type 0} (l : List ℕ) → ((k : ℕ) → k < length l → P (getD l k 0)) → All P l
-all-index [] h = nil
-all-index (x ∷ l) h = cons (h zero (omega arith)) (all-index l (λ k q. h (suc k) (omega arith)))
-
 module _ (n s : ℕ) (cs : List (List ℕ)) (d : All Distinct cs) (low : All (λ c. All (λ p. p < n) c) cs)
     (ps : List (List ℕ)) (w : Packets s ps) (l : length ps ≡ n - plan n cs .M) where
   abbrev whole : List (List ℕ)
   whole = encode n s (plan n cs) ps
 
   -- all slots, scratch too, are there and have s bytes
-  pub whole-length : length whole ≡ n + plan n cs .g
-  whole-length = runs-length s (plan n cs .list) _ ∙ put-length _ (plan n cs .info) ps ∙ length-replicate (n + plan n cs .g) (replicate s 0)
+  whole-length : length whole ≡ n + plan n cs .g
+  whole-length = runs-length s (plan n cs .steps) _ ∙ put-length _ (plan n cs .info) ps ∙ length-replicate (n + plan n cs .g) (replicate s 0)
 
   -- each of them of s bytes
-  pub whole-packets : Packets s whole
-  whole-packets = runs-packets s (n + plan n cs .g) (fit-parts n s cs d low ps w (az n cs d low) refl) _
+  whole-packets : Packets s whole
+  whole-packets = runs-packets s (n + plan n cs .g) (all-map (λ x r. r .below) (well-formed n cs d low)) _
       (put-length _ (plan n cs .info) ps ∙ length-replicate (n + plan n cs .g) (replicate s 0))
       (put-packets s (plan n cs .info) (all-replicate (n + plan n cs .g) (replicate s 0) (length-replicate s 0)) w)
 

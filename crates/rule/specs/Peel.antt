@@ -1,26 +1,24 @@
 -- Taking checks by a place that lies in one of them, and setting checks aside.
 use mathlib.Core.Path.{_≡_, refl, sym, ap, ap₂, _∙_, subst}
-use mathlib.Core.Bool.{Bool, true, false, cond, not, _||_, true≢false, false≢true}
+use mathlib.Core.Bool.{Bool, true, false, false≢true}
 use mathlib.Core.List.{List, [], _∷_, _++_, map}
 use mathlib.Core.Logic.{_⊎_, inl, inr, ⊎-elim}
-use mathlib.Core.Option.{Option, none, some}
-use Prim.Native.Nat.{ℕ, zero, suc, _+_, _^_, _<_, _≤_, max}
+use Prim.Native.Nat.{ℕ, zero, suc, _≤_, max}
 use native.Mathlib.Nat.{suc-inj}
 use native.Mathlib.Omega.{arith}
+use lib.Bits.{bitXor}
 use lib.Dec.{eqb}
 use lib.ListN.{length}
-use Rattle.gf2.specs.Group.{Group2, XorGroup, bxor, cancel, cancel-r, cancel-mid, move}
-use Rattle.gf2.specs.Bit.{eqb-true, eqb-false, eqb-self, bit}
-use Rattle.gf2.specs.Independent.{Indep, Indep.empty, Indep.free, split}
-use Rattle.gf2.specs.Lists.{Distinct, Distinct.dnil, Distinct.dnew, highest, highest-is}
-use Rattle.rule.specs.Rule.{reduce, put, Solved, row, count, first, without, greatest, heaviest, inOneOnly, peel, solvedOf, setAsideOf, aside}
+use Rattle.gf2.specs.Bit.{eqb-true, eqb-self, bit}
+use Rattle.gf2.specs.Group.{Group2, XorGroup, bxor, cancel, cancel-r, cancel-mid}
+use Rattle.gf2.specs.Independent.{Indep, Indep.empty, Indep.free}
+use Rattle.gf2.specs.IndependentOrder.{indep-swap, indep-head, indep-tail, within-insert, indep-push, span-after}
+use Rattle.gf2.specs.Lists.{Distinct, Distinct.dnil, Distinct.dnew, highest, highest-is, byOpt}
 use Rattle.gf2.specs.Places.{has, par, rowOf, has-par}
 use Rattle.gf2.specs.Span.{byBool, or-l, or-r, anyOf, Span, span-zero, span-add, span-head, span-tail, span-within, Within, Within.none as wnil, Within.more, within-tail, within-self, within-trans}
+use Rattle.gf2.specs.Width.{All, All.nil, All.cons}
+use Rattle.rule.specs.Rule.{putInAll, putIn, Solved, row, count, first, without, greatest, heaviest, inOneOnly, peel, solvedOf, setAsideOf}
 use Rattle.rule.specs.Solved.{Tri, Tri.done, Tri.also}
-use Rattle.gf2.specs.Width.{All, All.nil, All.cons, all-map}
-use lib.Bits.{bitXor}
-
--- ---- the definitions
 
 -- ---- one member pulled out of a list
 pub data Pulled (x : List ℕ) : List (List ℕ) → List (List ℕ) → Type 0 where
@@ -69,10 +67,6 @@ pub data Peels : List (List ℕ) → List Solved → List (List ℕ) → Type 0 
   aside′ : {c : List ℕ} {L L′ : List (List ℕ)} {ts : List Solved} {az : List (List ℕ)}
       → Pulled c L L′ → Peels L′ ts az → Peels L ts (c ∷ az)
 
-pub byOption : {A P : Type 0} (x : Option A) → ((a : A) → x ≡ some a → P) → (x ≡ none → P) → P
-byOption (some a) f g = f a refl
-byOption none f g = g refl
-
 below-or : (a b : ℕ) → (b ≤ a) ⊎ (a ≤ b)
 below-or zero b = inr (omega arith)
 below-or (suc a) zero = inl (omega arith)
@@ -90,7 +84,7 @@ pub peel-peels : (k n : ℕ) (L : List (List ℕ)) → length L ≡ k → Peels 
 peel-peels zero n [] l = stop
 peel-peels zero n (x ∷ L) l = absurd (omega arith)
 peel-peels (suc k) n [] l = absurd (omega arith)
-peel-peels (suc k) n (x ∷ L₀) l = byOption (highest n (inOneOnly (x ∷ L₀)))
+peel-peels (suc k) n (x ∷ L₀) l = byOpt (highest n (inOneOnly (x ∷ L₀)))
     (λ p e. let L = x ∷ L₀ in
     let one : count (has p) L ≡ 1 = eqb-true (count (has p) L) 1 (highest-is n (inOneOnly L) p e) in
     let u = pull (has p) L (count-any (has p) L one) in
@@ -111,7 +105,7 @@ peels-back stop a b = nil
 peels-back (took′ u h o r) (cons p a) b = pulled-back u p (peels-back r a b)
 peels-back (aside′ u r) a (cons p b) = pulled-back u p (peels-back r a b)
 
-pub has-par-true : {c : List ℕ} → Distinct c → (p : ℕ) → has p c ≡ true → par p c ≡ true
+has-par-true : {c : List ℕ} → Distinct c → (p : ℕ) → has p c ≡ true → par p c ≡ true
 has-par-true dnil p h = h
 has-par-true (dnew {x = q} {l = c} k d) p h = byBool (eqb p q)
     (λ e. ap₂ bxor e (has-par p c (ap (λ x. has x c) (eqb-true p q e) ∙ k)))
@@ -124,29 +118,6 @@ peels-tri (aside′ u r) a = peels-tri r (pulled-all u a .1)
 
 -- ---- the rows stay independent, whatever the order
 module _ {A : Type 0} (G : Group2 A) where
-  open Group2 G using (_⊕_, o, assoc, comm, self, zl)
-
-  pub indep-swap : {x y : A} {X : List A} → Indep G (x ∷ y ∷ X) → Indep G (y ∷ x ∷ X)
-  indep-swap {x} {y} {X} (free n (free k i)) = free
-      (λ p. ⊎-elim (λ q. k q) (λ q. n (subst (Span G (y ∷ X)) (cancel-r G x y) (span-add G (span-tail G q) (span-head G)))) (split G p))
-      (free (λ p. n (span-tail G p)) i)
-
-  pub indep-head : {x : A} {X : List A} → Indep G (x ∷ X) → ¬ Span G X x
-  indep-head (free n i) = n
-
-  pub indep-tail : {x : A} {X : List A} → Indep G (x ∷ X) → Indep G X
-  indep-tail (free n i) = i
-
-  pub within-insert : {S : List A} (X T : List A) (c : A) → Within G S (X ++ T) → Span G S c → Within G S (X ++ (c ∷ T))
-  within-insert [] T c w p = more p w
-  within-insert (x ∷ X) T c (more q w) p = more q (within-insert X T c w p)
-
-  indep-push : (X T : List A) (c : A) → Indep G (c ∷ (X ++ T)) → Indep G (X ++ (c ∷ T))
-  indep-push [] T c i = i
-  indep-push (x ∷ X) T c i = let j = indep-swap i in free
-      (λ p. indep-head j (span-within G (within-insert X T c (within-tail G (within-self G (X ++ T))) (span-head G)) p))
-      (indep-push X T c (indep-tail j))
-
   module _ (f : List ℕ → A) where
     pulled-in : {x : List ℕ} {L L′ : List (List ℕ)} → Pulled x L L′ → Within G (map f L) (f x ∷ map f L′)
     pulled-in here = within-self G _
@@ -157,14 +128,14 @@ module _ {A : Type 0} (G : Group2 A) where
 
     pulled-indep : {x : List ℕ} {L L′ : List (List ℕ)} → Pulled x L L′ → Indep G (map f L) → Indep G (f x ∷ map f L′)
     pulled-indep here i = i
-    pulled-indep (there u) i = indep-swap (free (λ p. indep-head i (span-within G (pulled-in u) p)) (pulled-indep u (indep-tail i)))
+    pulled-indep (there u) i = indep-swap G (free (λ p. indep-head G i (span-within G (pulled-in u) p)) (pulled-indep u (indep-tail G i)))
 
     peels-in : {L : List (List ℕ)} {ts : List Solved} {az : List (List ℕ)} → Peels L ts az → Within G (map f L) (map f az ++ map (λ t. f (t .check)) ts)
     peels-in stop = wnil
     peels-in (took′ {c = c} {ts = ts} {az = az} u h o r) = go (pulled-in u) (peels-in r)
       where
         go : {S R : List A} → Within G S (f c ∷ R) → Within G R (map f az ++ map (λ t. f (t .check)) ts) → Within G S (map f az ++ (f c ∷ map (λ t. f (t .check)) ts))
-        go (more p w) v = within-insert (map f az) _ (f c) (within-trans G w v) p
+        go (more p w) v = within-insert G (map f az) _ (f c) (within-trans G w v) p
     peels-in (aside′ {c = c} u r) = go (pulled-in u) (peels-in r)
       where
         go : {S R Q : List A} → Within G S (f c ∷ R) → Within G R Q → Within G S (f c ∷ Q)
@@ -173,35 +144,31 @@ module _ {A : Type 0} (G : Group2 A) where
     pub peels-indep : {L : List (List ℕ)} {ts : List Solved} {az : List (List ℕ)} → Peels L ts az → Indep G (map f L) → Indep G (map f az ++ map (λ t. f (t .check)) ts)
     peels-indep stop i = empty
     peels-indep (took′ {c = c} {ts = ts} {az = az} u h o r) i = let j = pulled-indep u i in
-        indep-push (map f az) (map (λ t. f (t .check)) ts) (f c) (free (λ p. indep-head j (span-within G (peels-in r) p)) (peels-indep r (indep-tail j)))
+        indep-push G (map f az) (map (λ t. f (t .check)) ts) (f c) (free (λ p. indep-head G j (span-within G (peels-in r) p)) (peels-indep r (indep-tail G j)))
     peels-indep (aside′ u r) i = let j = pulled-indep u i in
-        free (λ p. indep-head j (span-within G (peels-in r) p)) (peels-indep r (indep-tail j))
+        free (λ p. indep-head G j (span-within G (peels-in r) p)) (peels-indep r (indep-tail G j))
 
 -- ---- putting in the solved checks keeps the others independent
-put-in : (t : Solved) (e : ℕ) {R : List ℕ} → Span XorGroup (row t ∷ R) (bitXor (put t e) e)
-put-in t e {R} = byBool (bit (t .own) e)
+putIn-in : (t : Solved) (e : ℕ) {R : List ℕ} → Span XorGroup (row t ∷ R) (bitXor (putIn t e) e)
+putIn-in t e {R} = byBool (bit (t .own) e)
     (λ k. rw k (subst (Span XorGroup (row t ∷ R)) (sym (cancel-r XorGroup (row t) e)) (span-head XorGroup)))
     (λ k. rw k (subst (Span XorGroup (row t ∷ R)) (sym (XorGroup .self e)) (span-zero XorGroup)))
 
-reduce-in : (ts : List Solved) (e : ℕ) → Span XorGroup (map row ts) (bitXor (reduce ts e) e)
-reduce-in [] e = subst (Span XorGroup []) (sym (XorGroup .self e)) (span-zero XorGroup)
-reduce-in (t ∷ ts) e = subst (Span XorGroup (map row (t ∷ ts))) (cancel-mid XorGroup (reduce ts (put t e)) (put t e) e)
-    (span-add XorGroup (span-tail XorGroup (reduce-in ts (put t e))) (put-in t e))
+putInAll-in : (ts : List Solved) (e : ℕ) → Span XorGroup (map row ts) (bitXor (putInAll ts e) e)
+putInAll-in [] e = subst (Span XorGroup []) (sym (XorGroup .self e)) (span-zero XorGroup)
+putInAll-in (t ∷ ts) e = subst (Span XorGroup (map row (t ∷ ts))) (cancel-mid XorGroup (putInAll ts (putIn t e)) (putIn t e) e)
+    (span-add XorGroup (span-tail XorGroup (putInAll-in ts (putIn t e))) (putIn-in t e))
 
-span-after : (X : List ℕ) {T : List ℕ} {x : ℕ} → Span XorGroup T x → Span XorGroup (X ++ T) x
-span-after [] p = p
-span-after (x ∷ X) p = span-tail XorGroup (span-after X p)
-
-reduced-in : (ts : List Solved) (az : List (List ℕ)) → Within XorGroup (map rowOf az ++ map row ts) (map (λ c. reduce ts (rowOf c)) az)
+reduced-in : (ts : List Solved) (az : List (List ℕ)) → Within XorGroup (map rowOf az ++ map row ts) (map (λ c. putInAll ts (rowOf c)) az)
 reduced-in ts [] = wnil
 reduced-in ts (c ∷ az) = more
-    (subst (Span XorGroup (map rowOf (c ∷ az) ++ map row ts)) (cancel-r XorGroup (reduce ts (rowOf c)) (rowOf c))
-    (span-add XorGroup (span-tail XorGroup (span-after (map rowOf az) (reduce-in ts (rowOf c)))) (span-head XorGroup)))
+    (subst (Span XorGroup (map rowOf (c ∷ az) ++ map row ts)) (cancel-r XorGroup (putInAll ts (rowOf c)) (rowOf c))
+    (span-add XorGroup (span-tail XorGroup (span-after (map rowOf az) (putInAll-in ts (rowOf c)))) (span-head XorGroup)))
     (within-tail XorGroup (reduced-in ts az))
 
-pub reduced-indep : (ts : List Solved) (az : List (List ℕ)) → Indep XorGroup (map rowOf az ++ map row ts) → Indep XorGroup (map (λ c. reduce ts (rowOf c)) az)
+pub reduced-indep : (ts : List Solved) (az : List (List ℕ)) → Indep XorGroup (map rowOf az ++ map row ts) → Indep XorGroup (map (λ c. putInAll ts (rowOf c)) az)
 reduced-indep ts [] i = empty
 reduced-indep ts (c ∷ az) (free n i) = free
-    (λ p. n (subst (Span XorGroup (map rowOf az ++ map row ts)) (cancel XorGroup (reduce ts (rowOf c)) (rowOf c))
-    (span-add XorGroup (span-within XorGroup (reduced-in ts az) p) (span-after (map rowOf az) (reduce-in ts (rowOf c))))))
+    (λ p. n (subst (Span XorGroup (map rowOf az ++ map row ts)) (cancel XorGroup (putInAll ts (rowOf c)) (rowOf c))
+    (span-add XorGroup (span-within XorGroup (reduced-in ts az) p) (span-after (map rowOf az) (putInAll-in ts (rowOf c))))))
     (reduced-indep ts az i)

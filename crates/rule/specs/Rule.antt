@@ -1,23 +1,22 @@
 -- The planner's rule (document 01, "The planner's rule" and the steps of "The plan"). A check is the list of its places,
 -- ascending; its row is the number with a one at each of its places.
-use mathlib.Core.Path.{_≡_}
-use mathlib.Core.Bool.{Bool, true, false, cond, not, _||_}
+use mathlib.Core.Bool.{Bool, true, false, cond}
 use mathlib.Core.List.{List, [], _∷_, _++_, map}
-use mathlib.Core.Option.{Option, none, some}
-use Prim.Native.Nat.{ℕ, zero, suc, _+_, _^_, max}
+use mathlib.Core.Option.{none, some}
+use Prim.Native.Nat.{ℕ, zero, suc, _^_, max}
 use lib.Bits.{bitXor}
 use lib.Dec.{eqb}
 use lib.ListN.{length}
-use Rattle.gf2.specs.Group.{XorGroup, sumOver}
 use Rattle.gf2.specs.Bit.{bit}
 use Rattle.gf2.specs.Fit.{isZero, column, below}
 use Rattle.gf2.specs.Greedy.{choose}
+use Rattle.gf2.specs.Group.{XorGroup, sumOver}
 use Rattle.gf2.specs.Lists.{highest, rev}
+use Rattle.gf2.specs.MaskFor.{maskFor}
 use Rattle.gf2.specs.Places.{has, rowOf, minus}
-use Rattle.gf2.specs.Span.{isSum}
+use Rattle.table.specs.Table.{ones}
 use Rattle.plan.specs.declared.Step.{Step}
 use Rattle.plan.specs.declared.Step.the-variants.{Clear, Add}
-use Rattle.table.specs.Table.{ones}
 
 -- ---- 1. "Go through the checks in number order. Keep one unless it is the sum of some already kept; an empty check is never kept."
 -- (the empty sum is a sum, so that an empty check is one; gf2 Masks: the test isSum tries every subset)
@@ -89,15 +88,15 @@ owns ts = map (λ t. t .own) ts
 abbrev pub row : Solved → ℕ
 row t = rowOf (t .check)
 
-abbrev pub put : Solved → ℕ → ℕ
-put t e = cond (bit (t .own) e) (bitXor (row t) e) e
+abbrev pub putIn : Solved → ℕ → ℕ
+putIn t e = cond (bit (t .own) e) (bitXor (row t) e) e
 
-abbrev pub reduce : List Solved → ℕ → ℕ
-reduce [] e = e
-reduce (t ∷ ts) e = reduce ts (put t e)
+abbrev pub putInAll : List Solved → ℕ → ℕ
+putInAll [] e = e
+putInAll (t ∷ ts) e = putInAll ts (putIn t e)
 
 abbrev pub reduced : List Solved → List (List ℕ) → List ℕ
-reduced ts az = map (λ c. reduce ts (rowOf c)) az
+reduced ts az = map (λ c. putInAll ts (rowOf c)) az
 
 -- the places that nobody owns, from the highest down
 abbrev pub unowned : ℕ → List Solved → List ℕ
@@ -111,12 +110,8 @@ fittedPlaces n ts az = rev (choose XorGroup isZero (column (reduced ts az)) [] (
 abbrev pub restricted : List ℕ → ℕ → ℕ
 restricted F e = sumOver XorGroup (λ f. cond (bit f e) (2 ^ f) 0) F
 
--- which of the rows R sum to x
-abbrev pub maskFor : List ℕ → ℕ → List Bool
-maskFor [] x = []
-maskFor (r ∷ R) x = elim (isSum XorGroup isZero R x) [ true ↦ false ∷ maskFor R x | false ↦ true ∷ maskFor R (bitXor r x) ]
-
--- the inverse's row of a fitted place: the set-aside rows whose sum, on the fitted places, is that place alone
+-- the inverse's row of a fitted place: the set-aside rows whose sum, on the fitted places, is that place alone (maskFor R x:
+-- which of the rows R sum to x)
 abbrev pub inverse : List ℕ → List ℕ → ℕ → List Bool
 inverse E F f = maskFor (map (restricted F) E) (2 ^ f)
 
@@ -166,7 +161,7 @@ pub record Plan : Type 0 where
   pub own : List ℕ
   pub fitted : List ℕ
   pub info : List ℕ
-  pub list : List Step
+  pub steps : List Step
 
 abbrev pub plan : ℕ → List (List ℕ) → Plan
 plan n cs =
@@ -182,5 +177,5 @@ plan n cs =
       own = owns (rev ts);
       fitted = F;
       info = minus (rev (below n)) (owns ts ++ F);
-      list = planSteps n ts az;
+      steps = planSteps n ts az;
     }

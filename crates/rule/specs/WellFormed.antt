@@ -1,26 +1,24 @@
 -- Every step of the plan is well-formed: its slots are there, no slot is added into itself, no information place is written.
-use mathlib.Core.Path.{_≡_, refl, sym, ap, ap₂, _∙_, subst}
-use mathlib.Core.Bool.{Bool, true, false, cond, not, _||_, true≢false, false≢true}
+use mathlib.Core.Path.{_≡_, refl, sym, ap, subst}
+use mathlib.Core.Bool.{Bool, true, false, not}
 use mathlib.Core.List.{List, [], _∷_, _++_, map}
-use Prim.Native.Nat.{ℕ, zero, suc, _+_, _^_, _<_, _≤_}
+use Prim.Native.Nat.{ℕ, suc, _+_, _<_, _≤_}
 use native.Mathlib.Omega.{arith}
 use lib.Dec.{eqb}
 use lib.ListN.{length}
-use Rattle.gf2.specs.Bit.{eqb-true, eqb-false, eqb-self, eqb-comm}
-use Rattle.rule.specs.Codeword.{all-rev, all-self}
-use Rattle.rule.specs.Phases.{has-low, has-ticked}
-use Rattle.rule.specs.Final.{tri-own, all-append, has-append-r, ticked-low}
+use Rattle.gf2.specs.Bit.{eqb-false}
 use Rattle.gf2.specs.Fit.{below}
+use Rattle.gf2.specs.ListLaws.{all-rev, all-self, has-low, all-append, has-append-r, all-unmap, has-append-l}
 use Rattle.gf2.specs.Lists.{Distinct, all-filter, rev, all-zip, below-of}
-use Rattle.rule.specs.Main.{ts, az, F, tri, lowT, lowA, free-good, lens, all-unmap}
-use Rattle.rule.specs.Rule.{Solved, clearAndAdd, solvingSteps, scratchSteps, slotsNamed, fittingSteps, owns, stepsWithGap, fittedPlaces, inverse, reduced, planSteps, plan, Plan}
-use Rattle.rule.specs.Run.{own-out}
-use Rattle.gf2.specs.Places.{has, par, has-par, filter, minus, has-filter, or-false-l, or-false-r}
-use Rattle.gf2.specs.Span.{byBool, or-l, or-r}
-use Rattle.plan.specs.LayoutLaws.{Sound}
-use Rattle.plan.specs.declared.Step.{Step}
-use Rattle.plan.specs.declared.Step.the-variants.{Clear, Add}
+use Rattle.gf2.specs.Places.{has, has-filter, or-false-l, or-false-r}
 use Rattle.gf2.specs.Width.{All, All.nil, All.cons, all-map}
+use Rattle.plan.specs.declared.Step.the-variants.{Clear, Add}
+use Rattle.plan.specs.LayoutLaws.{Sound}
+use Rattle.rule.specs.AllChecksZero.{ts, az, F, tri, lowT, lowA, free-good, lens}
+use Rattle.rule.specs.Rule.{Solved, clearAndAdd, solvingSteps, scratchSteps, fittingSteps, owns, stepsWithGap, fittedPlaces, inverse, reduced, planSteps, plan}
+use Rattle.rule.specs.ScratchAndFitting.{has-named, named-low}
+use Rattle.rule.specs.Solved.{tri-own}
+use Rattle.rule.specs.Solving.{own-out}
 
 -- ---- the parts of the list, each for itself
 module _ (k : ℕ) (I : List ℕ) where
@@ -48,13 +46,8 @@ module _ (k : ℕ) (I : List ℕ) where
   sound-fitting : (n : ℕ) (inv : ℕ → List Bool) {fs : List ℕ} → n ≤ k → All (λ f. ((f < n) × (n + length (inv f) ≤ k)) × (has f I ≡ false)) fs → All (Sound k I) (fittingSteps n inv fs)
   sound-fitting n inv w nil = nil
   sound-fitting n inv w (cons {x = f} r a) = all-append
-      (sound-fill f (let q = r .0 .0 in omega arith) (r .1) (ticked-low k n (inv f) (r .0 .1)) (has-ticked f n (r .0 .0) (inv f)))
+      (sound-fill f (let q = r .0 .0 in omega arith) (r .1) (named-low k n (inv f) (r .0 .1)) (has-named f n (r .0 .0) (inv f)))
       (sound-fitting n inv w a)
-
--- a member of the first part
-has-append-l : (p : ℕ) (l m : List ℕ) → has p l ≡ true → has p (l ++ m) ≡ true
-has-append-l p [] m h = absurd (false≢true h)
-has-append-l p (x ∷ l) m h = byBool (eqb p x) (λ e. rw e) (λ e. rw e (has-append-l p l m (rw e at h)))
 
 -- ---- the plan
 module _ (n : ℕ) (cs : List (List ℕ)) (d : All Distinct cs) (low : All (λ c. All (λ p. p < n) c) cs) where
@@ -99,5 +92,5 @@ module _ (n : ℕ) (cs : List (List ℕ)) (d : All Distinct cs) (low : All (λ c
       (sound-solving k I [] solved-sound))))
 
   -- every step of the plan: slots in range, none added into itself, no information place written
-  pub well-formed : All (Sound (n + plan n cs .g) (plan n cs .info)) (plan n cs .list)
+  pub well-formed : All (Sound (n + plan n cs .g) (plan n cs .info)) (plan n cs .steps)
   well-formed = sound-parts Z refl

@@ -22,10 +22,11 @@ use Rattle.plan.specs.Layout.{stepsOf, mostAside, planRefusal, planKept, planGa
 use Rattle.rule.specs.Rule.{plan, Plan}
 use Rattle.rule.specs.Encoded.{encode}
 use Rattle.rule.specs.OneBlock.{Encodes, block, block-encodes, one-block}
-use Rattle.rule.specs.Info.{info-number, kept-few, getD-has}
+use Rattle.rule.specs.Info.{info-number, kept-few}
+use Rattle.gf2.specs.ListLaws.{getD-has}
 use Rattle.rule.specs.Bound.{adds-most, kept-ones, adds-bound, fitted-number}
 use Rattle.rule.specs.WellFormed.{info-low}
-use Rattle.planner.specs.Planning.{planOf, numbersOf, plans, planAnswer, planAfter, answerAt as planAnswerAt}
+use Rattle.planner.specs.Planning.{planOf, numbersOf, planningRefused, planAnswer, planAfter, answerAt as planAnswerAt}
 use Rattle.planner.specs.PlanningLaws.{accepted-planning}
 use Rattle.encoder.specs.Encoding.{stepsWithin, slotsAfter, encodes, encodeAnswer, answerAt, blockAfter}
 use Rattle.encoder.specs.EncodingLaws.{accepted as accepted-encoding, not-refused-at, count-within, limit-all}
@@ -104,12 +105,12 @@ module _ (t : List ℕ) (ok : refusal t ≡ 0) where
   }
 
   module _ (few : planOf t .g ≤ mostAside) where
-    counted : (information b c : List ℕ) (limit : ℕ) → encodeAnswer (numbersOf t) information b c limit .additions ≤ addSteps (planOf t .list)
+    counted : (information b c : List ℕ) (limit : ℕ) → encodeAnswer (numbersOf t) information b c limit .additions ≤ addSteps (planOf t .steps)
     unfolding planOf numbersOf
     counted information b c limit =
         let p = answered (encodes (numbersOf t) information b c limit) (addSteps (stepsWithin (numbersOf t) limit)) in
-        let q : addSteps (stepsWithin (numbersOf t) limit) ≤ addSteps (planOf t .list) =
-        subst (λ l. addSteps (take limit l) ≤ addSteps (planOf t .list)) (sym (own-steps t ok few)) (fewer limit (planOf t .list)) in
+        let q : addSteps (stepsWithin (numbersOf t) limit) ≤ addSteps (planOf t .steps) =
+        subst (λ l. addSteps (take limit l) ≤ addSteps (planOf t .steps)) (sym (own-steps t ok few)) (fewer limit (planOf t .steps)) in
         omega arith
 
     -- demand 3, the bound
@@ -149,7 +150,7 @@ module _ (t : List ℕ) (ok : refusal t ≡ 0) where
       slots-are : slotsAfter (numbersOf t) information limit ≡ encode n s (planOf t) ps
       unfolding planOf numbersOf
       slots-are = ap₂ (λ I l. carryOutAll s (atStart (n + planOf t .g) s I (packets s (infoCount (numbersOf t)) information)) (take limit l)) (own-info t ok few) (own-steps t ok few)
-          ∙ ap₂ (λ c l. carryOutAll s (atStart (n + planOf t .g) s (planOf t .info) (packets s c information)) l) (own-places t ok few) (take-all limit (planOf t .list) (subst (λ m. m ≤ limit) (own-count t ok few) (lent .all-steps)))
+          ∙ ap₂ (λ c l. carryOutAll s (atStart (n + planOf t .g) s (planOf t .info) (packets s c information)) l) (own-places t ok few) (take-all limit (planOf t .steps) (subst (λ m. m ≤ limit) (own-count t ok few) (lent .all-steps)))
 
       after : blockAfter (numbersOf t) information blockBuffer scratchBuffer limit ≡ joined (block n s (checks t) ps)
       unfolding planOf numbersOf
@@ -208,7 +209,7 @@ module _ (t : List ℕ) (ok : refusal t ≡ 0) where
       }
 
 -- ---- the calls, one after the other
-module _ (t planBuffer work : List ℕ) (ok : plans t planBuffer work ≡ 0) where
+module _ (t planBuffer work : List ℕ) (ok : planningRefused t planBuffer work ≡ 0) where
   -- an accepted planning
   table-ok : refusal t ≡ 0
   table-ok = accepted-planning t (length planBuffer) (length work) ok .0

@@ -24,7 +24,8 @@ use Rattle.plan.specs.Layout.{badCounts, goodStep, wellFormed, planRefusal, inf
 use Rattle.rule.specs.Rule.{plan, Plan}
 use Rattle.rule.specs.WellFormed.{well-formed, info-low}
 use Rattle.rule.specs.Info.{info-number, kept-few}
-use Rattle.rule.specs.Accepted.{Up, Up.none as unone, Up.then as uthen, info-up, kept-length, aside-few, steps-limit}
+use Rattle.gf2.specs.Ascending.{Up, Up.none as unone, Up.then as uthen}
+use Rattle.rule.specs.Accepted.{info-up, kept-length, aside-few, steps-limit}
 use Rattle.planner.specs.Planning.{planOf, numbersOf}
 
 -- ---- tests
@@ -54,7 +55,7 @@ module _ (t : List ℕ) (ok : refusal t ≡ 0) (few : planOf t .g ≤ mostAside)
   abbrev P : Plan
   P = planOf t
 
-  sounds : All (Sound (n + P .g) (P .info)) (P .list)
+  sounds : All (Sound (n + P .g) (P .info)) (P .steps)
   unfolding planOf numbersOf
   sounds = well-formed n (checks t) (good .distinct) (good .low)
 
@@ -65,19 +66,19 @@ module _ (t : List ℕ) (ok : refusal t ≡ 0) (few : planOf t .g ≤ mostAside)
   -- reading back
   pub own-info : infoIn (numbersOf t) ≡ P .info
   unfolding planOf numbersOf
-  own-info = info-back n (size t) (P .g) (P .M) (P .info) (P .list)
+  own-info = info-back n (size t) (P .g) (P .M) (P .info) (P .steps)
 
-  pub own-count : stepCount (numbersOf t) ≡ length (P .list)
+  pub own-count : stepCount (numbersOf t) ≡ length (P .steps)
   unfolding planOf numbersOf
-  own-count = count-back n (size t) (P .g) (P .M) (P .info) (P .list)
+  own-count = count-back n (size t) (P .g) (P .M) (P .info) (P .steps)
 
-  pub own-length : length (numbersOf t) ≡ 7 + length (P .info) + length (P .list)
+  pub own-length : length (numbersOf t) ≡ 7 + length (P .info) + length (P .steps)
   unfolding planOf numbersOf
-  own-length = numbers-length n (size t) (P .g) (P .M) (P .info) (P .list)
+  own-length = numbers-length n (size t) (P .g) (P .M) (P .info) (P .steps)
 
-  pub own-steps : stepsOf (numbersOf t) ≡ P .list
+  pub own-steps : stepsOf (numbersOf t) ≡ P .steps
   unfolding planOf numbersOf
-  own-steps = ap unpackAll (steps-back n (size t) (P .g) (P .M) (P .info) (P .list)) ∙ packed-back (n + P .g) (P .info) fits sounds
+  own-steps = ap unpackAll (steps-back n (size t) (P .g) (P .M) (P .info) (P .steps)) ∙ packed-back (n + P .g) (P .info) fits sounds
 
   pub own-places : infoCount (numbersOf t) ≡ n - P .M
   unfolding planOf numbersOf
@@ -110,7 +111,7 @@ module _ (t : List ℕ) (ok : refusal t ≡ 0) (few : planOf t .g ≤ mostAside)
   unfolding planOf numbersOf
   own-well-formed = and-yes (ap not counts)
       (and-yes (ap (rising n 0) own-info ∙ up-rising n (info-up n (checks t)) (info-low n (checks t) (good .distinct) (good .low)))
-      (ap₂ (λ I l. allPass (λ x. goodStep (n + P .g) I (unpack x)) l) own-info (steps-back n (size t) (P .g) (P .M) (P .info) (P .list)) ∙ packed-good (n + P .g) (P .info) fits sounds))
+      (ap₂ (λ I l. allPass (λ x. goodStep (n + P .g) I (unpack x)) l) own-info (steps-back n (size t) (P .g) (P .M) (P .info) (P .steps)) ∙ packed-good (n + P .g) (P .info) fits sounds))
 
   -- so that the encoder never refuses it with 9
   pub own-accepted : planRefusal (numbersOf t) ≡ 0

@@ -9,7 +9,7 @@ use Rattle.table.specs.FirstCause.{RefusedBy, refused-by}
 use Rattle.table.specs.Table.{tableCauses, refusal}
 use Rattle.table.specs.PacketCall.{packetCauses, packetRefusal}
 use Rattle.plan.specs.Layout.{planCauses, planRefusal}
-use Rattle.planner.specs.Planning.{planningCauses, planningRefusal, planAnswer, answerAt as planAnswerAt, plans}
+use Rattle.planner.specs.Planning.{planningCauses, planningRefusal, planAnswer, answerAt as planAnswerAt, planningRefused}
 use Rattle.encoder.specs.Encoding.{encodeCauses, encodeRefusal, encodeAnswer, answerAt as encodeAnswerAt, encodes}
 use Rattle.repair.specs.Repair.{repairCauses, repairRefusal, repairReport, reportAt}
 use Rattle.erasure.specs.Restoring.{State, outcome}
@@ -51,7 +51,7 @@ repair-refusals t b map = subst (λ r. RefusedBy r (repairCauses t b map)) (sym 
 pub planning-refusals : (t planBuffer work : List ℕ) → RefusedBy (planAnswer t planBuffer work .refusal) (planningCauses t (length planBuffer) (length work))
 unfolding planningRefusal
 planning-refusals t planBuffer work =
-    subst (λ r. RefusedBy r (planningCauses t (length planBuffer) (length work))) (sym (told (plans t planBuffer work))) (refused-by (planningCauses t (length planBuffer) (length work)) refl)
+    subst (λ r. RefusedBy r (planningCauses t (length planBuffer) (length work))) (sym (told (planningRefused t planBuffer work))) (refused-by (planningCauses t (length planBuffer) (length work)) refl)
   where
     told : (r : ℕ) → planAnswerAt r t .refusal ≡ r
     told zero = refl

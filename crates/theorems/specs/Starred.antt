@@ -36,7 +36,7 @@ planning t = planningRefusal t leastPlan workWords ∷ []
 
 -- the planner: refusal, own places in the order of solving, information places, and M, W, g, additions
 abbrev planned : List ℕ → List (List ℕ)
-planned t = planning t ∷ planOf t .own ∷ planOf t .info ∷ (planOf t .M ∷ planOf t .W ∷ planOf t .g ∷ addSteps (planOf t .list) ∷ []) ∷ []
+planned t = planning t ∷ planOf t .own ∷ planOf t .info ∷ (planOf t .M ∷ planOf t .W ∷ planOf t .g ∷ addSteps (planOf t .steps) ∷ []) ∷ []
 
 -- planning and then encoding to the last step: the planner's refusal, the encoder's and its additions, and the block
 abbrev encoded : List ℕ → List ℕ → List ℕ → List ℕ → List (List ℕ)
@@ -78,7 +78,7 @@ starred =
     -- P9: no information, block 00, 0 additions, bound 0
     ∷ record { given = (planOf table9 .info) ∷ (bound table9 ∷ []) ∷ encoded table9 [] (9 ∷ []) []; paper = [] ∷ (0 ∷ []) ∷ (0 ∷ []) ∷ (0 ∷ 0 ∷ []) ∷ (0x00 ∷ []) ∷ [] }
     -- P10: three information places, no step
-    ∷ record { given = planning table10 ∷ planOf table10 .info ∷ (length (planOf table10 .list) ∷ []) ∷ []; paper = (0 ∷ []) ∷ (0 ∷ 1 ∷ 2 ∷ []) ∷ (0 ∷ []) ∷ [] }
+    ∷ record { given = planning table10 ∷ planOf table10 .info ∷ (length (planOf table10 .steps) ∷ []) ∷ []; paper = (0 ∷ []) ∷ (0 ∷ 1 ∷ 2 ∷ []) ∷ (0 ∷ []) ∷ [] }
     ∷ []
 
 pub starred-cases : map (λ c. c .given) starred ≡ map (λ c. c .paper) starred

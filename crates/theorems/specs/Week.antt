@@ -11,7 +11,7 @@ use Rattle.gf2.specs.Span.{anyOf}
 use Rattle.gf2.specs.Width.{All, All.nil, All.cons}
 use Rattle.table.specs.Codewords.{IsCodeword}
 use Rattle.table.specs.Table.{places, size, refusal}
-use Rattle.planner.specs.Planning.{plans}
+use Rattle.planner.specs.Planning.{planningRefused}
 use Rattle.planner.specs.PlanningLaws.{accepted-planning}
 use Rattle.encoder.specs.Encoding.{blockAfter}
 use Rattle.erasure.specs.Largest.{Largest, largest-exists}
@@ -54,7 +54,7 @@ module _ (t planBuffer work information blockBuffer scratchBuffer : List ℕ) (l
 
   -- planning is accepted; the buffers have the right lengths, and the limit means all steps; received packets are as they were sent
   pub the-week : (block map : List ℕ)
-      → plans t planBuffer work ≡ 0
+      → planningRefused t planBuffer work ≡ 0
       → ToTheLastStep t (handed t planBuffer work) information blockBuffer scratchBuffer limit
       → Arrives t sent block map
       → Week t (handed t planBuffer work) information blockBuffer scratchBuffer limit sent block map

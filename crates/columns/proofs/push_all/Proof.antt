@@ -1,6 +1,6 @@
 -- `columns::push_all` meets its contract: k solved checks are put in.
 use mathlib.Core.List.{map, List}
-use Rattle.rule.specs.Rule.{reduce}
+use Rattle.rule.specs.Rule.{putInAll}
 use Rattle.rule.specs.Buffers.{solved}
 use Rattle.table.specs.Checks.{check, offset, Places}
 use Rattle.columns.specs.Cols.{Columns}
@@ -13,7 +13,7 @@ use Rattle.columns.proofs.push_all.Statement.{statement}
 use Rattle.columns.proofs.push_all.Tie as tie
 
 abbrev Inv-loop : tie.InvT-loop
-Inv-loop col₀ t m starts order owns taken k₀ col k = (k ≤ taken) × (length col ≡ length col₀) × ((E : List ℕ) → Columns E col₀ → Columns (map (reduce (solved (check t m) order owns k)) E) col)
+Inv-loop col₀ t m starts order owns taken k₀ col k = (k ≤ taken) × (length col ≡ length col₀) × ((E : List ℕ) → Columns E col₀ → Columns (map (putInAll (solved (check t m) order owns k)) E) col)
 
 abbrev μ-loop : tie.MeasureT-loop
 μ-loop col₀ t m starts order owns taken k₀ col k = taken - k

@@ -1,6 +1,5 @@
 -- `compose::clears` meets its contract: none set aside, or some.
 use Rattle.compose.proofs.ClearSteps.{clears-some}
-use Prim.Native.Nat.{_-_}
 use borrow.Author.Needs.{needs}
 use Rattle.compose.proofs.clears.Statement.{statement}
 use Rattle.compose.proofs.clears.Tie as tie
@@ -18,7 +17,9 @@ add-result : tie.Need-add-result
 add-result c = search needs
 
 returns-2 : tie.Need-returns-2
-returns-2 c = clears-some (c .before .args .taken) (c .before .args .g) (c .if1 .left)
+returns-2 c =
+    let start = c .before in
+    clears-some (start .args .taken) (start .args .g) (c .if1 .left)
 
 pub clears-spec : {M : Type 1} → statement M
 clears-spec = tie.close (tie.spec returns mul-result mul-result-2 add-result returns-2)

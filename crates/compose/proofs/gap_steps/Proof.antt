@@ -1,5 +1,4 @@
 -- `compose::gap_steps` meets its contract: the four parts, one after the other.
-use Prim.Native.Nat.{_≤_}
 use mathlib.Core.Path.{ap}
 use mathlib.Core.List.{map}
 use native.Mathlib.Omega.{arith}

@@ -1,4 +1,9 @@
 -- `compose::info_section` meets its contract: the places, and then their count.
+use mathlib.Core.Path.{_≡_}
+use mathlib.Core.List.{_++_}
+use Prim.Native.Nat.{_+_}
+use native.Mathlib.Omega.{arith}
+use lib.ListN.{length, take}
 use Rattle.gf2.specs.Fit.{below}
 use Rattle.gf2.specs.Lists.{rev}
 use Rattle.gf2.specs.Places.{minus}
@@ -6,11 +11,6 @@ use Rattle.emit.specs.Emit.{marked, Wrote}
 use Rattle.emit.specs.MarkLaws.{below-more}
 use Rattle.emit.specs.WroteLaws.{wrote-count, wrote-is}
 use Rattle.compose.proofs.Sections.{info-few, used-long, info-is}
-use Prim.Native.Nat.{_+_, _-_}
-use mathlib.Core.Path.{_≡_}
-use mathlib.Core.List.{_++_}
-use native.Mathlib.Omega.{arith}
-use lib.ListN.{length, take}
 use borrow.Author.Needs.{needs}
 use Rattle.compose.proofs.info_section.Statement.{statement}
 use Rattle.compose.proofs.info_section.Tie as tie
@@ -19,7 +19,9 @@ slice-aggregate-mark : tie.Need-slice-aggregate-mark
 slice-aggregate-mark c = search needs
 
 mark-requires : tie.Need-mark-requires
-mark-requires c κs = below-more (c .before .before .before .before .pre .1 .1 .0) (c .before .before .before .before .pre .1 .1 .1)
+mark-requires c κs =
+    let start = c .before .before .before .before in
+    below-more (start .pre .1 .1 .0) (start .pre .1 .1 .1)
 
 slice-aggregate-mark-2 : tie.Need-slice-aggregate-mark-2
 slice-aggregate-mark-2 c = search needs
@@ -35,10 +37,11 @@ slice-aggregate-unmarked c = search needs
 
 unmarked-requires : tie.Need-unmarked-requires
 unmarked-requires c κs =
-    let a = c .before .before .before .before .before .before .before .before .before .before .before .args in
-    let i = info-is (a .n) (a .owns .now) (a .fitted .now) (a .taken) (a .g) (c .before .before .before .before .before .before .before .before .before .before .before .pre .1 .0) (c .before .before .before .before .before .before .before .before .before .before .before .pre .1 .1 .0) (c .before .before .before .before .before .before .before .before .before .before .before .pre .1 .1 .1) (c .before .before .before .before .before .before .mark .last .0) (c .before .before .before .mark2 .last .0) (c .before .before .before .before .before .before .mark .ensures) (c .before .before .before .mark2 .ensures) in
-    let l = used-long (a .n) (a .owns .now) (a .fitted .now) (a .taken) (a .g) (c .before .before .before .before .before .before .before .before .before .before .before .pre .1 .0) (c .before .before .before .before .before .before .before .before .before .before .before .pre .1 .1 .0) (c .before .before .before .before .before .before .before .before .before .before .before .pre .1 .1 .1) (c .before .before .before .before .before .before .mark .last .0) (c .before .before .before .mark2 .last .0) (c .before .before .before .before .before .before .mark .ensures) (c .before .before .before .mark2 .ensures) in
-    (rw i (c .before .before .before .before .before .before .before .before .before .before .before .pre .0), (omega arith, omega arith))
+    let start = c .before .before .before .before .before .before .before .before .before .before .before in
+    let a = start .args in
+    let i = info-is (a .n) (a .owns .now) (a .fitted .now) (a .taken) (a .g) (start .pre .1 .0) (start .pre .1 .1 .0) (start .pre .1 .1 .1) (c .before .before .before .before .before .before .mark .last .0) (c .before .before .before .mark2 .last .0) (c .before .before .before .before .before .before .mark .ensures) (c .before .before .before .mark2 .ensures) in
+    let l = used-long (a .n) (a .owns .now) (a .fitted .now) (a .taken) (a .g) (start .pre .1 .0) (start .pre .1 .1 .0) (start .pre .1 .1 .1) (c .before .before .before .before .before .before .mark .last .0) (c .before .before .before .mark2 .last .0) (c .before .before .before .before .before .before .mark .ensures) (c .before .before .before .mark2 .ensures) in
+    (rw i (start .pre .0), (omega arith, omega arith))
 
 sub-plan : tie.Need-sub-plan
 sub-plan c = search needs
@@ -48,9 +51,10 @@ sub-plan-2 c = search needs
 
 cast-plan : tie.Need-cast-plan
 cast-plan c =
-    let a = c .before .before .before .before .before .before .before .before .before .before .before .before .before .before .args in
-    let i = info-is (a .n) (a .owns .now) (a .fitted .now) (a .taken) (a .g) (c .before .before .before .before .before .before .before .before .before .before .before .before .before .before .pre .1 .0) (c .before .before .before .before .before .before .before .before .before .before .before .before .before .before .pre .1 .1 .0) (c .before .before .before .before .before .before .before .before .before .before .before .before .before .before .pre .1 .1 .1) (c .before .before .before .before .before .before .before .before .before .mark .last .0) (c .before .before .before .before .before .before .mark2 .last .0) (c .before .before .before .before .before .before .before .before .before .mark .ensures) (c .before .before .before .before .before .before .mark2 .ensures) in
-    let l = used-long (a .n) (a .owns .now) (a .fitted .now) (a .taken) (a .g) (c .before .before .before .before .before .before .before .before .before .before .before .before .before .before .pre .1 .0) (c .before .before .before .before .before .before .before .before .before .before .before .before .before .before .pre .1 .1 .0) (c .before .before .before .before .before .before .before .before .before .before .before .before .before .before .pre .1 .1 .1) (c .before .before .before .before .before .before .before .before .before .mark .last .0) (c .before .before .before .before .before .before .mark2 .last .0) (c .before .before .before .before .before .before .before .before .before .mark .ensures) (c .before .before .before .before .before .before .mark2 .ensures) in
+    let start = c .before .before .before .before .before .before .before .before .before .before .before .before .before .before in
+    let a = start .args in
+    let i = info-is (a .n) (a .owns .now) (a .fitted .now) (a .taken) (a .g) (start .pre .1 .0) (start .pre .1 .1 .0) (start .pre .1 .1 .1) (c .before .before .before .before .before .before .before .before .before .mark .last .0) (c .before .before .before .before .before .before .mark2 .last .0) (c .before .before .before .before .before .before .before .before .before .mark .ensures) (c .before .before .before .before .before .before .mark2 .ensures) in
+    let l = used-long (a .n) (a .owns .now) (a .fitted .now) (a .taken) (a .g) (start .pre .1 .0) (start .pre .1 .1 .0) (start .pre .1 .1 .1) (c .before .before .before .before .before .before .before .before .before .mark .last .0) (c .before .before .before .before .before .before .mark2 .last .0) (c .before .before .before .before .before .before .before .before .before .mark .ensures) (c .before .before .before .before .before .before .mark2 .ensures) in
     let w = c .before .before .unmarked .ensures .next in
     let f = info-few (a .n) (marked (c .before .before .before .before .before .before .mark2 .last .0)) in
     omega arith
@@ -66,11 +70,12 @@ same-length c = search needs
 
 returns : tie.Need-returns
 returns c =
-    let a = c .before .before .before .before .before .before .before .before .before .before .before .before .before .before .args in
-    let i = info-is (a .n) (a .owns .now) (a .fitted .now) (a .taken) (a .g) (c .before .before .before .before .before .before .before .before .before .before .before .before .before .before .pre .1 .0) (c .before .before .before .before .before .before .before .before .before .before .before .before .before .before .pre .1 .1 .0) (c .before .before .before .before .before .before .before .before .before .before .before .before .before .before .pre .1 .1 .1) (c .before .before .before .before .before .before .before .before .before .mark .last .0) (c .before .before .before .before .before .before .mark2 .last .0) (c .before .before .before .before .before .before .before .before .before .mark .ensures) (c .before .before .before .before .before .before .mark2 .ensures) in
-    let l = used-long (a .n) (a .owns .now) (a .fitted .now) (a .taken) (a .g) (c .before .before .before .before .before .before .before .before .before .before .before .before .before .before .pre .1 .0) (c .before .before .before .before .before .before .before .before .before .before .before .before .before .before .pre .1 .1 .0) (c .before .before .before .before .before .before .before .before .before .before .before .before .before .before .pre .1 .1 .1) (c .before .before .before .before .before .before .before .before .before .mark .last .0) (c .before .before .before .before .before .before .mark2 .last .0) (c .before .before .before .before .before .before .before .before .before .mark .ensures) (c .before .before .before .before .before .before .mark2 .ensures) in
+    let start = c .before .before .before .before .before .before .before .before .before .before .before .before .before .before in
+    let a = start .args in
+    let i = info-is (a .n) (a .owns .now) (a .fitted .now) (a .taken) (a .g) (start .pre .1 .0) (start .pre .1 .1 .0) (start .pre .1 .1 .1) (c .before .before .before .before .before .before .before .before .before .mark .last .0) (c .before .before .before .before .before .before .mark2 .last .0) (c .before .before .before .before .before .before .before .before .before .mark .ensures) (c .before .before .before .before .before .before .mark2 .ensures) in
+    let l = used-long (a .n) (a .owns .now) (a .fitted .now) (a .taken) (a .g) (start .pre .1 .0) (start .pre .1 .1 .0) (start .pre .1 .1 .1) (c .before .before .before .before .before .before .before .before .before .mark .last .0) (c .before .before .before .before .before .before .mark2 .last .0) (c .before .before .before .before .before .before .before .before .before .mark .ensures) (c .before .before .before .before .before .before .mark2 .ensures) in
     let w : Wrote (a .plan .now) (a .at + 1) (minus (rev (below (a .n))) (take (a .taken) (a .owns .now) ++ take (a .g) (a .fitted .now))) (c .before .before .unmarked .last .0) (c .before .before .unmarked .result) = wrote-is (c .before .before .unmarked .ensures) i in
-    wrote-count (c .before .before .before .before .before .before .before .before .before .before .before .before .before .before .pre .0) w
+    wrote-count (start .pre .0) w
 
 pub info-section-spec : {M : Type 1} → statement M
 info-section-spec =

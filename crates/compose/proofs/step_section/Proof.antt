@@ -1,14 +1,12 @@
 -- `compose::step_section` meets its contract: the steps, and then their count.
+use mathlib.Core.Path.{ap}
 use mathlib.Core.List.{map, _∷_}
+use native.Mathlib.Omega.{arith}
 use Rattle.table.specs.Table.{places}
 use Rattle.plan.specs.Step.{pack}
 use Rattle.rule.specs.Rule.{planSteps}
 use Rattle.emit.specs.Emit.{solvedIn, asideIn}
-use Rattle.emit.specs.WroteLaws.{wrote-count, wrote-is}
-use Rattle.emit.specs.WroteLaws.{packed-length}
-use Prim.Native.Nat.{_-_}
-use mathlib.Core.Path.{ap}
-use native.Mathlib.Omega.{arith}
+use Rattle.emit.specs.WroteLaws.{wrote-count, wrote-is, packed-length}
 use borrow.Author.Needs.{needs}
 use Rattle.compose.proofs.step_section.Statement.{statement}
 use Rattle.compose.proofs.step_section.Tie as tie
@@ -27,11 +25,12 @@ sub-plan-2 c = search needs
 
 cast-plan : tie.Need-cast-plan
 cast-plan c =
-    let a = c .before .before .before .before .before .before .before .before .before .before .before .before .args in
+    let start = c .before .before .before .before .before .before .before .before .before .before .before .before in
+    let a = start .args in
     let steps = planSteps (places (a .t .now)) (solvedIn (a .t .now) (a .order .now) (a .owns .now) (a .taken)) (asideIn (a .t .now) (a .aside .now) (a .g)) in
     let l = packed-length steps in
     let w = c .before .before .write-steps .ensures .next in
-    let q = c .before .before .before .before .before .before .before .before .before .before .before .before .pre .1 .1 in
+    let q = start .pre .1 .1 in
     omega arith
 
 mul-plan : tie.Need-mul-plan
@@ -45,10 +44,11 @@ same-length c = search needs
 
 returns : tie.Need-returns
 returns c =
-    let a = c .before .before .before .before .before .before .before .before .before .before .before .before .args in
+    let start = c .before .before .before .before .before .before .before .before .before .before .before .before in
+    let a = start .args in
     let steps = planSteps (places (a .t .now)) (solvedIn (a .t .now) (a .order .now) (a .owns .now) (a .taken)) (asideIn (a .t .now) (a .aside .now) (a .g)) in
     let l = packed-length steps in
-    wrote-is (wrote-count (omega (arith, c .before .before .before .before .before .before .before .before .before .before .before .before .pre .0)) (c .before .before .write-steps .ensures)) (ap (λ n. n ∷ map pack steps) l)
+    wrote-is (wrote-count (omega (arith, start .pre .0)) (c .before .before .write-steps .ensures)) (ap (λ n. n ∷ map pack steps) l)
 
 pub step-section-spec : {M : Type 1} → statement M
 step-section-spec =

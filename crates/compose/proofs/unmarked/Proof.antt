@@ -1,16 +1,16 @@
 -- `compose::unmarked` meets its contract: the places that are left, one after the other.
+use mathlib.Core.Path.{_≡_, ap, _∙_}
+use mathlib.Core.List.{[]}
+use mathlib.Core.Logic.{⊎-elim}
+use Prim.Native.Nat.{_+_, _-_, _≤_, _<_}
+use native.Mathlib.Omega.{arith}
+use lib.ListN.{length}
 use Rattle.gf2.specs.Fit.{below}
 use Rattle.gf2.specs.Lists.{rev}
 use Rattle.gf2.specs.Places.{minus}
 use Rattle.emit.specs.Emit.{marked}
 use Rattle.emit.specs.WroteLaws.{Left, left-all, left-is, left-one, left-room, left-length, left-done}
 use Rattle.compose.proofs.FreePlaces.{frees, frees-all, frees-none, frees-marked, frees-next}
-use Prim.Native.Nat.{_+_, _-_, _≤_, _<_}
-use mathlib.Core.Path.{_≡_, ap, _∙_}
-use mathlib.Core.List.{[]}
-use mathlib.Core.Logic.{⊎-elim}
-use native.Mathlib.Omega.{arith}
-use lib.ListN.{length}
 use Rattle.compose.proofs.unmarked.Statement.{statement}
 use Rattle.compose.proofs.unmarked.Tie as tie
 
@@ -31,27 +31,30 @@ cast-plan c = omega arith
 
 slice-write-plan : tie.Need-slice-write-plan Inv-loop μ-loop
 slice-write-plan c =
-    let a = c .before .before .before .before .args in
+    let start = c .before .before .before .before in
+    let a = start .args in
     let s = c .before .before .before .loop in
-    let room : a .at + length (minus (rev (below (a .n))) (marked (a .used .now))) ≤ length (a .plan .now) = c .before .before .before .before .pre .0 in
+    let room : a .at + length (minus (rev (below (a .n))) (marked (a .used .now))) ≤ length (a .plan .now) = start .pre .0 in
     let r = left-room room (left-is _ (s .inv .1) (frees-next (a .n) (a .used .now) (s .p) (c .before .before .loop-test .taken) (c .if1 .taken))) in
     let l = left-length room (s .inv .1) in
     omega arith
 
 mul-plan : tie.Need-mul-plan Inv-loop μ-loop
 mul-plan c =
-    let a = c .before .before .before .before .args in
+    let start = c .before .before .before .before in
+    let a = start .args in
     let s = c .before .before .before .loop in
-    let room : a .at + length (minus (rev (below (a .n))) (marked (a .used .now))) ≤ length (a .plan .now) = c .before .before .before .before .pre .0 in
+    let room : a .at + length (minus (rev (below (a .n))) (marked (a .used .now))) ≤ length (a .plan .now) = start .pre .0 in
     let r : s .k < length (s .plan) = slice-write-plan c in
     let l = left-length room (s .inv .1) in
     omega arith
 
 add-k : tie.Need-add-k Inv-loop μ-loop
 add-k c =
-    let a = c .before .before .before .before .args in
+    let start = c .before .before .before .before in
+    let a = start .args in
     let s = c .before .before .before .loop in
-    let room : a .at + length (minus (rev (below (a .n))) (marked (a .used .now))) ≤ length (a .plan .now) = c .before .before .before .before .pre .0 in
+    let room : a .at + length (minus (rev (below (a .n))) (marked (a .used .now))) ≤ length (a .plan .now) = start .pre .0 in
     let r : s .k < length (s .plan) = slice-write-plan c in
     let l = left-length room (s .inv .1) in
     omega arith
@@ -64,9 +67,10 @@ loop-less c = omega arith
 
 loop-again : tie.Need-loop-again Inv-loop μ-loop
 loop-again c =
-    let a = c .before .before .before .before .args in
+    let start = c .before .before .before .before in
+    let a = start .args in
     let s = c .before .before .before .loop in
-    let room : a .at + length (minus (rev (below (a .n))) (marked (a .used .now))) ≤ length (a .plan .now) = c .before .before .before .before .pre .0 in
+    let room : a .at + length (minus (rev (below (a .n))) (marked (a .used .now))) ≤ length (a .plan .now) = start .pre .0 in
     let l = s .inv .1 in
     let h = c .before .before .loop-test .taken in (
       omega arith,
@@ -78,16 +82,18 @@ loop-again c =
 
 same-length : tie.Need-same-length Inv-loop μ-loop
 same-length c =
-    let a = c .before .before .args in
+    let start = c .before .before in
+    let a = start .args in
     let s = c .before .loop in
-    let room : a .at + length (minus (rev (below (a .n))) (marked (a .used .now))) ≤ length (a .plan .now) = c .before .before .pre .0 in
+    let room : a .at + length (minus (rev (below (a .n))) (marked (a .used .now))) ≤ length (a .plan .now) = start .pre .0 in
     left-length room (s .inv .1)
 
 returns : tie.Need-returns Inv-loop μ-loop
 returns c =
-    let a = c .before .before .args in
+    let start = c .before .before in
+    let a = start .args in
     let s = c .before .loop in
-    let room : a .at + length (minus (rev (below (a .n))) (marked (a .used .now))) ≤ length (a .plan .now) = c .before .before .pre .0 in
+    let room : a .at + length (minus (rev (below (a .n))) (marked (a .used .now))) ≤ length (a .plan .now) = start .pre .0 in
     let e : s .p ≡ a .n = omega arith in
     left-done (left-is [] (s .inv .1) (ap (frees (a .n) (a .used .now)) e ∙ frees-none (a .n) (a .used .now)))
 

@@ -1,6 +1,4 @@
 -- `compose::write_plan` meets its contract: the three sections, one after the other.
-use Prim.Native.Nat.{_+_, _-_}
-use mathlib.Core.Path.{_≡_, ap}
 use native.Mathlib.Omega.{arith}
 use Rattle.compose.proofs.Sections.{fitted-below}
 use Rattle.compose.proofs.WholePlan.{phases, head-fits, info-room, steps-room, steps-few, steps-end, clears-count, taken-few, composed}

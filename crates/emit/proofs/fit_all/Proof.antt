@@ -1,15 +1,15 @@
 -- `emit::fit_all` meets its contract: the fitted places that are left.
-use mathlib.Core.List.{map, [], _++_}
-use Rattle.plan.specs.Step.{pack}
-use Rattle.rule.specs.Rule.{clearAndAdd, slotsNamed}
-use Rattle.rule.specs.Buffers.{maskBits}
-use Rattle.emit.specs.WroteLaws.{Left, left-all, left-is, left-more, left-length, left-done, wrote-is, packed-length, left-steps}
-use Rattle.emit.proofs.Passes.{fits, fits-all, fits-none, fits-next}
-use Rattle.emit.specs.Emit.{fittingRows}
-use Prim.Native.Nat.{_+_, _-_, _≤_}
 use mathlib.Core.Path.{_≡_, sym, ap, _∙_}
+use mathlib.Core.List.{map, [], _++_}
+use Prim.Native.Nat.{_+_, _-_, _≤_}
 use native.Mathlib.Omega.{arith}
 use lib.ListN.{length, getD}
+use Rattle.plan.specs.Step.{pack}
+use Rattle.rule.specs.Buffers.{maskBits}
+use Rattle.rule.specs.Rule.{clearAndAdd, slotsNamed}
+use Rattle.emit.specs.Emit.{fittingRows}
+use Rattle.emit.specs.WroteLaws.{Left, left-all, left-is, left-more, left-length, left-done, wrote-is, packed-length, left-steps}
+use Rattle.emit.proofs.Passes.{fits, fits-all, fits-none, fits-next}
 use Rattle.emit.proofs.fit_all.Statement.{statement}
 use Rattle.emit.proofs.fit_all.Tie as tie
 
@@ -39,17 +39,18 @@ shared-slice-read-fit-place c = omega arith
 
 fit-place-requires : tie.Need-fit-place-requires Inv-loop μ-loop
 fit-place-requires c κs =
-    let a = c .before .before .before .before .before .before .before .before .before .args in
+    let start = c .before .before .before .before .before .before .before .before .before in
+    let a = start .args in
     let s = c .before .before .before .before .before .loop in
     let fs = a .fitted .now in
     let rs = a .rows .now in
     let all = ap length (fits-all (a .n) (a .g) fs rs) in
-    let room : a .at + length (fits (a .n) (a .g) fs rs 0) ≤ length (a .plan .now) = omega (arith, packed-length (fittingRows (a .n) (a .g) fs rs 0 (a .g)), c .before .before .before .before .before .before .before .before .before .pre .0) in
+    let room : a .at + length (fits (a .n) (a .g) fs rs 0) ≤ length (a .plan .now) = omega (arith, packed-length (fittingRows (a .n) (a .g) fs rs 0 (a .g)), start .pre .0) in
     let rest = fits (a .n) (a .g) fs rs (s .j + 1) in
     let steps = clearAndAdd (c .before .wide .result) (slotsNamed (a .n) (maskBits (a .g) (getD rs (s .j) 0))) in
     let next = fits-next (a .n) (a .g) fs rs (s .j) (c .before .before .before .before .loop-test .taken) ∙ ap (λ to. map pack (clearAndAdd to (slotsNamed (a .n) (maskBits (a .g) (getD rs (s .j) 0)))) ++ rest) (sym (c .before .wide .ensures)) in
     let w = left-is (map pack steps ++ rest) (s .inv .1) next in
-    let o = c .before .before .before .before .before .before .before .before .before .pre .1 .1 .1 .0 .each (s .j) (omega arith) in
+    let o = start .pre .1 .1 .1 .0 .each (s .j) (omega arith) in
     let e = c .before .wide .ensures in
     (left-steps room steps rest w, (omega arith, (omega arith, omega arith)))
 
@@ -61,12 +62,13 @@ loop-less c = omega arith
 
 loop-again : tie.Need-loop-again Inv-loop μ-loop
 loop-again c =
-    let a = c .before .before .before .before .before .before .before .before .before .before .before .before .args in
+    let start = c .before .before .before .before .before .before .before .before .before .before .before .before in
+    let a = start .args in
     let s = c .before .before .before .before .before .before .before .before .loop in
     let fs = a .fitted .now in
     let rs = a .rows .now in
     let all = ap length (fits-all (a .n) (a .g) fs rs) in
-    let room : a .at + length (fits (a .n) (a .g) fs rs 0) ≤ length (a .plan .now) = omega (arith, packed-length (fittingRows (a .n) (a .g) fs rs 0 (a .g)), c .before .before .before .before .before .before .before .before .before .before .before .before .pre .0) in
+    let room : a .at + length (fits (a .n) (a .g) fs rs 0) ≤ length (a .plan .now) = omega (arith, packed-length (fittingRows (a .n) (a .g) fs rs 0 (a .g)), start .pre .0) in
     let rest = fits (a .n) (a .g) fs rs (s .j + 1) in
     let steps = clearAndAdd (c .before .before .before .before .wide .result) (slotsNamed (a .n) (maskBits (a .g) (getD rs (s .j) 0))) in
     let next = fits-next (a .n) (a .g) fs rs (s .j) (c .before .before .before .before .before .before .before .loop-test .taken) ∙ ap (λ to. map pack (clearAndAdd to (slotsNamed (a .n) (maskBits (a .g) (getD rs (s .j) 0)))) ++ rest) (sym (c .before .before .before .before .wide .ensures)) in
@@ -75,22 +77,24 @@ loop-again c =
 
 same-length : tie.Need-same-length Inv-loop μ-loop
 same-length c =
-    let a = c .before .before .before .before .before .args in
+    let start = c .before .before .before .before .before in
+    let a = start .args in
     let s = c .before .loop in
     let fs = a .fitted .now in
     let rs = a .rows .now in
     let all = ap length (fits-all (a .n) (a .g) fs rs) in
-    let room : a .at + length (fits (a .n) (a .g) fs rs 0) ≤ length (a .plan .now) = omega (arith, packed-length (fittingRows (a .n) (a .g) fs rs 0 (a .g)), c .before .before .before .before .before .pre .0) in
+    let room : a .at + length (fits (a .n) (a .g) fs rs 0) ≤ length (a .plan .now) = omega (arith, packed-length (fittingRows (a .n) (a .g) fs rs 0 (a .g)), start .pre .0) in
     left-length room (s .inv .1)
 
 returns : tie.Need-returns Inv-loop μ-loop
 returns c =
-    let a = c .before .before .before .before .before .args in
+    let start = c .before .before .before .before .before in
+    let a = start .args in
     let s = c .before .loop in
     let fs = a .fitted .now in
     let rs = a .rows .now in
     let all = ap length (fits-all (a .n) (a .g) fs rs) in
-    let room : a .at + length (fits (a .n) (a .g) fs rs 0) ≤ length (a .plan .now) = omega (arith, packed-length (fittingRows (a .n) (a .g) fs rs 0 (a .g)), c .before .before .before .before .before .pre .0) in
+    let room : a .at + length (fits (a .n) (a .g) fs rs 0) ≤ length (a .plan .now) = omega (arith, packed-length (fittingRows (a .n) (a .g) fs rs 0 (a .g)), start .pre .0) in
     let e : s .j ≡ a .g = omega arith in
     let w = left-done (left-is [] (s .inv .1) (ap (fits (a .n) (a .g) fs rs) e ∙ fits-none (a .n) (a .g) fs rs)) in
     wrote-is w (sym (fits-all (a .n) (a .g) fs rs))

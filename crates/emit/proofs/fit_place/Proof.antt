@@ -1,16 +1,16 @@
 -- `emit::fit_place` meets its contract: the slots that are left, bit by bit.
+use mathlib.Core.Path.{_≡_, sym, ap, _∙_}
 use mathlib.Core.List.{map, [], _∷_}
+use mathlib.Core.Logic.{⊎-elim}
+use Prim.Native.Nat.{_+_, _-_, _≤_, _<_}
+use native.Mathlib.Omega.{arith}
 use lib.ListN.{length-map, length, set, length-set}
 use Rattle.plan.specs.declared.Step.the-variants.{Clear, Add}
 use Rattle.plan.specs.Step.{pack}
-use Rattle.rule.specs.Rule.{slotsNamed}
 use Rattle.rule.specs.Buffers.{maskBits}
+use Rattle.rule.specs.Rule.{slotsNamed}
 use Rattle.emit.specs.WroteLaws.{Left, left-all, left-is, left-one, left-room, left-length, left-done, wrote-one, wrote-append, wrote-is}
 use Rattle.emit.proofs.Slots.{named, named-all, named-none, named-in, named-out}
-use Prim.Native.Nat.{_+_, _-_, _≤_, _<_}
-use mathlib.Core.Path.{_≡_, sym, ap, _∙_}
-use mathlib.Core.Logic.{⊎-elim}
-use native.Mathlib.Omega.{arith}
 use Rattle.emit.proofs.fit_place.Statement.{statement}
 use Rattle.emit.proofs.fit_place.Tie as tie
 

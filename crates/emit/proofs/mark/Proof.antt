@@ -1,11 +1,11 @@
 -- `emit::mark` meets its contract: the places, one after the other.
+use mathlib.Core.Path.{_≡_, refl, sym, _∙_}
+use Prim.Native.Nat.{_-_, _≤_}
+use native.Mathlib.Omega.{arith}
+use lib.ListN.{length, getD, take, drop, length-set}
 use lib.Seq.{getD-take, length-take-le}
 use Rattle.emit.specs.Emit.{marking}
 use Rattle.emit.proofs.Marking.{marking-next, marking-done}
-use Prim.Native.Nat.{_-_, _≤_}
-use mathlib.Core.Path.{_≡_, refl, sym, _∙_}
-use native.Mathlib.Omega.{arith}
-use lib.ListN.{length, getD, take, drop, length-set}
 use Rattle.emit.proofs.mark.Statement.{statement}
 use Rattle.emit.proofs.mark.Tie as tie
 
@@ -38,10 +38,11 @@ loop-less c = omega arith
 
 loop-again : tie.Need-loop-again Inv-loop μ-loop
 loop-again c =
-    let a = c .before .before .before .before .before .before .args in
+    let start = c .before .before .before .before .before .before in
+    let a = start .args in
     let s = c .before .before .before .loop in
     let P = take (a .count) (a .places .now) in
-    let long : length P ≡ a .count = length-take-le (a .count) (a .places .now) (c .before .before .before .before .before .before .pre .room) in
+    let long : length P ≡ a .count = length-take-le (a .count) (a .places .now) (start .pre .room) in
     let q : c .wide .result ≡ getD P (s .i) 0 = c .wide .ensures ∙ sym (getD-take (a .count) (a .places .now) (s .i) 0 (omega arith)) in
     (omega arith, simp length-set (omega arith), s .inv .2 ∙ marking-next (s .marks) P (s .i) (c .wide .result) (omega arith) q)
 
@@ -50,10 +51,11 @@ same-length c = c .before .loop .inv .1
 
 returns : tie.Need-returns Inv-loop μ-loop
 returns c =
-    let a = c .before .before .before .before .args in
+    let start = c .before .before .before .before in
+    let a = start .args in
     let s = c .before .loop in
     let P = take (a .count) (a .places .now) in
-    let long : length P ≡ a .count = length-take-le (a .count) (a .places .now) (c .before .before .before .before .pre .room) in
+    let long : length P ≡ a .count = length-take-le (a .count) (a .places .now) (start .pre .room) in
     sym (s .inv .2 ∙ marking-done (s .marks) P (s .i) (omega arith))
 
 pub mark-spec : {M : Type 1} → statement M

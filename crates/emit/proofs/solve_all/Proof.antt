@@ -1,17 +1,17 @@
 -- `emit::solve_all` meets its contract: the checks that are left, the last taken first.
+use mathlib.Core.Path.{_≡_, sym, ap, ap₂, _∙_}
+use mathlib.Core.List.{[], _∷_, _++_}
+use Prim.Native.Nat.{_+_, _-_, _≤_}
+use native.Mathlib.Omega.{arith}
+use lib.ListN.{length}
+use Rattle.gf2.specs.Lists.{rev}
 use Rattle.gf2.specs.Places.{minus}
 use Rattle.table.specs.Checks.{check}
 use Rattle.table.specs.Table.{number}
 use Rattle.rule.specs.Rule.{clearAndAdd, solvingSteps}
-use Rattle.gf2.specs.Lists.{rev}
 use Rattle.emit.specs.Emit.{marked, solvedIn}
 use Rattle.emit.specs.WroteLaws.{Left, left-all, left-is, left-more, left-length, left-done, packed-length, left-steps}
 use Rattle.emit.proofs.Passes.{solves, one, solves-none, solves-next}
-use Prim.Native.Nat.{_+_, _-_, _≤_}
-use mathlib.Core.Path.{_≡_, sym, ap, ap₂, _∙_}
-use mathlib.Core.List.{[], _∷_, _++_}
-use native.Mathlib.Omega.{arith}
-use lib.ListN.{length}
 use Rattle.emit.proofs.solve_all.Statement.{statement}
 use Rattle.emit.proofs.solve_all.Tie as tie
 
@@ -47,33 +47,35 @@ wide-requires-2 c κs = omega arith
 
 check-into-requires : tie.Need-check-into-requires Inv-loop μ-loop
 check-into-requires c κs =
-    let a = c .before .before .before .before .before .before .before .before .before .before .before .before .before .args in
+    let start = c .before .before .before .before .before .before .before .before .before .before .before .before .before in
+    let a = start .args in
     let s = c .before .before .before .before .before .before .loop in
     let sk = a .skip .now in
     let t = a .t .now in
-    let room : a .at + length (solves sk t (a .order .now) (a .owns .now) (a .taken)) ≤ length (a .plan .now) = omega (arith, packed-length (solvingSteps (marked sk) (rev (solvedIn t (a .order .now) (a .owns .now) (a .taken)))), c .before .before .before .before .before .before .before .before .before .before .before .before .before .pre .0) in
+    let room : a .at + length (solves sk t (a .order .now) (a .owns .now) (a .taken)) ≤ length (a .plan .now) = omega (arith, packed-length (solvingSteps (marked sk) (rev (solvedIn t (a .order .now) (a .owns .now) (a .taken)))), start .pre .0) in
     let rest = solves sk t (a .order .now) (a .owns .now) (s .i - 1) in
     let j = c .before .before .wide .result in
     let to = c .wide2 .result in
     let next = solves-next sk t (a .order .now) (a .owns .now) (s .i) (c .before .before .before .before .before .loop-test .taken) ∙ ap₂ (λ x y. one sk t x y ++ rest) (sym (c .before .before .wide .ensures)) (sym (c .wide2 .ensures)) in
     let w = left-is (one sk t j to ++ rest) (s .inv .1) next in
-    let b = c .before .before .before .before .before .before .before .before .before .before .before .before .before .pre .1 .1 .0 .each (s .i - 1) (omega arith) in
-    let o = c .before .before .before .before .before .before .before .before .before .before .before .before .before .pre .1 .1 .1 .each (s .i - 1) (omega arith) in
-    let n = c .before .before .before .before .before .before .before .before .before .before .before .before .before .pre .1 .0 .each .narrow in
+    let b = start .pre .1 .1 .0 .each (s .i - 1) (omega arith) in
+    let o = start .pre .1 .1 .1 .each (s .i - 1) (omega arith) in
+    let n = start .pre .1 .0 .each .narrow in
     let e = c .before .before .wide .ensures in
     let f = c .wide2 .ensures in
-    (left-steps room (clearAndAdd to (minus (check t (number t) j) (to ∷ marked sk))) rest w, (c .before .before .before .before .before .before .before .before .before .before .before .before .before .pre .1 .0, (omega arith, omega arith)))
+    (left-steps room (clearAndAdd to (minus (check t (number t) j) (to ∷ marked sk))) rest w, (start .pre .1 .0, (omega arith, omega arith)))
 
 loop-less : tie.Need-loop-less Inv-loop μ-loop
 loop-less c = omega arith
 
 loop-again : tie.Need-loop-again Inv-loop μ-loop
 loop-again c =
-    let a = c .before .before .before .before .before .before .before .before .before .before .before .before .before .before .before .before .args in
+    let start = c .before .before .before .before .before .before .before .before .before .before .before .before .before .before .before .before in
+    let a = start .args in
     let s = c .before .before .before .before .before .before .before .before .before .loop in
     let sk = a .skip .now in
     let t = a .t .now in
-    let room : a .at + length (solves sk t (a .order .now) (a .owns .now) (a .taken)) ≤ length (a .plan .now) = omega (arith, packed-length (solvingSteps (marked sk) (rev (solvedIn t (a .order .now) (a .owns .now) (a .taken)))), c .before .before .before .before .before .before .before .before .before .before .before .before .before .before .before .before .pre .0) in
+    let room : a .at + length (solves sk t (a .order .now) (a .owns .now) (a .taken)) ≤ length (a .plan .now) = omega (arith, packed-length (solvingSteps (marked sk) (rev (solvedIn t (a .order .now) (a .owns .now) (a .taken)))), start .pre .0) in
     let rest = solves sk t (a .order .now) (a .owns .now) (s .i - 1) in
     let j = c .before .before .before .before .before .wide .result in
     let to = c .before .before .before .wide2 .result in
@@ -83,20 +85,22 @@ loop-again c =
 
 same-length : tie.Need-same-length Inv-loop μ-loop
 same-length c =
-    let a = c .before .before .before .before .before .before .before .before .args in
+    let start = c .before .before .before .before .before .before .before .before in
+    let a = start .args in
     let s = c .before .loop in
     let sk = a .skip .now in
     let t = a .t .now in
-    let room : a .at + length (solves sk t (a .order .now) (a .owns .now) (a .taken)) ≤ length (a .plan .now) = omega (arith, packed-length (solvingSteps (marked sk) (rev (solvedIn t (a .order .now) (a .owns .now) (a .taken)))), c .before .before .before .before .before .before .before .before .pre .0) in
+    let room : a .at + length (solves sk t (a .order .now) (a .owns .now) (a .taken)) ≤ length (a .plan .now) = omega (arith, packed-length (solvingSteps (marked sk) (rev (solvedIn t (a .order .now) (a .owns .now) (a .taken)))), start .pre .0) in
     left-length room (s .inv .1)
 
 returns : tie.Need-returns Inv-loop μ-loop
 returns c =
-    let a = c .before .before .before .before .before .before .before .before .args in
+    let start = c .before .before .before .before .before .before .before .before in
+    let a = start .args in
     let s = c .before .loop in
     let sk = a .skip .now in
     let t = a .t .now in
-    let room : a .at + length (solves sk t (a .order .now) (a .owns .now) (a .taken)) ≤ length (a .plan .now) = omega (arith, packed-length (solvingSteps (marked sk) (rev (solvedIn t (a .order .now) (a .owns .now) (a .taken)))), c .before .before .before .before .before .before .before .before .pre .0) in
+    let room : a .at + length (solves sk t (a .order .now) (a .owns .now) (a .taken)) ≤ length (a .plan .now) = omega (arith, packed-length (solvingSteps (marked sk) (rev (solvedIn t (a .order .now) (a .owns .now) (a .taken)))), start .pre .0) in
     let e : s .i ≡ 0 = omega arith in
     left-done (left-is [] (s .inv .1) (ap (solves sk t (a .order .now) (a .owns .now)) e ∙ solves-none sk t (a .order .now) (a .owns .now)))
 

@@ -1,14 +1,14 @@
 -- `emit::solve_whole` meets its contract: no place is marked.
+use mathlib.Core.Path.{ap}
 use mathlib.Core.List.{map}
+use Prim.Native.Nat.{ℕ}
+use native.Mathlib.Omega.{arith}
 use lib.ListN.{length-replicate}
 use Rattle.gf2.specs.Lists.{rev}
 use Rattle.plan.specs.Step.{pack}
 use Rattle.emit.specs.Emit.{solvedIn}
 use Rattle.emit.specs.WroteLaws.{wrote-is}
 use Rattle.emit.proofs.Passes.{whole-is}
-use Prim.Native.Nat.{ℕ, _-_}
-use mathlib.Core.Path.{ap}
-use native.Mathlib.Omega.{arith}
 use borrow.Author.Needs.{needs}
 use Rattle.emit.proofs.solve_whole.Statement.{statement}
 use Rattle.emit.proofs.solve_whole.Tie as tie
@@ -18,9 +18,10 @@ slice-aggregate-solve-all c = search needs
 
 solve-all-requires : tie.Need-solve-all-requires
 solve-all-requires c κs =
-    let a = c .before .before .before .before .before .before .before .args in
+    let start = c .before .before .before .before .before .before .before in
+    let a = start .args in
     let w = whole-is (rev (solvedIn (a .t .now) (a .order .now) (a .owns .now) (a .taken))) in
-    (rw w (c .before .before .before .before .before .before .before .pre .0), (record { each = c .before .before .before .before .before .before .before .pre .1 .0; first = c .before .before .before .before .before .before .before .pre .1 .1 .0; all = omega (arith, length-replicate {A = ℕ} 1024 0) }, (c .before .before .before .before .before .before .before .pre .1 .1 .1 .0, c .before .before .before .before .before .before .before .pre .1 .1 .1 .1)))
+    (rw w (start .pre .0), (record { each = start .pre .1 .0; first = start .pre .1 .1 .0; all = omega (arith, length-replicate {A = ℕ} 1024 0) }, (start .pre .1 .1 .1 .0, start .pre .1 .1 .1 .1)))
 
 same-length : tie.Need-same-length
 same-length c = search needs

@@ -1,14 +1,14 @@
 -- `emit::sum_check` meets its contract: the places that are left, one after the other.
+use mathlib.Core.Path.{_≡_, sym, ap, _∙_}
+use mathlib.Core.List.{[]}
+use mathlib.Core.Logic.{⊎-elim}
+use Prim.Native.Nat.{_+_, _-_, _≤_, _<_}
+use native.Mathlib.Omega.{arith}
+use lib.ListN.{length, getD, set, take, drop, length-set}
 use lib.Seq.{drop-length}
 use Rattle.plan.specs.Step.{pack}
 use Rattle.emit.specs.WroteLaws.{Left, left-all, left-is, left-one, left-room, left-length, left-done, wrote-one, wrote-append}
 use Rattle.emit.proofs.Sums.{adds, adds-length, adds-own, adds-marked, adds-next, part-length, part-at}
-use Prim.Native.Nat.{_+_, _-_, _≤_, _<_}
-use mathlib.Core.Path.{_≡_, sym, ap, _∙_}
-use mathlib.Core.List.{[]}
-use mathlib.Core.Logic.{⊎-elim}
-use native.Mathlib.Omega.{arith}
-use lib.ListN.{length, getD, set, take, drop, length-set}
 use Rattle.emit.proofs.sum_check.Statement.{statement}
 use Rattle.emit.proofs.sum_check.Tie as tie
 

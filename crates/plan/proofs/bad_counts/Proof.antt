@@ -1,7 +1,7 @@
 -- `plan::bad_counts` meets its contract: the tests in order.
-use Rattle.plan.proofs.Counts.{counts-short, counts-first, counts-last}
 use mathlib.Core.Path.{_∙_}
 use native.Mathlib.Omega.{arith}
+use Rattle.plan.proofs.Counts.{counts-short, counts-first, counts-last}
 use borrow.Author.Needs.{needs}
 use Rattle.plan.proofs.bad_counts.Statement.{statement}
 use Rattle.plan.proofs.bad_counts.Tie as tie

@@ -1,13 +1,13 @@
 -- `plan::bad_lengths` meets its contract: the tests in order.
-use mathlib.Core.Bool.{not}
-use lib.Dec.{eqb}
-use Prim.Native.Nat.{ℕ, _+_}
 use mathlib.Core.Path.{ap₂, _∙_}
+use mathlib.Core.Bool.{not}
+use Prim.Native.Nat.{ℕ, _+_}
 use native.Mathlib.Omega.{arith}
-use lib.ListN.{length}
 use borrow.Author.Tests.{lt-ltb}
-use Rattle.plan.proofs.Counts.{lengths-info, lengths-short, lengths-steps, lengths-last}
+use lib.Dec.{eqb}
+use lib.ListN.{length}
 use Rattle.plan.specs.Layout.{mostSteps}
+use Rattle.plan.proofs.Counts.{lengths-info, lengths-short, lengths-steps, lengths-last}
 use borrow.Author.Needs.{needs}
 use Rattle.plan.proofs.bad_lengths.Statement.{statement}
 use Rattle.plan.proofs.bad_lengths.Tie as tie

@@ -1,12 +1,12 @@
 -- `plan::bad_limits` meets its contract: the tests in order.
-use borrow.Author.Tests.{ltb-true, ltb-false}
-use Rattle.plan.proofs.Counts.{limits-places, limits-size, limits-gap, limits-aside, limits-kept, limits-checks, limits-last}
-use Rattle.plan.specs.Layout.{planPlaces, planSize}
-use Rattle.table.specs.Table.{mostPlaces, mostBytes, outside}
 use mathlib.Core.Path.{_≡_, sym, ap, _∙_}
 use mathlib.Core.Bool.{false}
 use mathlib.Core.Logic.{⊎-elim}
 use native.Mathlib.Omega.{arith}
+use borrow.Author.Tests.{ltb-true, ltb-false}
+use Rattle.table.specs.Table.{mostPlaces, mostBytes, outside}
+use Rattle.plan.specs.Layout.{planPlaces, planSize}
+use Rattle.plan.proofs.Counts.{limits-places, limits-size, limits-gap, limits-aside, limits-kept, limits-checks, limits-last}
 use borrow.Author.Needs.{needs}
 use Rattle.plan.proofs.bad_limits.Statement.{statement}
 use Rattle.plan.proofs.bad_limits.Tie as tie

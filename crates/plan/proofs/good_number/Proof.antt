@@ -1,8 +1,8 @@
 -- `plan::good_number` meets its contract: by what the number is decoded to.
-use Rattle.plan.proofs.Passing.{good-decoded, good-invalid}
-use Rattle.plan.specs.Step.{unpack}
-use Rattle.plan.specs.LookOver.{isMarked}
 use mathlib.Core.Path.{sym, _∙_}
+use Rattle.plan.specs.LookOver.{isMarked}
+use Rattle.plan.specs.Step.{unpack}
+use Rattle.plan.proofs.Passing.{good-decoded, good-invalid}
 use borrow.Author.Needs.{needs}
 use Rattle.plan.proofs.good_number.Statement.{statement}
 use Rattle.plan.proofs.good_number.Tie as tie
@@ -20,11 +20,15 @@ enum-told : tie.Need-enum-told
 enum-told c = search needs
 
 returns : tie.Need-returns
-returns c = let kept = isMarked (c .before .before .before .before .before .before .args .marks .now) in let e = c .before .before .before .before .unpack .ensures in
-    c .good-step .ensures ∙ good-decoded (c .before .before .before .before .before .before .args .k) kept (unpack (c .before .before .before .before .before .before .args .word)) _ (sym e ∙ c .before .before .x .given .1)
+returns c =
+    let start = c .before .before .before .before .before .before in
+    let kept = isMarked (start .args .marks .now) in let e = c .before .before .before .before .unpack .ensures in
+    c .good-step .ensures ∙ good-decoded (start .args .k) kept (unpack (start .args .word)) _ (sym e ∙ c .before .before .x .given .1)
 
 returns-2 : tie.Need-returns-2
-returns-2 c = let kept = isMarked (c .before .before .before .before .args .marks .now) in good-invalid (c .before .before .before .before .args .k) kept (unpack (c .before .before .before .before .args .word)) (sym (c .before .before .unpack .ensures) ∙ c .enum-told .given .1)
+returns-2 c =
+    let start = c .before .before .before .before in
+    let kept = isMarked (start .args .marks .now) in good-invalid (start .args .k) kept (unpack (start .args .word)) (sym (c .before .before .unpack .ensures) ∙ c .enum-told .given .1)
 
 pub good-number-spec : {M : Type 1} → statement M
 good-number-spec =

@@ -1,15 +1,15 @@
 -- `plan::good_steps` meets its contract: what is left of the numbers decides.
-use borrow.Author.Tests.{not-true, not-false}
-use Rattle.plan.proofs.Passing.{pass-stops, pass-on}
-use Rattle.plan.specs.Step.{unpack}
-use Rattle.plan.specs.LookOver.{isMarked, goodStepBy}
-use Rattle.gf2.specs.Lists.{allPass}
-use lib.Seq.{drop-length}
-use Prim.Native.Nat.{ℕ, _-_, _≤_}
 use mathlib.Core.Path.{_≡_, refl, sym, ap, _∙_}
 use mathlib.Core.Bool.{Bool}
+use Prim.Native.Nat.{ℕ, _-_, _≤_}
 use native.Mathlib.Omega.{arith}
+use borrow.Author.Tests.{not-true, not-false}
 use lib.ListN.{length, drop}
+use lib.Seq.{drop-length}
+use Rattle.gf2.specs.Lists.{allPass}
+use Rattle.plan.specs.LookOver.{isMarked, goodStepBy}
+use Rattle.plan.specs.Step.{unpack}
+use Rattle.plan.proofs.Passing.{pass-stops, pass-on}
 use Rattle.plan.proofs.good_steps.Statement.{statement}
 use Rattle.plan.proofs.good_steps.Tie as tie
 
@@ -33,7 +33,9 @@ good-number-requires : tie.Need-good-number-requires Inv-loop μ-loop
 good-number-requires c κs = omega arith
 
 returns : tie.Need-returns Inv-loop μ-loop
-returns c = let f : ℕ → Bool = λ (x : ℕ). goodStepBy (c .before .before .before .before .before .before .before .args .k) (isMarked (c .before .before .before .before .before .before .before .args .marks .now)) (unpack x) in let w = c .before .before .before .before .before .before .before .args .w .now in
+returns c =
+    let start = c .before .before .before .before .before .before .before in
+    let f : ℕ → Bool = λ (x : ℕ). goodStepBy (start .args .k) (isMarked (start .args .marks .now)) (unpack x) in let w = start .args .w .now in
     sym (c .before .before .before .before .loop .inv .1 ∙ pass-stops f w (c .before .before .before .before .loop .i) (omega arith) (sym (c .before .good-number .ensures) ∙ not-true _ (c .if1 .taken)))
 
 add-i : tie.Need-add-i Inv-loop μ-loop
@@ -43,11 +45,15 @@ loop-less : tie.Need-loop-less Inv-loop μ-loop
 loop-less c = omega arith
 
 loop-again : tie.Need-loop-again Inv-loop μ-loop
-loop-again c = let f : ℕ → Bool = λ (x : ℕ). goodStepBy (c .before .before .before .before .before .before .before .args .k) (isMarked (c .before .before .before .before .before .before .before .args .marks .now)) (unpack x) in let w = c .before .before .before .before .before .before .before .args .w .now in
+loop-again c =
+    let start = c .before .before .before .before .before .before .before in
+    let f : ℕ → Bool = λ (x : ℕ). goodStepBy (start .args .k) (isMarked (start .args .marks .now)) (unpack x) in let w = start .args .w .now in
     (omega arith, c .before .before .before .before .loop .inv .1 ∙ pass-on f w (c .before .before .before .before .loop .i) (omega arith) (sym (c .before .good-number .ensures) ∙ not-false _ (c .if1 .left)))
 
 returns-2 : tie.Need-returns-2 Inv-loop μ-loop
-returns-2 c = let f : ℕ → Bool = λ (x : ℕ). goodStepBy (c .before .before .before .before .args .k) (isMarked (c .before .before .before .before .args .marks .now)) (unpack x) in let w = c .before .before .before .before .args .w .now in let e : c .before .loop .i ≡ length w = omega arith in
+returns-2 c =
+    let start = c .before .before .before .before in
+    let f : ℕ → Bool = λ (x : ℕ). goodStepBy (start .args .k) (isMarked (start .args .marks .now)) (unpack x) in let w = start .args .w .now in let e : c .before .loop .i ≡ length w = omega arith in
     sym (c .before .loop .inv .1 ∙ ap (λ (j : ℕ). allPass f (drop j w)) e ∙ ap (allPass f) (drop-length w))
 
 pub good-steps-spec : {M : Type 1} → statement M

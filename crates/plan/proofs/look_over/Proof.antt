@@ -1,16 +1,16 @@
 -- `plan::look_over` meets its contract: the counts, the information places, the steps.
-use Rattle.plan.proofs.Passing.{refuse-counts, refuse-places, refuse-steps, refuse-none, same-steps}
-use Rattle.plan.proofs.Marking.{marks-none}
-use Rattle.plan.specs.LayoutLaws.{counted}
-use Rattle.plan.specs.Layout.{infoIn, slots, badCounts}
-use Rattle.table.specs.Table.{rising}
-use lib.ListN.{length-replicate}
-use borrow.Author.Tests.{not-true, not-false}
-use Prim.Native.Nat.{ℕ, _≤_}
 use mathlib.Core.Path.{_≡_, sym, ap, _∙_}
 use mathlib.Core.Bool.{true, false}
+use Prim.Native.Nat.{ℕ, _≤_}
 use native.Mathlib.Omega.{arith}
-use lib.ListN.{length}
+use borrow.Author.Tests.{not-true, not-false}
+use lib.ListN.{length-replicate, length}
+use Rattle.table.specs.Table.{rising}
+use Rattle.plan.specs.Layout.{infoIn, slots, badCounts}
+use Rattle.plan.specs.LayoutLaws.{counted}
+use Rattle.plan.specs.LookOver.{mostSlots}
+use Rattle.plan.proofs.Marking.{marks-none}
+use Rattle.plan.proofs.Passing.{refuse-counts, refuse-places, refuse-steps, refuse-none, same-steps}
 use borrow.Author.Needs.{needs}
 use Rattle.plan.proofs.look_over.Statement.{statement}
 use Rattle.plan.proofs.look_over.Tie as tie
@@ -29,7 +29,7 @@ slice-aggregate-mark-places c = search needs
 
 mark-places-requires : tie.Need-mark-places-requires
 mark-places-requires c κs = let w = c .before .before .before .before .before .args .w .now in let q : badCounts w ≡ false = sym (c .before .before .before .bad-counts .ensures) ∙ c .before .before .if1 .left in let k = counted w q in
-    (omega arith, omega arith, simp length-replicate (omega arith), marks-none 1056)
+    (omega arith, (omega arith, (simp length-replicate (omega arith), marks-none mostSlots)))
 
 returns-2 : tie.Need-returns-2
 returns-2 c = let w = c .before .before .before .before .before .before .before .before .args .w .now in let q : badCounts w ≡ false = sym (c .before .before .before .before .before .before .bad-counts .ensures) ∙ c .before .before .before .before .before .if1 .left in let k = counted w q in
@@ -48,11 +48,11 @@ steps-at-requires : tie.Need-steps-at-requires
 steps-at-requires c κs = let w = c .before .before .before .before .before .before .before .before .before .before .args .w .now in let q : badCounts w ≡ false = sym (c .before .before .before .before .before .before .before .before .bad-counts .ensures) ∙ c .before .before .before .before .before .before .before .if1 .left in let k = counted w q in omega arith
 
 good-steps-requires : tie.Need-good-steps-requires
-good-steps-requires c κs = let w = c .before .before .before .before .before .before .before .before .before .before .before .args .w .now in let q : badCounts w ≡ false = sym (c .before .before .before .before .before .before .before .before .before .bad-counts .ensures) ∙ c .before .before .before .before .before .before .before .before .if1 .left in let k = counted w q in (omega (arith, c .before .before .before .before .before .mark-places .kept .1 .1 .0, length-replicate {A = ℕ} 1056 0), omega arith)
+good-steps-requires c κs = let w = c .before .before .before .before .before .before .before .before .before .before .before .args .w .now in let q : badCounts w ≡ false = sym (c .before .before .before .before .before .before .before .before .before .bad-counts .ensures) ∙ c .before .before .before .before .before .before .before .before .if1 .left in let k = counted w q in (omega (arith, c .before .before .before .before .before .mark-places .kept .1 .1 .0, length-replicate {A = ℕ} mostSlots 0), omega arith)
 
 returns-3 : tie.Need-returns-3
 returns-3 c = let w = c .before .before .before .before .before .before .before .before .before .before .before .before .before .args .w .now in let q : badCounts w ≡ false = sym (c .before .before .before .before .before .before .before .before .before .before .before .bad-counts .ensures) ∙ c .before .before .before .before .before .before .before .before .before .before .if1 .left in let k = counted w q in
-    let long : slots w ≤ length (c .before .before .before .before .before .before .before .mark-places .last .1 .1 .0) = omega (arith, c .before .before .before .before .before .before .before .mark-places .kept .1 .1 .0, length-replicate {A = ℕ} 1056 0) in
+    let long : slots w ≤ length (c .before .before .before .before .before .before .before .mark-places .last .1 .1 .0) = omega (arith, c .before .before .before .before .before .before .before .mark-places .kept .1 .1 .0, length-replicate {A = ℕ} mostSlots 0) in
     let found : c .before .before .before .before .before .before .before .mark-places .result ≡ true = not-false _ (c .before .before .before .before .before .if2 .left) in
     refuse-steps w q
     (ap (λ (n : ℕ). rising n 0 (infoIn w)) (sym (c .before .before .before .before .before .before .before .before .before .places .ensures)) ∙ sym (c .before .before .before .before .before .before .before .mark-places .ensures .rises) ∙ found)
@@ -60,7 +60,7 @@ returns-3 c = let w = c .before .before .before .before .before .before .before 
 
 returns-4 : tie.Need-returns-4
 returns-4 c = let w = c .before .before .before .before .before .before .before .before .before .before .before .before .before .args .w .now in let q : badCounts w ≡ false = sym (c .before .before .before .before .before .before .before .before .before .before .before .bad-counts .ensures) ∙ c .before .before .before .before .before .before .before .before .before .before .if1 .left in let k = counted w q in
-    let long : slots w ≤ length (c .before .before .before .before .before .before .before .mark-places .last .1 .1 .0) = omega (arith, c .before .before .before .before .before .before .before .mark-places .kept .1 .1 .0, length-replicate {A = ℕ} 1056 0) in
+    let long : slots w ≤ length (c .before .before .before .before .before .before .before .mark-places .last .1 .1 .0) = omega (arith, c .before .before .before .before .before .before .before .mark-places .kept .1 .1 .0, length-replicate {A = ℕ} mostSlots 0) in
     let found : c .before .before .before .before .before .before .before .mark-places .result ≡ true = not-false _ (c .before .before .before .before .before .if2 .left) in
     refuse-none w q
     (ap (λ (n : ℕ). rising n 0 (infoIn w)) (sym (c .before .before .before .before .before .before .before .before .before .places .ensures)) ∙ sym (c .before .before .before .before .before .before .before .mark-places .ensures .rises) ∙ found)

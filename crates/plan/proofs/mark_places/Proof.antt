@@ -1,16 +1,16 @@
 -- `plan::mark_places` meets its contract: what is left of the places decides, and those passed are marked.
-use Rattle.plan.proofs.Marking.{place-below, place-above, place-on, mark-more}
-use Rattle.plan.specs.LookOver.{Marks}
-use Rattle.plan.specs.LayoutLaws.{info-long}
-use Rattle.plan.specs.Layout.{infoCount, infoIn}
-use Rattle.table.specs.Table.{rising}
-use mathlib.Core.Bool.{false≢true}
-use lib.Seq.{take-length, drop-length}
-use Prim.Native.Nat.{ℕ, _-_, _≤_, _<_}
 use mathlib.Core.Path.{_≡_, refl, sym, ap, _∙_, subst}
+use mathlib.Core.Bool.{false≢true}
 use mathlib.Core.List.{List}
+use Prim.Native.Nat.{ℕ, _-_, _≤_, _<_}
 use native.Mathlib.Omega.{arith}
 use lib.ListN.{length, take, drop, length-set}
+use lib.Seq.{take-length, drop-length}
+use Rattle.table.specs.Table.{rising}
+use Rattle.plan.specs.Layout.{infoCount, infoIn}
+use Rattle.plan.specs.LayoutLaws.{info-long}
+use Rattle.plan.specs.LookOver.{Marks}
+use Rattle.plan.proofs.Marking.{place-below, place-above, place-on, mark-more}
 use Rattle.plan.proofs.mark_places.Statement.{statement}
 use Rattle.plan.proofs.mark_places.Tie as tie
 
@@ -25,7 +25,7 @@ info-count-requires : tie.Need-info-count-requires Inv-loop μ-loop
 info-count-requires c κs = omega arith
 
 loop-holds : tie.Need-loop-holds Inv-loop μ-loop
-loop-holds c = (omega arith, refl, refl, c .before .before .before .pre .3)
+loop-holds c = (omega arith, refl, refl, c .before .before .before .pre .1 .1 .1)
 
 info-place-requires : tie.Need-info-place-requires Inv-loop μ-loop
 info-place-requires c κs = omega arith
@@ -34,7 +34,9 @@ same-length : tie.Need-same-length Inv-loop μ-loop
 same-length c = c .before .before .before .loop .inv .1
 
 returns : tie.Need-returns Inv-loop μ-loop
-returns c = let w = c .before .before .before .before .before .before .before .args .w .now in let n = c .before .before .before .before .before .before .before .args .n in let I = infoIn w in let long : length I ≡ infoCount w = info-long w (omega arith) in
+returns c =
+    let start = c .before .before .before .before .before .before .before in
+    let w = start .args .w .now in let n = start .args .n in let I = infoIn w in let long : length I ≡ infoCount w = info-long w (omega arith) in
     let i = c .before .before .before .loop .i in
     record { rises = sym (c .before .before .before .loop .inv .2 ∙ place-below n (c .before .before .before .loop .low) I i (omega arith) (omega arith)); marked = λ e. absurd (false≢true e) }
 
@@ -42,7 +44,9 @@ same-length-2 : tie.Need-same-length-2 Inv-loop μ-loop
 same-length-2 c = c .before .before .before .before .loop .inv .1
 
 returns-2 : tie.Need-returns-2 Inv-loop μ-loop
-returns-2 c = let w = c .before .before .before .before .before .before .before .before .args .w .now in let n = c .before .before .before .before .before .before .before .before .args .n in let I = infoIn w in let long : length I ≡ infoCount w = info-long w (omega arith) in
+returns-2 c =
+    let start = c .before .before .before .before .before .before .before .before in
+    let w = start .args .w .now in let n = start .args .n in let I = infoIn w in let long : length I ≡ infoCount w = info-long w (omega arith) in
     let i = c .before .before .before .before .loop .i in
     record { rises = sym (c .before .before .before .before .loop .inv .2 ∙ place-above n (c .before .before .before .before .loop .low) I i (omega arith) (omega arith) (omega arith)); marked = λ e. absurd (false≢true e) }
 
@@ -59,7 +63,9 @@ loop-less : tie.Need-loop-less Inv-loop μ-loop
 loop-less c = omega arith
 
 loop-again : tie.Need-loop-again Inv-loop μ-loop
-loop-again c = let w = c .before .before .before .before .before .before .before .before .args .w .now in let n = c .before .before .before .before .before .before .before .before .args .n in let I = infoIn w in let long : length I ≡ infoCount w = info-long w (omega arith) in
+loop-again c =
+    let start = c .before .before .before .before .before .before .before .before in
+    let w = start .args .w .now in let n = start .args .n in let I = infoIn w in let long : length I ≡ infoCount w = info-long w (omega arith) in
     let i = c .before .before .before .before .loop .i in let p = c .before .before .info-place .ensures in let inside : i < length I = omega arith in
     (omega arith, simp length-set (c .before .before .before .before .loop .inv .1), c .before .before .before .before .loop .inv .2 ∙ rw p (place-on n (c .before .before .before .before .loop .low) I i inside (omega arith) (omega arith)), rw p (mark-more I _ i inside (c .before .before .before .before .loop .inv .3)))
 
@@ -67,7 +73,9 @@ same-length-3 : tie.Need-same-length-3 Inv-loop μ-loop
 same-length-3 c = c .before .loop .inv .1
 
 returns-3 : tie.Need-returns-3 Inv-loop μ-loop
-returns-3 c = let w = c .before .before .before .before .before .args .w .now in let n = c .before .before .before .before .before .args .n in let I = infoIn w in let long : length I ≡ infoCount w = info-long w (omega arith) in
+returns-3 c =
+    let start = c .before .before .before .before .before in
+    let w = start .args .w .now in let n = start .args .n in let I = infoIn w in let long : length I ≡ infoCount w = info-long w (omega arith) in
     let e : c .before .loop .i ≡ length I = omega arith in
     record {
       rises = sym (c .before .loop .inv .2 ∙ ap (rising n (c .before .loop .low)) (ap (λ (j : ℕ). drop j I) e ∙ drop-length I));

@@ -1,6 +1,6 @@
 -- `plan::may_write` meets its contract: a slot outside, or its mark.
-use Rattle.plan.proofs.Passing.{writable-outside, writable-inside}
 use Rattle.plan.specs.LookOver.{isMarked}
+use Rattle.plan.proofs.Passing.{writable-outside, writable-inside}
 use borrow.Author.Needs.{needs}
 use Rattle.plan.proofs.may_write.Statement.{statement}
 use Rattle.plan.proofs.may_write.Tie as tie

@@ -1,6 +1,6 @@
 -- `plan::step_count` meets its contract: the number behind the information places.
-use Prim.Native.Nat.{ℕ, _+_}
 use mathlib.Core.Path.{ap, _∙_}
+use Prim.Native.Nat.{ℕ, _+_}
 use lib.ListN.{getD}
 use Rattle.plan.specs.Layout.{infoAt}
 use borrow.Author.Needs.{needs}

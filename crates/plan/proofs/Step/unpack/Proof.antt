@@ -1,7 +1,7 @@
 -- `plan::Step::unpack` meets its contract: by the kind.
 use mathlib.Core.Logic.{⊎-elim}
-use Rattle.plan.proofs.Decoding.{decoded-add, decoded-clear, decoded-none}
 use borrow.Author.Tests.{eqb-true, eqb-false}
+use Rattle.plan.proofs.Decoding.{decoded-add, decoded-clear, decoded-none}
 use borrow.Author.Needs.{needs}
 use Rattle.plan.proofs.Step.unpack.Statement.{statement}
 use Rattle.plan.proofs.Step.unpack.Tie as tie

@@ -1,74 +1,45 @@
--- What the steps do, over any group: the state is a function from slots.
-use mathlib.Core.Path.{_≡_, refl, sym, ap, ap₂, _∙_, subst, fun-ext}
-use mathlib.Core.Bool.{Bool, true, false, cond, not, _||_, true≢false}
-use mathlib.Core.List.{List, [], _∷_, _++_, map}
+-- A pass over the solved checks, in the order of solving: each solved check then sums to zero.
+use mathlib.Core.Path.{_≡_, refl, sym, ap, ap₂, _∙_}
+use mathlib.Core.Bool.{Bool, true, false, cond, not, true≢false, _||_}
+use mathlib.Core.List.{List, [], _∷_, _++_}
 use mathlib.Core.Logic.{_⊎_, inl, inr}
-use Prim.Native.Nat.{ℕ, zero, suc, _+_}
+use Prim.Native.Nat.{ℕ}
 use lib.Dec.{eqb}
-use Rattle.gf2.specs.Group.{Group2, sumOver, zr, cancel}
-use Rattle.gf2.specs.Bit.{eqb-true, eqb-false, eqb-self, eqb-comm}
-use Rattle.rule.specs.Rule.{Solved, clearAndAdd, solvingSteps}
-use Rattle.gf2.specs.Places.{has, par, minus, filter, has-filter, sum-filter, sum-apart, or-false-l, or-false-r}
+use Rattle.gf2.specs.Bit.{eqb-true, eqb-self}
+use Rattle.gf2.specs.Group.{Group2, sumOver}
+use Rattle.gf2.specs.ListLaws.{all-rev, all-snoc}
+use Rattle.gf2.specs.Lists.{rev}
+use Rattle.gf2.specs.Places.{has, par, minus, filter, has-filter, sum-apart}
 use Rattle.gf2.specs.Span.{byBool}
-use Rattle.plan.specs.declared.Step.{Step}
-use Rattle.plan.specs.declared.Step.the-variants.{Clear, Add}
-use Rattle.gf2.specs.Width.{All, All.nil, All.cons, all-map}
+use Rattle.gf2.specs.Width.{All, All.nil, All.cons}
+use Rattle.plan.specs.Run.{upd, run, run-append, adds-run, upd-same, upd-other, upd-upd, sum-upd}
+use Rattle.rule.specs.Rule.{Solved, clearAndAdd, solvingSteps}
+use Rattle.rule.specs.Solved.{Tri, Tri.done as tdone, Tri.also as talso}
 
 module _ {A : Type 0} (G : Group2 A) where
-  open Group2 G using (_⊕_, o, assoc, comm, self, zl)
+  open Group2 G using (_⊕_, o, zl)
 
-  abbrev pub upd : (ℕ → A) → ℕ → A → ℕ → A
-  upd st i a j = cond (eqb j i) a (st j)
-
-  abbrev pub step : (ℕ → A) → Step → ℕ → A
-  step st (Clear to) = upd st to o
-  step st (Add to from) = upd st to (st to ⊕ st from)
-
-  abbrev pub run : (ℕ → A) → List Step → ℕ → A
-  run st [] = st
-  run st (x ∷ xs) = run (step st x) xs
-
-  pub run-append : (st : ℕ → A) (xs ys : List Step) → run st (xs ++ ys) ≡ run (run st xs) ys
-  run-append st [] ys = refl
-  run-append st (x ∷ xs) ys = run-append (step st x) xs ys
-
-  pub upd-same : (st : ℕ → A) (i : ℕ) (a : A) → upd st i a i ≡ a
-  upd-same st i a = rw (eqb-self i)
-
-  pub upd-other : (st : ℕ → A) (i : ℕ) (a : A) (j : ℕ) → eqb j i ≡ false → upd st i a j ≡ st j
-  upd-other st i a j e = rw e
-
-  pub upd-id : (st : ℕ → A) (i : ℕ) (a : A) → a ≡ st i → upd st i a ≡ st
-  upd-id st i a h = fun-ext (λ j. byBool (eqb j i) (λ e. rw e (h ∙ ap st (sym (eqb-true j i e)))) (λ e. rw e))
-
-  pub upd-upd : (st : ℕ → A) (i : ℕ) (a b : A) → upd (upd st i a) i b ≡ upd st i b
-  upd-upd st i a b = fun-ext (λ j. byBool (eqb j i) (λ e. rw e) (λ e. rw e))
-
-  -- a sum in which the slot does not stand
-  pub sum-upd : (st : ℕ → A) (i : ℕ) (a : A) (c : List ℕ) → has i c ≡ false → sumOver G (upd st i a) c ≡ sumOver G st c
-  sum-upd st i a [] h = refl
-  sum-upd st i a (q ∷ c) h = ap₂ _⊕_
-      (upd-other st i a q (eqb-comm q i ∙ or-false-l (eqb i q) (has i c) h))
-      (sum-upd st i a c (or-false-r (eqb i q) (has i c) h))
-
-  adds-run : (to : ℕ) (c : List ℕ) (st : ℕ → A) → has to c ≡ false → run st (map (Add to) c) ≡ upd st to (st to ⊕ sumOver G st c)
-  adds-run to [] st h = sym (upd-id st to (st to ⊕ o) (zr G (st to)))
-  adds-run to (p ∷ c) st h =
-      adds-run to c (upd st to (st to ⊕ st p)) (or-false-r (eqb to p) (has to c) h)
-      ∙ upd-upd st to (st to ⊕ st p) _
-      ∙ ap (upd st to) (ap₂ _⊕_ (upd-same st to (st to ⊕ st p)) (sum-upd st to (st to ⊕ st p) c (or-false-r (eqb to p) (has to c) h)) ∙ assoc (st to) (st p) (sumOver G st c))
-
-  pub fill-run : (to : ℕ) (c : List ℕ) (st : ℕ → A) → has to c ≡ false → run st (clearAndAdd to c) ≡ upd st to (sumOver G st c)
+  -- a slot that is cleared and given the places c holds their sum
+  pub fill-run : (to : ℕ) (c : List ℕ) (st : ℕ → A) → has to c ≡ false → run G st (clearAndAdd to c) ≡ upd G st to (sumOver G st c)
   fill-run to c st h =
-      adds-run to c (upd st to o) h ∙ upd-upd st to o _
-      ∙ ap (upd st to) (ap₂ _⊕_ (upd-same st to o) (sum-upd st to o c h) ∙ zl (sumOver G st c))
+      adds-run G to c (upd G st to o) h ∙ upd-upd G st to o _
+      ∙ ap (upd G st to) (ap₂ _⊕_ (upd-same G st to o) (sum-upd G st to o c h) ∙ zl (sumOver G st c))
 
--- ---- a pass over the solved checks, in the order of solving
-
+-- ---- the order of solving: no own place lies in a check solved earlier
 pub data Ord : List Solved → Type 0 where
   done : Ord []
   also : {u : Solved} {us : List Solved} → par (u .own) (u .check) ≡ true → All (λ v. has (v .own) (u .check) ≡ false) us → Ord us → Ord (u ∷ us)
 
+-- reversed, the order of taking is an order of solving
+ord-snoc : {us : List Solved} (t : Solved) → Ord us → All (λ u. has (t .own) (u .check) ≡ false) us → par (t .own) (t .check) ≡ true → Ord (us ++ (t ∷ []))
+ord-snoc t done nil p = also p nil done
+ord-snoc t (also q l r) (cons h hs) p = also q (all-snoc l h) (ord-snoc t r hs p)
+
+pub tri-ord : {ts : List Solved} → Tri ts → Ord (rev ts)
+tri-ord tdone = done
+tri-ord (talso {t = t} p l r) = ord-snoc t (tri-ord r) (all-rev l) p
+
+-- a pass never adds an own place to itself
 pub own-out : (p : ℕ) (c F : List ℕ) → has p (minus c (p ∷ F)) ≡ false
 own-out p c F = has-filter (λ q. not (has q (p ∷ F))) p c (rw (eqb-self p))
 
@@ -92,9 +63,11 @@ module _ {A : Type 0} (G : Group2 A) where
       go false true (inr e) ih = absurd (true≢false (sym e))
       go false false w ih = ih
 
+  -- zero at the places F
   abbrev pub Zeros : (ℕ → A) → List ℕ → Type 0
   Zeros st F = (f : ℕ) → has f F ≡ true → st f ≡ o
 
+  -- one solved check
   abbrev solveOne : List ℕ → (ℕ → A) → Solved → ℕ → A
   solveOne F st u = upd G st (u .own) (sumOver G st (minus (u .check) (u .own ∷ F)))
 
@@ -103,19 +76,23 @@ module _ {A : Type 0} (G : Group2 A) where
       run-append G st (clearAndAdd (u .own) (minus (u .check) (u .own ∷ F))) (solvingSteps F us)
       ∙ ap (λ s. run G s (solvingSteps F us)) (fill-run G (u .own) (minus (u .check) (u .own ∷ F)) st (own-out (u .own) (u .check) F))
 
+  -- a place that nobody owns is left alone
   pub solve-other : (F : List ℕ) (p : ℕ) {us : List Solved} → All (λ u. eqb p (u .own) ≡ false) us → (st : ℕ → A) → run G st (solvingSteps F us) p ≡ st p
   solve-other F p nil st = refl
   solve-other F p (cons {x = u} {l = us} h hs) st = ap (λ s. s p) (solve-step F st u us) ∙ solve-other F p hs (solveOne F st u) ∙ upd-other G st (u .own) _ p h
 
-  pub solve-sum : (F c : List ℕ) {us : List Solved} → All (λ u. has (u .own) c ≡ false) us → (st : ℕ → A) → sumOver G (run G st (solvingSteps F us)) c ≡ sumOver G st c
+  -- so is the sum of a check without own places
+  solve-sum : (F c : List ℕ) {us : List Solved} → All (λ u. has (u .own) c ≡ false) us → (st : ℕ → A) → sumOver G (run G st (solvingSteps F us)) c ≡ sumOver G st c
   solve-sum F c nil st = refl
   solve-sum F c (cons {x = u} {l = us} h hs) st = ap (λ s. sumOver G s c) (solve-step F st u us) ∙ solve-sum F c hs (solveOne F st u) ∙ sum-upd G st (u .own) _ c h
 
-  pub solve-zeros : (F : List ℕ) (st : ℕ → A) (u : Solved) → has (u .own) F ≡ false → Zeros st F → Zeros (solveOne F st u) F
+  -- the places F stay zero
+  solve-zeros : (F : List ℕ) (st : ℕ → A) (u : Solved) → has (u .own) F ≡ false → Zeros st F → Zeros (solveOne F st u) F
   solve-zeros F st u n z f h = byBool (eqb f (u .own))
       (λ e. absurd (true≢false (sym h ∙ ap (λ x. has x F) (eqb-true f (u .own) e) ∙ n)))
       (λ e. rw e (z f h))
 
+  -- each solved check sums to zero, whether the places F are left out or are zero
   pub solve-zero : (F : List ℕ) {us : List Solved} → Ord us → All (λ u. has (u .own) F ≡ false) us → (st : ℕ → A) → Zeros st F
       → All (λ u. sumOver G (run G st (solvingSteps F us)) (u .check) ≡ o) us
   solve-zero F done n st z = nil

@@ -1,0 +1,52 @@
+-- Linear functions between groups of exponent 2: they pass through sums. And a sum of independent members, carried over to other members.
+use mathlib.Core.Path.{_≡_, refl, sym, ap, ap₂, _∙_}
+use mathlib.Core.Bool.{Bool, true, false}
+use mathlib.Core.List.{List, [], _∷_, map}
+use Prim.Native.Nat.{ℕ}
+use native.Mathlib.Omega.{arith}
+use lib.ListN.{length}
+use Rattle.gf2.specs.Group.{Group2, XorGroup, sumOver, cancel, eq-zero}
+use Rattle.gf2.specs.Independent.{Indep, Indep.empty, Indep.free}
+use Rattle.gf2.specs.Span.{comb, madd, comb-add}
+use Rattle.gf2.specs.Width.{All, All.nil, All.cons}
+
+-- f of a sum is the sum of both f
+pub record Lin {A B : Type 0} (G : Group2 A) (K : Group2 B) (f : A → B) : Type 0 where
+  pub adds : (a b : A) → f (G ._⊕_ a b) ≡ K ._⊕_ (f a) (f b)
+
+module _ {A B : Type 0} (G : Group2 A) (K : Group2 B) {f : A → B} (h : Lin G K f) where
+  -- of zero
+  pub lin-o : f (G .o) ≡ K .o
+  lin-o = sym (cancel K (f (G .o)) (f (G .o))) ∙ ap (λ x. K ._⊕_ (f (G .o)) x) (sym (h .adds (G .o) (G .o)) ∙ ap f (G .zl (G .o))) ∙ K .self (f (G .o))
+
+  -- of the members that a mask names
+  pub lin-comb : (m : List Bool) (R : List A) → f (comb G m R) ≡ comb K m (map f R)
+  lin-comb m [] = lin-o
+  lin-comb [] (r ∷ R) = lin-o
+  lin-comb (true ∷ m) (r ∷ R) = h .adds r (comb G m R) ∙ ap (λ x. K ._⊕_ (f r) x) (lin-comb m R)
+  lin-comb (false ∷ m) (r ∷ R) = lin-comb m R
+
+  -- of a sum over a list
+  pub lin-sum : {X : Type 0} (g : X → A) (l : List X) → f (sumOver G g l) ≡ sumOver K (λ x. f (g x)) l
+  lin-sum g [] = lin-o
+  lin-sum g (x ∷ l) = h .adds (g x) (sumOver G g l) ∙ ap (λ y. K ._⊕_ (f (g x)) y) (lin-sum g l)
+
+-- a sum of members that all go to zero
+pub lin-zero : {A : Type 0} (G : Group2 A) {f : ℕ → A} → Lin XorGroup G f → {R : List ℕ} → All (λ r. f r ≡ G .o) R → (m : List Bool) → f (comb XorGroup m R) ≡ G .o
+lin-zero G h nil m = lin-o XorGroup G h
+lin-zero G h (cons p a) [] = lin-o XorGroup G h
+lin-zero G h (cons {x = r} {l = R} p a) (true ∷ m) = h .adds r (comb XorGroup m R) ∙ ap₂ (G ._⊕_) p (lin-zero G h a m) ∙ G .zl (G .o)
+lin-zero G h (cons p a) (false ∷ m) = lin-zero G h a m
+
+-- ---- a sum of independent rows says which rows: so it can be carried over to other rows
+module _ {A B : Type 0} (G : Group2 A) (K : Group2 B) where
+  carry-zero : {R : List A} → Indep G R → (S : List B) → length R ≡ length S → (m : List Bool) → comb G m R ≡ G .o → comb K m S ≡ K .o
+  carry-zero empty [] l m e = refl
+  carry-zero empty (s ∷ S) l m e = absurd (omega arith)
+  carry-zero (free n i) [] l m e = absurd (omega arith)
+  carry-zero (free n i) (s ∷ S) l [] e = refl
+  carry-zero (free {x = x} {X = R} n i) (s ∷ S) l (true ∷ m) e = absurd (n (record { mask = m; sums = sym (eq-zero G x (comb G m R) e) }))
+  carry-zero (free n i) (s ∷ S) l (false ∷ m) e = carry-zero i S (omega arith) m e
+
+  pub carry : {R : List A} → Indep G R → (S : List B) → length R ≡ length S → (m k : List Bool) → comb G m R ≡ comb G k R → comb K m S ≡ comb K k S
+  carry {R} i S l m k e = eq-zero K _ _ (sym (comb-add K m k S) ∙ carry-zero i S l (madd m k) (comb-add G m k R ∙ ap (λ x. G ._⊕_ x (comb G k R)) e ∙ G .self (comb G k R)))

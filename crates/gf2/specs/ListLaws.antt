@@ -1,0 +1,184 @@
+-- Laws of lists: what holds of all members, membership and being without repeats, through reversing, joining, filtering and taking.
+use mathlib.Core.Path.{_≡_, refl, sym, ap, ap₂, _∙_, subst}
+use mathlib.Core.Bool.{Bool, true, false, true≢false, false≢true, _||_}
+use mathlib.Core.List.{List, [], _∷_, _++_, map}
+use Prim.Native.Nat.{ℕ, zero, suc, _<_, _≤_}
+use native.Mathlib.Omega.{arith}
+use lib.Dec.{eqb}
+use lib.ListN.{length, getD, replicate, take, length-append}
+use Rattle.gf2.specs.Bit.{eqb-true, eqb-false, eqb-self, eqb-comm}
+use Rattle.gf2.specs.Fit.{below}
+use Rattle.gf2.specs.Lists.{Distinct, Distinct.dnil, Distinct.dnew, eqb-lt, rev}
+use Rattle.gf2.specs.Places.{has, filter, or-false-l, or-false-r}
+use Rattle.gf2.specs.Span.{byBool, or-l, or-r}
+use Rattle.gf2.specs.Width.{All, All.nil, All.cons, all-map}
+
+-- ---- joining and reversing
+pub append-nil : {X : Type 0} (l : List X) → l ++ [] ≡ l
+append-nil [] = refl
+append-nil (x ∷ l) = ap (λ r. x ∷ r) (append-nil l)
+
+pub length-rev : {X : Type 0} (l : List X) → length (rev l) ≡ length l
+length-rev [] = refl
+length-rev (x ∷ l) = length-append (rev l) (x ∷ []) ∙ let h = length-rev l in omega arith
+
+-- ---- all members
+-- one more at the end
+pub all-snoc : {X : Type 0} {P : X → Type 0} {l : List X} {x : X} → All P l → P x → All P (l ++ (x ∷ []))
+all-snoc nil q = cons q nil
+all-snoc (cons p a) q = cons p (all-snoc a q)
+
+-- through reversing, and back
+pub all-rev : {X : Type 0} {P : X → Type 0} {l : List X} → All P l → All P (rev l)
+all-rev nil = nil
+all-rev (cons p a) = all-snoc (all-rev a) p
+
+all-unsnoc : {X : Type 0} {P : X → Type 0} (l : List X) (x : X) → All P (l ++ (x ∷ [])) → P x × All P l
+all-unsnoc [] x (cons p a) = (p, nil)
+all-unsnoc (y ∷ l) x (cons p a) = let r = all-unsnoc l x a in (r .0, cons p (r .1))
+
+pub all-unrev : {X : Type 0} {P : X → Type 0} (l : List X) → All P (rev l) → All P l
+all-unrev [] a = nil
+all-unrev (x ∷ l) a = let r = all-unsnoc (rev l) x a in cons (r .0) (all-unrev l (r .1))
+
+-- of both parts
+pub all-append : {X : Type 0} {P : X → Type 0} {l m : List X} → All P l → All P m → All P (l ++ m)
+all-append nil b = b
+all-append (cons p a) b = cons p (all-append a b)
+
+-- of copies of one
+pub all-replicate : {P : List ℕ → Type 0} (k : ℕ) (x : List ℕ) → P x → All P (replicate k x)
+all-replicate zero x p = nil
+all-replicate (suc k) x p = cons p (all-replicate k x p)
+
+-- of what they are mapped to
+pub all-unmap : {X Y : Type 0} {Q : Y → Type 0} (f : X → Y) (xs : List X) → All Q (map f xs) → All (λ x. Q (f x)) xs
+all-unmap f [] a = nil
+all-unmap f (x ∷ xs) (cons h a) = cons h (all-unmap f xs a)
+
+-- a property of the first n
+pub all-take : {P : List ℕ → Type 0} (n : ℕ) {l : List (List ℕ)} → All P l → All P (take n l)
+all-take zero a = nil
+all-take (suc n) nil = nil
+all-take (suc n) (cons p a) = cons p (all-take n a)
+
+-- from every number of the list to all members
+pub all-index : {P : ℕ → Type 0} (l : List ℕ) → ((k : ℕ) → k < length l → P (getD l k 0)) → All P l
+all-index [] h = nil
+all-index (x ∷ l) h = cons (h zero (omega arith)) (all-index l (λ k q. h (suc k) (omega arith)))
+
+-- ---- membership
+-- p is none of them, one by one
+pub none-has : {X : Type 0} (f : X → ℕ) (p : ℕ) (l : List X) → has p (map f l) ≡ false → All (λ x. eqb p (f x) ≡ false) l
+none-has f p [] h = nil
+none-has f p (x ∷ l) h = cons (or-false-l (eqb p (f x)) _ h) (none-has f p l (or-false-r (eqb p (f x)) _ h))
+
+pub has-none : {X : Type 0} (f : X → ℕ) (p : ℕ) {l : List X} → All (λ x. eqb p (f x) ≡ false) l → has p (map f l) ≡ false
+has-none f p nil = refl
+has-none f p (cons h a) = rw h (has-none f p a)
+
+-- each member is one
+pub all-self : (F : List ℕ) → All (λ f. has f F ≡ true) F
+all-self [] = nil
+all-self (f ∷ F) = cons (or-l (eqb f f) (has f F) (eqb-self f)) (all-map (λ g h. or-r (eqb g f) (has g F) h) (all-self F))
+
+-- what stands at a number of the list
+pub getD-has : (l : List ℕ) (k : ℕ) → k < length l → has (getD l k 0) l ≡ true
+getD-has [] k h = absurd (omega arith)
+getD-has (x ∷ l) zero h = or-l (eqb x x) (has x l) (eqb-self x)
+getD-has (x ∷ l) (suc k) h = or-r (eqb (getD l k 0) x) (has (getD l k 0) l) (getD-has l k (omega arith))
+
+-- nothing from n on lies among places below n
+pub has-low : (i n : ℕ) → n ≤ i → {c : List ℕ} → All (λ p. p < n) c → has i c ≡ false
+has-low i n h nil = refl
+has-low i n h (cons {x = q} {l = c} l ls) = rw (eqb-comm i q, eqb-lt q i (omega arith)) (has-low i n h ls)
+
+-- in one of two parts
+pub has-append-r : (p : ℕ) (l m : List ℕ) → has p m ≡ true → has p (l ++ m) ≡ true
+has-append-r p [] m h = h
+has-append-r p (x ∷ l) m h = or-r (eqb p x) (has p (l ++ m)) (has-append-r p l m h)
+
+pub has-append-l : (p : ℕ) (l m : List ℕ) → has p l ≡ true → has p (l ++ m) ≡ true
+has-append-l p [] m h = absurd (false≢true h)
+has-append-l p (x ∷ l) m h = byBool (eqb p x) (λ e. rw e) (λ e. rw e (has-append-l p l m (rw e at h)))
+
+-- in neither part
+pub has-append-none : (p : ℕ) (l m : List ℕ) → has p l ≡ false → has p m ≡ false → has p (l ++ m) ≡ false
+has-append-none p [] m h k = k
+has-append-none p (q ∷ l) m h k = rw (or-false-l (eqb p q) (has p l) h) (has-append-none p l m (or-false-r (eqb p q) (has p l) h) k)
+
+-- what passes the filter stays
+pub has-kept : (f : ℕ → Bool) (p : ℕ) (c : List ℕ) → f p ≡ true → has p c ≡ true → has p (filter f c) ≡ true
+has-kept f p [] t h = h
+has-kept f p (q ∷ c) t h = byBool (eqb p q)
+    (λ e. let u : f q ≡ true = ap f (sym (eqb-true p q e)) ∙ t in rw (u, filter) (rw e))
+    (λ e. byBool (f q)
+    (λ u. rw (u, filter) (rw e (has-kept f p c t (rw e at h))))
+    (λ u. rw (u, filter) (has-kept f p c t (rw e at h))))
+
+-- membership in a list with one more at the end
+has-snoc-l : (p x : ℕ) (l : List ℕ) → has p l ≡ true → has p (l ++ (x ∷ [])) ≡ true
+has-snoc-l p x [] h = absurd (false≢true h)
+has-snoc-l p x (y ∷ l) h = byBool (eqb p y) (λ e. rw e) (λ e. rw e (has-snoc-l p x l (rw e at h)))
+
+-- the one at the end
+has-snoc-r : (p : ℕ) (l : List ℕ) → has p (l ++ (p ∷ [])) ≡ true
+has-snoc-r p [] = rw (eqb-self p)
+has-snoc-r p (y ∷ l) = or-r (eqb p y) _ (has-snoc-r p l)
+
+-- every place below n is listed
+pub low-has : (n p : ℕ) → p < n → has p (rev (below n)) ≡ true
+low-has zero p h = absurd (omega arith)
+low-has (suc n) p h = byBool (eqb p n)
+    (λ e. subst (λ x. has p (rev (below n) ++ (x ∷ [])) ≡ true) (eqb-true p n e) (has-snoc-r p (rev (below n))))
+    (λ e. let ne = eqb-false p n e in has-snoc-l p n (rev (below n)) (low-has n p (omega arith)))
+
+-- ---- without repeats, and through a filter
+has-snoc : (p x : ℕ) (l : List ℕ) → has p l ≡ false → eqb p x ≡ false → has p (l ++ (x ∷ [])) ≡ false
+has-snoc p x [] h e = rw e
+has-snoc p x (y ∷ l) h e = ap₂ _||_ (or-false-l (eqb p y) (has p l) h) (has-snoc p x l (or-false-r (eqb p y) (has p l) h) e)
+
+-- none of them, reversed
+has-rev : (p : ℕ) (l : List ℕ) → has p l ≡ false → has p (rev l) ≡ false
+has-rev p [] h = refl
+has-rev p (x ∷ l) h = has-snoc p x (rev l) (has-rev p l (or-false-r (eqb p x) (has p l) h)) (or-false-l (eqb p x) (has p l) h)
+
+distinct-snoc : {l : List ℕ} (x : ℕ) → Distinct l → has x l ≡ false → Distinct (l ++ (x ∷ []))
+distinct-snoc x dnil h = dnew refl dnil
+distinct-snoc x (dnew {x = y} {l = l} k d) h = dnew (has-snoc y x l k (eqb-comm y x ∙ or-false-l (eqb x y) (has x l) h)) (distinct-snoc x d (or-false-r (eqb x y) (has x l) h))
+
+-- through reversing
+pub distinct-rev : {l : List ℕ} → Distinct l → Distinct (rev l)
+distinct-rev dnil = dnil
+distinct-rev (dnew {x = x} {l = l} h d) = distinct-snoc x (distinct-rev d) (has-rev x l h)
+
+-- none of them, filtered
+has-filter-out : (f : ℕ → Bool) (p : ℕ) (c : List ℕ) → has p c ≡ false → has p (filter f c) ≡ false
+has-filter-out f p [] e = refl
+has-filter-out f p (q ∷ c) e = byBool (f q)
+    (λ t. rw (t, filter) (ap₂ _||_ (or-false-l (eqb p q) (has p c) e) (has-filter-out f p c (or-false-r (eqb p q) (has p c) e))))
+    (λ t. rw (t, filter) (has-filter-out f p c (or-false-r (eqb p q) (has p c) e)))
+
+-- through a filter
+pub distinct-filter : (f : ℕ → Bool) {c : List ℕ} → Distinct c → Distinct (filter f c)
+distinct-filter f dnil = dnil
+distinct-filter f (dnew {x = q} {l = c} h d) = byBool (f q)
+    (λ t. rw (t, filter) (dnew (has-filter-out f q c h) (distinct-filter f d)))
+    (λ t. rw (t, filter) (distinct-filter f d))
+
+has-below : (p n : ℕ) → n ≤ p → has p (below n) ≡ false
+has-below p zero h = refl
+has-below p (suc n) h = ap₂ _||_ (byBool (eqb p n) (λ e. let k = eqb-true p n e in absurd (omega arith)) (λ e. e)) (has-below p n (omega arith))
+
+-- the places below n
+pub distinct-below : (n : ℕ) → Distinct (below n)
+distinct-below zero = dnil
+distinct-below (suc n) = dnew (has-below n n (omega arith)) (distinct-below n)
+
+-- what holds of all that pass
+pub filter-back : {P : ℕ → Type 0} (f : ℕ → Bool) (c : List ℕ) → All P (filter f c) → All (λ x. f x ≡ true → P x) c
+filter-back f [] a = nil
+filter-back {P} f (q ∷ c) a = byBool (f q) (λ t. on t (rw (t, filter) at a) (λ b. filter-back f c b)) (λ t. cons (λ h. absurd (true≢false (sym h ∙ t))) (filter-back f c (rw (t, filter) at a)))
+  where
+    on : f q ≡ true → All P (q ∷ filter f c) → (All P (filter f c) → All (λ x. f x ≡ true → P x) c) → All (λ x. f x ≡ true → P x) (q ∷ c)
+    on t (cons p b) k = cons (λ h. p) (k b)

@@ -1,0 +1,29 @@
+-- Which of some rows sum to a number, as a mask of the rows.
+use mathlib.Core.Path.{_≡_, refl, sym, ap, _∙_}
+use mathlib.Core.Bool.{Bool, true, false}
+use mathlib.Core.List.{List, [], _∷_}
+use Prim.Native.Nat.{ℕ, suc}
+use lib.Bits.{bitXor}
+use lib.ListN.{length}
+use Rattle.gf2.specs.Fit.{isZero, isZero-sound}
+use Rattle.gf2.specs.Group.{XorGroup, cancel}
+use Rattle.gf2.specs.Span.{byBool, comb, isSum}
+
+-- the rows R, one after the other: a row is left out where x is a sum of the rest
+abbrev pub maskFor : List ℕ → ℕ → List Bool
+maskFor [] x = []
+maskFor (r ∷ R) x = elim (isSum XorGroup isZero R x) [ true ↦ false ∷ maskFor R x | false ↦ true ∷ maskFor R (bitXor r x) ]
+
+-- where x is a sum of some rows, the mask's rows sum to it
+pub mask-sums : (R : List ℕ) (x : ℕ) → isSum XorGroup isZero R x ≡ true → comb XorGroup (maskFor R x) R ≡ x
+mask-sums [] x h = sym (isZero-sound x h)
+mask-sums (r ∷ R) x h = byBool (isSum XorGroup isZero R x)
+    (λ e. rw (e, maskFor) (mask-sums R x e))
+    (λ e. rw (e, maskFor) (ap (bitXor r) (mask-sums R (bitXor r x) (rw e at h)) ∙ cancel XorGroup r x))
+
+-- a bit for each row
+pub mask-length : (R : List ℕ) (x : ℕ) → length (maskFor R x) ≡ length R
+mask-length [] x = refl
+mask-length (r ∷ R) x = byBool (isSum XorGroup isZero R x)
+    (λ e. rw (e, maskFor) (ap suc (mask-length R x)))
+    (λ e. rw (e, maskFor) (ap suc (mask-length R (bitXor r x))))
