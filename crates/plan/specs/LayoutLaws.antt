@@ -246,7 +246,7 @@ module _ (w : List ℕ) (f : Formed w) where
   pub info-length : length (infoIn w) ≡ infoCount w
   info-length = info-long w (let c = f .counts in omega arith)
 
-  steps-in : length (stepsIn w) ≡ stepCount w
+  pub steps-in : length (stepsIn w) ≡ stepCount w
   steps-in = let c = f .counts in let d = length-drop (stepsAt w) w in omega arith
 
   -- every information place is below n
