@@ -1,206 +1,166 @@
--- Runs of steps: what they need of buffers, and what they give.
-use mathlib.Core.Path.{_≡_, refl, sym, ap, ap₂, _∙_, subst}
-use mathlib.Core.Bool.{Bool, true, false, cond}
-use mathlib.Core.List.{List, [], _∷_, _++_}
-use mathlib.Core.Logic.{⊎-elim}
-use mathlib.Core.Option.{Option, none, some}
-use Prim.Native.Nat.{ℕ, zero, suc, _+_, _-_, _*_, _/_, _%_, _<_, _≤_}
+-- A run of steps gathered piece by piece, and what its steps give.
+use mathlib.Core.Path.{_≡_, refl, sym, ap, ap₂, _∙_}
+use mathlib.Core.Bool.{Bool, true, false}
+use mathlib.Core.List.{List, [], _∷_, _++_, append-assoc, append-nil}
+use Prim.Native.Nat.{ℕ, suc, _+_, _<_, _≤_}
 use native.Mathlib.Omega.{arith}
-use borrow.Author.Tests.{ltb-true, ltb-false}
-use lib.Dec.{ltb}
-use lib.ListN.{length, getD, set, take, drop, replicate, length-replicate}
-use lib.Seq.{getD-set-same, getD-set-other, set-set, set-getD}
+use lib.ListN.{length, getD, set, take, drop, replicate, length-set, length-replicate, drop-of-length-le}
+use lib.Seq.{take-all, take-add, take-at, drop-at, drop-drop, getD-set-same, getD-set-other, set-set, set-getD, length-take-le}
 use Rattle.gf2.specs.Group.{XorGroup}
-use Rattle.gf2.specs.Lists.{all-getD}
-use Rattle.gf2.specs.Span.{byBool}
-use Rattle.gf2.specs.Vectors.{add, add-assoc, add-comm, add-zl}
-use Rattle.table.specs.BufferLaws.{side}
-use Rattle.table.specs.Packets.{Packets, packetSum}
-use Rattle.plan.specs.declared.Step.{Step}
-use Rattle.plan.specs.declared.Step.the-variants.{Clear, Add}
-use Rattle.plan.specs.Layout.{planPlaces, planGap, infoCount, infoIn, slots, stepCount, stepsOf}
-use Rattle.plan.specs.LayoutLaws.{Formed, Sound, step-sound}
-use Rattle.plan.specs.Step.{unpack, stepOf, SlotsBelow, addSteps}
-use Rattle.plan.specs.Steps.{carryOut, carryOutAll}
-use Rattle.encoder.specs.Slots.{Holds, SlotIn, SourcesIn, SourcesBelow, SourcesApart, sourcesOf, baseOf, runSum, Ran}
-use Rattle.encoder.proofs.PartLaws.{sum-more}
-use Rattle.encoder.proofs.RunLaws.{stepAt, step-there, adds-snoc, steps-keep, steps-snoc, take-more}
-use Rattle.encoder.proofs.SlotLaws.{slot-in}
+use Rattle.gf2.specs.Lists.{all-getD, all-set}
+use Rattle.gf2.specs.Vectors.{add, add-assoc, add-comm, add-zl, length-add}
+use Rattle.table.specs.BufferLaws.{part-length}
+use Rattle.table.specs.Packets.{Packets, packetSum, written}
+use Rattle.table.specs.SumLaws.{part-sum}
+use Rattle.plan.specs.Steps.{carryOutAll}
+use Rattle.encoder.specs.Runs.{adding, runSteps}
+use Rattle.encoder.specs.Slots.{Holds, SlotsOf, PartsAdded, PartPut, baseOf, runSum, BaseAdded, RunOf, gathered, Gathers}
+use Rattle.encoder.proofs.PartLaws.{sum-long}
+use Rattle.encoder.proofs.SlotLaws.{holds-as}
 
-pub same-slot : {n s b c b′ c′ p : ℕ} → b′ ≡ b → c′ ≡ c → SlotIn n s b c p → SlotIn n s b′ c′ p
-same-slot e f h = rw (e, f) h
+-- ---- what a run starts from
+base-long : (fresh : Bool) (s : ℕ) (v : List ℕ) → length v ≡ s → length (baseOf fresh s v) ≡ s
+base-long true s v e = length-replicate s 0
+base-long false s v e = e
 
-pub same-sources : {w : List ℕ} {at count n s b c b′ c′ : ℕ} → b′ ≡ b → c′ ≡ c → SourcesIn w at count n s b c → SourcesIn w at count n s b′ c′
-same-sources e f h = rw (e, f) h
+-- a later part doesn't depend on what was written before it
+base-part : (fresh : Bool) (s i k : ℕ) (v u p : List ℕ) → drop i u ≡ drop i v
+    → take k (drop i (add XorGroup (baseOf fresh s u) p)) ≡ take k (drop i (add XorGroup (baseOf fresh s v) p))
+base-part true s i k v u p e = refl
+base-part false s i k v u p e = part-sum i k u p ∙ ap (λ y. add XorGroup (take k y) (take k (drop i p))) e ∙ sym (part-sum i k v p)
 
-pub holds-as : {n s : ℕ} {st st′ : List (List ℕ)} {b c : List ℕ} → st ≡ st′ → Holds n s st b c → Holds n s st′ b c
-holds-as {n} {s} {st} {st′} {b} {c} e h = subst (λ z. Holds n s z b c) e h
+-- the three parts of a piece
+piece : (fresh : Bool) (s off k : ℕ) (v p z a r : List ℕ) → length v ≡ s → off + k ≤ s → z ≡ replicate k 0 → a ≡ add XorGroup z (take k (drop off (baseOf fresh s v)))
+    → r ≡ add XorGroup a (take k (drop off p)) → r ≡ take k (drop off (add XorGroup (baseOf fresh s v) p))
+piece fresh s off k v p z a r long fits e f g =
+    let x = baseOf fresh s v in
+    let lx : length (take k (drop off x)) ≡ k = part-length x off k (omega (arith, base-long fresh s v long)) in
+    g ∙ ap (λ y. add XorGroup y (take k (drop off p))) (f ∙ ap (λ y. add XorGroup y (take k (drop off x))) e ∙ add-zl XorGroup (take k (drop off x)) k lx)
+    ∙ sym (part-sum off k x p)
 
--- ---- the step of a number
-some-same : {y z : Step} → _≡_ {A = Option Step} (some y) (some z) → y ≡ z
-some-same r = cc
+-- ---- v with the first i bytes of x
+abbrev upTo : List ℕ → List ℕ → ℕ → List ℕ
+upTo v x i = take i x ++ drop i v
 
-clear-of : (to from : ℕ) (y : Step) → stepOf 0 to from ≡ some y → y ≡ Clear to
-clear-of to zero y h = sym (some-same h)
-clear-of to (suc from) y h = absurd (let z : _≡_ {A = ℕ} 0 1 = cc in omega arith)
+up-drop : (v x : List ℕ) (i : ℕ) → i ≤ length x → drop i (upTo v x i) ≡ drop i v
+up-drop v x i h = drop-at (take i x) (drop i v) i (length-take-le i x h)
 
-add-of : (k to from : ℕ) (y : Step) → 1 ≤ k → stepOf k to from ≡ some y → y ≡ Add to from
-add-of zero to from y l h = absurd (omega arith)
-add-of (suc zero) to from y l h = sym (some-same h)
-add-of (suc (suc k)) to from y l h = absurd (let z : _≡_ {A = ℕ} 0 1 = cc in omega arith)
+up-take : (v x : List ℕ) (i : ℕ) → i ≤ length x → take i (upTo v x i) ≡ take i x
+up-take v x i h = take-at (take i x) (drop i v) i (length-take-le i x h)
 
-clear-is : (x : ℕ) (y : Step) → unpack x ≡ some y → ltb x 16777216 ≡ true → y ≡ Clear (x / 4096 % 4096)
-clear-is x y h l =
-    let m = ltb-true x 16777216 l in
-    let z : x / 16777216 ≡ 0 = omega arith in
-    clear-of (x / 4096 % 4096) (x % 4096) y (sym (ap (λ (k : ℕ). stepOf k (x / 4096 % 4096) (x % 4096)) z) ∙ h)
+up-more : (v x : List ℕ) (i k : ℕ) → i + k ≤ length x → written (upTo v x i) i (take k (drop i x)) ≡ upTo v x (i + k)
+up-more v x i k h =
+    let y = take k (drop i x) in
+    let ly : length y ≡ k = part-length x i k h in
+    let e : drop (i + length y) (upTo v x i) ≡ drop (i + k) v =
+    ap (λ (j : ℕ). drop (i + j) (upTo v x i)) ly ∙ sym (drop-drop k i (upTo v x i)) ∙ ap (drop k) (up-drop v x i (omega arith)) ∙ drop-drop k i v in
+    ap₂ (λ p q. p ++ (y ++ q)) (up-take v x i (omega arith)) e ∙ sym (append-assoc (take i x) y (drop (i + k) v))
+    ∙ ap (λ l. l ++ drop (i + k) v) (sym (take-add i k x))
 
-add-is : (x : ℕ) (y : Step) → unpack x ≡ some y → ltb x 16777216 ≡ false → y ≡ Add (x / 4096 % 4096) (x % 4096)
-add-is x y h l = let m = ltb-false x 16777216 l in add-of (x / 16777216) (x / 4096 % 4096) (x % 4096) y (omega arith) h
+up-all : (v x : List ℕ) (s : ℕ) → length v ≡ s → length x ≡ s → upTo v x s ≡ x
+up-all v x s lv lx = ap₂ _++_ (take-all s x (omega arith)) (drop-of-length-le v {i = s} (omega arith)) ∙ append-nil x
 
-head-is : (x to : ℕ) (y : Step) → unpack x ≡ some y → x / 4096 ≡ 4096 + to → to < 4096 → y ≡ Add to (x % 4096)
-head-is x to y h e l =
-    let z : x / 4096 % 4096 ≡ to = omega arith in
-    add-of (x / 16777216) (x / 4096 % 4096) (x % 4096) y (omega arith) h ∙ ap (λ (k : ℕ). Add k (x % 4096)) z
+-- ---- a run over the slots st
+-- what is added stays as it was while the target is written
+elsewhere : (s : ℕ) (st : List (List ℕ)) (to : ℕ) (v : List ℕ) (fs : List ℕ) → ((i : ℕ) → i < length fs → getD fs i 0 ≡ to → ⊥)
+    → packetSum s (set st to v) fs ≡ packetSum s st fs
+elsewhere s st to v [] h = refl
+elsewhere s st to v (f ∷ fs) h = ap₂ (add XorGroup) (getD-set-other st to f v [] (h 0 (omega arith))) (elsewhere s st to v fs (λ i g. h (suc i) (omega arith)))
 
--- ---- a run: a clear or an add step at i, and the add steps after it up to last, all into to
-module _ (w : List ℕ) (f : Formed w) (q : ℕ) (e : q ≡ infoCount w) (i last : ℕ) (lo : 7 + q ≤ i) (more : i < last) (hi : last ≤ 7 + q + stepCount w) (long : last ≤ length w)
-    (to : ℕ) (is-to : to ≡ getD w i 0 / 4096 % 4096) (heads : (k : ℕ) → i + 1 ≤ k → k < last → getD w k 0 / 4096 ≡ 4096 + to)
-    (fresh : Bool) (is-fresh : fresh ≡ ltb (getD w i 0) 16777216) (d : ℕ) (is-d : d ≡ cond fresh 1 0) where
-  number-there : (k : ℕ) → 7 + q ≤ k → k < last → unpack (getD w k 0) ≡ some (stepAt w (k - (7 + q)))
-  number-there k a b = let z : 7 + q + (k - (7 + q)) ≡ k = omega arith in rw z at (step-there w f (k - (7 + q)) (omega arith) q e)
+module _ (fresh : Bool) (s : ℕ) (st : List (List ℕ)) (to : ℕ) (fs : List ℕ) (sized : Packets s st) (run : RunOf (length st) to fs) where
+  abbrev v : List ℕ
+  v = getD st to []
 
-  sound-at : (k : ℕ) → 7 + q ≤ k → k < last → Sound (slots w) (infoIn w) (stepAt w (k - (7 + q)))
-  sound-at k a b = step-sound w f (Clear 0) (k - (7 + q)) (omega arith)
+  abbrev x : List ℕ
+  x = runSum fresh s st to fs
 
-  d-small : d ≤ 1
-  d-small = byBool fresh (λ z. let y : d ≡ 1 = is-d ∙ rw z in omega arith) (λ z. let y : d ≡ 0 = is-d ∙ rw z in omega arith)
+  v-long : length v ≡ s
+  v-long = all-getD sized to (run .target)
 
-  abbrev first : ℕ
-  first = i + d
+  x-long : length x ≡ s
+  x-long = length-add XorGroup (baseOf fresh s v) (packetSum s st fs) s (base-long fresh s v v-long) (sum-long s st fs sized (run .sources))
 
-  abbrev count : ℕ
-  count = last - first
+  gathered-none : gathered fresh s st to fs 0 ≡ st
+  gathered-none = set-getD st to []
 
-  -- the steps after a clear, or all of them
-  step-is : (m : ℕ) → m < count → stepAt w (first + m - (7 + q)) ≡ Add to (getD w (first + m) 0 % 4096)
-  step-is m h =
-      let s = d-small in
-      let there = number-there (first + m) (omega arith) (omega arith) in
-      ⊎-elim
-      (λ a. let b : first + m ≡ i = omega arith in
-      let n : fresh ≡ false = byBool fresh (λ z. absurd (let y : d ≡ 1 = is-d ∙ rw z in omega arith)) (λ z. z) in
-      add-is (getD w (first + m) 0) _ there (ap (λ (k : ℕ). ltb (getD w k 0) 16777216) b ∙ sym is-fresh ∙ n)
-      ∙ ap (λ (k : ℕ). Add k (getD w (first + m) 0 % 4096)) (ap (λ (k : ℕ). getD w k 0 / 4096 % 4096) b ∙ sym is-to))
-      (λ a. head-is (getD w (first + m) 0) to _ there (heads (first + m) (omega arith) (omega arith)) (omega (arith, is-to)))
-      (side (first + m) (i + 1))
+  gathered-all : gathered fresh s st to fs s ≡ set st to x
+  gathered-all = ap (set st to) (up-all v x s v-long x-long)
 
-  sound-is : (m : ℕ) → m < count → Sound (slots w) (infoIn w) (Add to (getD w (first + m) 0 % 4096))
-  sound-is m h = let s = d-small in subst (λ y. Sound (slots w) (infoIn w) y) (step-is m h) (sound-at (first + m) (omega arith) (omega arith))
+  gathered-more : (i k : ℕ) → i + k ≤ s → let u = gathered fresh s st to fs i in
+      set u to (written (getD u to []) i (take k (drop i (runSum fresh s u to fs)))) ≡ gathered fresh s st to fs (i + k)
+  gathered-more i k h =
+      let u = upTo v x i in
+      let e : getD (set st to u) to [] ≡ u = getD-set-same st to u [] (run .target) in
+      let same : packetSum s (set st to u) fs ≡ packetSum s st fs = elsewhere s st to u fs (run .apart) in
+      let part : take k (drop i (runSum fresh s (set st to u) to fs)) ≡ take k (drop i x) =
+      ap₂ (λ y z. take k (drop i (add XorGroup (baseOf fresh s y) z))) e same ∙ base-part fresh s i k v u (packetSum s st fs) (up-drop v x i (omega (arith, x-long))) in
+      set-set st to u _ ∙ ap (set st to) (ap₂ (λ y z. written y i z) e part ∙ up-more v x i k (omega (arith, x-long)))
 
-  pub to-below : to < slots w
-  to-below = byBool fresh
-      (λ z. let y = clear-is (getD w i 0) _ (number-there i lo more) (sym is-fresh ∙ z) in
-      rw is-to (subst (λ y. SlotsBelow (slots w) y) y (sound-at i lo more .below)))
-      (λ z. let y = add-is (getD w i 0) _ (number-there i lo more) (sym is-fresh ∙ z) in
-      rw is-to (subst (λ y. SlotsBelow (slots w) y) y (sound-at i lo more .below) .0))
+-- ---- the pieces
+pub gathers-none : (n s : ℕ) (fresh : Bool) (to : ℕ) (fs : List ℕ) (i : ℕ) (b c : List ℕ) → Gathers n s fresh to fs i i b c b c
+gathers-none n s fresh to fs i b c = record { slots = λ st z r h. h }
 
-  pub run-below : SourcesBelow w first count (slots w)
-  run-below m h = sound-is m h .below .1
+pub gathers-on : {n s : ℕ} {fresh : Bool} {to : ℕ} {fs : List ℕ} {i j k : ℕ} {b c b′ c′ b″ c″ : List ℕ} → Gathers n s fresh to fs i j b c b′ c′
+    → Gathers n s fresh to fs j k b′ c′ b″ c″ → Gathers n s fresh to fs i k b c b″ c″
+gathers-on f g = record { slots = λ st z r h. g .slots st z r (f .slots st z r h) }
 
-  pub run-apart : SourcesApart w first count to
-  run-apart m h z = sound-is m h .apart (sym z)
+pub gathers-as : {n s : ℕ} {fresh : Bool} {to : ℕ} {fs : List ℕ} {i j k : ℕ} {b c b′ c′ : List ℕ} → j ≡ k → Gathers n s fresh to fs i j b c b′ c′
+    → Gathers n s fresh to fs i k b c b′ c′
+gathers-as e g = rw (← e) g
 
-  pub run-room : first + count ≤ length w
-  run-room = let s = d-small in omega arith
+-- one of k bytes, from z of zeros: what it starts from is added, then its slots, and the sum is put back
+pub gathers-part : {n s : ℕ} {fresh : Bool} {to : ℕ} {fs : List ℕ} (off : ℕ) {b c b′ c′ : List ℕ} (z a r : List ℕ) → z ≡ replicate (length z) 0
+    → off + length z ≤ s → length a ≡ length z → BaseAdded n s fresh to off b c z a → PartsAdded n s fs off b c a r → PartPut n s to off r b c b′ c′
+    → Gathers n s fresh to fs off (off + length z) b c b′ c′
+gathers-part {n} {s} {fresh} {to} {fs} off {b} {c} {b′} {c′} z a r zero fits long base parts put = record {
+  slots = λ st sized run h.
+      let u = gathered fresh s st to fs off in
+      let lu : length u ≡ length st = length-set st to _ in
+      let there : to < length u = rw lu (run .target) in
+      let all : SlotsOf (length u) fs = rw lu (run .sources) in
+      let e : r ≡ take (length z) (drop off (runSum fresh s u to fs)) =
+      piece fresh s off (length z) (getD u to []) (packetSum s u fs) z a r (all-getD (h .sized) to there) fits zero (base .sum u h there)
+      (parts .sum u h all ∙ ap (λ (k : ℕ). add XorGroup a (take k (drop off (packetSum s u fs)))) long) in
+      holds-as (ap (λ y. set u to (written (getD u to []) off y)) e ∙ gathered-more fresh s st to fs sized run off (length z) fits) (put .slots u h there);
+}
 
-  pub run-in : (n s b c : ℕ) → n ≡ planPlaces w → b ≡ planPlaces w * s → c ≡ planGap w * s → SourcesIn w first count n s b c
-  run-in n s b c en eb ec = rw en (record { room = run-room; each = λ m h. slot-in (planPlaces w) (planGap w) s b c _ eb ec (run-below m h) })
+-- all of them
+pub gathers-all : {n s : ℕ} {fresh : Bool} {to : ℕ} {fs : List ℕ} {b c b′ c′ : List ℕ} → Gathers n s fresh to fs 0 s b c b′ c′
+    → (st : List (List ℕ)) → RunOf (length st) to fs → Holds n s st b c → Holds n s (set st to (runSum fresh s st to fs)) b′ c′
+gathers-all {n} {s} {fresh} {to} {fs} g st run h =
+    let sized = h .sized in
+    holds-as (gathered-all fresh s st to fs sized run) (g .slots st sized run (holds-as (sym (gathered-none fresh s st to fs sized run)) h))
 
-  pub to-in : (n s b c : ℕ) → n ≡ planPlaces w → b ≡ planPlaces w * s → c ≡ planGap w * s → SlotIn n s b c to
-  to-in n s b c en eb ec = rw en (slot-in (planPlaces w) (planGap w) s b c to eb ec to-below)
+-- ---- the steps of a run
+-- the rest of a run, after slot to was written
+rest-of : {k to f : ℕ} {fs : List ℕ} → RunOf k to (f ∷ fs) → RunOf k to fs
+rest-of r = record {
+  target = r .target;
+  sources = record { each = λ i h. r .sources .each (suc i) (omega arith) };
+  apart = λ i h. r .apart (suc i) (omega arith);
+}
 
-  -- ---- what it gives
-  abbrev j : ℕ
-  j = i - (7 + q)
+run-written : (st : List (List ℕ)) {to : ℕ} {fs : List ℕ} (v : List ℕ) → RunOf (length st) to fs → RunOf (length (set st to v)) to fs
+run-written st {to} v r = rw (length-set st to v) r
 
-  adds-upto : (m : ℕ) → m ≤ count → addSteps (take (j + d + m) (stepsOf w)) ≡ addSteps (take j (stepsOf w)) + m
-  adds-upto zero h = byBool fresh
-      (λ z. let y : d ≡ 1 = is-d ∙ rw z in
-      let s = clear-is (getD w i 0) _ (number-there i lo more) (sym is-fresh ∙ z) in
-      let n : j + d + 0 ≡ j + 1 = omega arith in
-      ap (λ (k : ℕ). addSteps (take k (stepsOf w))) n ∙ ap addSteps (take-more w f j (omega arith)) ∙ adds-snoc (take j (stepsOf w)) (stepAt w j)
-      ∙ ap (λ y. addSteps (take j (stepsOf w)) + addSteps (y ∷ [])) s)
-      (λ z. let y : d ≡ 0 = is-d ∙ rw z in let n : j + d + 0 ≡ j = omega arith in rw n (omega arith))
-  adds-upto (suc m) h =
-      let s = d-small in
-      let p = adds-upto m (omega arith) in
-      let n : j + d + suc m ≡ j + d + m + 1 = omega arith in
-      let a : j + d + m ≡ first + m - (7 + q) = omega arith in
-      let b : addSteps (take (j + d + suc m) (stepsOf w)) ≡ addSteps (take (j + d + m) (stepsOf w)) + 1 =
-      ap (λ (k : ℕ). addSteps (take k (stepsOf w))) n ∙ ap addSteps (take-more w f (j + d + m) (omega arith)) ∙ adds-snoc (take (j + d + m) (stepsOf w)) (stepAt w (j + d + m))
-      ∙ ap (λ y. addSteps (take (j + d + m) (stepsOf w)) + addSteps (y ∷ [])) (ap (stepAt w) a ∙ step-is m (omega arith)) in
-      omega (arith, b, p)
+adding-gives : (s : ℕ) (st : List (List ℕ)) (to : ℕ) (fs : List ℕ) → Packets s st → RunOf (length st) to fs
+    → carryOutAll s st (adding to fs) ≡ set st to (runSum false s st to fs)
+adding-gives s st to [] sized r =
+    let v = getD st to [] in
+    sym (ap (set st to) (add-comm XorGroup v (replicate s 0) ∙ add-zl XorGroup v s (all-getD sized to (r .target))) ∙ set-getD st to [])
+adding-gives s st to (f ∷ fs) sized r =
+    let v = getD st to [] in let y = getD st f [] in let u = add XorGroup v y in
+    adding-gives s (set st to u) to fs (all-set sized to u (length-add XorGroup v y s (all-getD sized to (r .target)) (all-getD sized f (r .sources .each 0 (omega arith)))))
+    (run-written st u (rest-of r))
+    ∙ set-set st to u _
+    ∙ ap (set st to) (ap₂ (add XorGroup) (getD-set-same st to u [] (r .target)) (elsewhere s st to u fs (rest-of r .apart)) ∙ add-assoc XorGroup v y (packetSum s st fs))
 
-  module _ (s : ℕ) (st : List (List ℕ)) (wide : length st ≡ slots w) where
-    abbrev before : List (List ℕ)
-    before = carryOutAll s st (take j (stepsOf w))
-
-    before-long : length before ≡ slots w
-    before-long = steps-keep s st (take j (stepsOf w)) ∙ wide
-
-    module _ (sized : Packets s before) where
-      abbrev base : List ℕ
-      base = baseOf fresh s (getD before to [])
-
-      inside : to < length before
-      inside = rw before-long to-below
-
-      abbrev sums : ℕ → List ℕ
-      sums m = runSum fresh s before to (sourcesOf (take m (drop first w)))
-
-      slots-upto : (m : ℕ) → m ≤ count → carryOutAll s st (take (j + d + m) (stepsOf w)) ≡ set before to (sums m)
-      slots-upto zero h = byBool fresh
-          (λ z. let y : d ≡ 1 = is-d ∙ rw z in
-          let c = clear-is (getD w i 0) _ (number-there i lo more) (sym is-fresh ∙ z) in
-          let n : j + d + 0 ≡ j + 1 = omega arith in
-          let o : List ℕ = replicate s 0 in
-          let t : sums 0 ≡ o = ap (λ g. add XorGroup (baseOf g s (getD before to [])) o) z ∙ add-zl XorGroup o s (length-replicate s 0) in
-          ap (λ (k : ℕ). carryOutAll s st (take k (stepsOf w))) n ∙ ap (carryOutAll s st) (take-more w f j (omega arith)) ∙ steps-snoc s st (take j (stepsOf w)) (stepAt w j)
-          ∙ ap (carryOut s before) (c ∙ ap Clear (sym is-to)) ∙ ap (set before to) (sym t))
-          (λ z. let y : d ≡ 0 = is-d ∙ rw z in
-          let n : j + d + 0 ≡ j = omega arith in
-          let v = getD before to [] in
-          let t : sums 0 ≡ v = ap (λ g. add XorGroup (baseOf g s v) (replicate s 0)) z ∙ add-comm XorGroup v (replicate s 0) ∙ add-zl XorGroup v s (all-getD sized to inside) in
-          ap (λ (k : ℕ). carryOutAll s st (take k (stepsOf w))) n ∙ sym (ap (set before to) t ∙ set-getD before to []))
-      slots-upto (suc m) h =
-          let ds = d-small in
-          let n : j + d + suc m ≡ j + d + m + 1 = omega arith in
-          let a : j + d + m ≡ first + m - (7 + q) = omega arith in
-          let g = getD w (first + m) 0 % 4096 in
-          let u = sums m in
-          let p = packetSum s before (sourcesOf (take m (drop first w))) in
-          let r : m + 1 ≡ suc m = omega arith in
-          let t : add XorGroup u (getD before g []) ≡ sums (suc m) =
-          add-assoc XorGroup base p (getD before g []) ∙ ap (add XorGroup base) (sym (rw r at (sum-more w first count run-room s before m (omega arith)))) in
-          ap (λ (k : ℕ). carryOutAll s st (take k (stepsOf w))) n ∙ ap (carryOutAll s st) (take-more w f (j + d + m) (omega arith))
-          ∙ steps-snoc s st (take (j + d + m) (stepsOf w)) (stepAt w (j + d + m))
-          ∙ ap₂ (carryOut s) (slots-upto m (omega arith)) (ap (stepAt w) a ∙ step-is m (omega arith))
-          ∙ set-set before to u _
-          ∙ ap (set before to) (ap₂ (add XorGroup) (getD-set-same before to u [] inside) (getD-set-other before to g u [] (run-apart m (omega arith))) ∙ t)
-
-  pub ran-run : {s a : ℕ} {b c b′ c′ b″ c″ : List ℕ} → Ran w s j a b c b′ c′
-      → ((st : List (List ℕ)) → Holds (planPlaces w) s st b′ c′ → to < length st → SourcesBelow w first count (length st) → SourcesApart w first count to
-      → Holds (planPlaces w) s (set st to (runSum fresh s st to (sourcesOf (take count (drop first w))))) b″ c″)
-      → Ran w s (last - (7 + q)) (a + count) b c b″ c″
-  ran-run {s} {a} {b} {c} {b′} {c′} {b″} {c″} p g =
-      let ds = d-small in
-      let n : j + d + count ≡ last - (7 + q) = omega arith in
-      record {
-        count = let z = adds-upto count (omega arith) in let y = p .count in (omega (arith, y, z)) ∙ ap (λ (k : ℕ). addSteps (take k (stepsOf w))) n;
-        slots = λ st o l.
-            let h = p .slots st o l in
-            let m = before-long s st l in
-            holds-as (sym (slots-upto s st l (h .sized) count (omega arith)) ∙ ap (λ (k : ℕ). carryOutAll s st (take k (stepsOf w))) n)
-            (g (before s st l) h (rw m to-below) (rw m run-below) run-apart);
-      }
+-- they give the run's sum
+pub run-gives : (fresh : Bool) (s : ℕ) (st : List (List ℕ)) (to : ℕ) (fs : List ℕ) → Packets s st → RunOf (length st) to fs
+    → carryOutAll s st (runSteps fresh to fs) ≡ set st to (runSum fresh s st to fs)
+run-gives false s st to fs sized r = adding-gives s st to fs sized r
+run-gives true s st to fs sized r =
+    let o : List ℕ = replicate s 0 in
+    adding-gives s (set st to o) to fs (all-set sized to o (length-replicate s 0)) (run-written st o r)
+    ∙ set-set st to o _
+    ∙ ap (set st to) (ap₂ (add XorGroup) (getD-set-same st to o [] (r .target)) (elsewhere s st to o fs (r .apart)))

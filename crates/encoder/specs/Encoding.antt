@@ -1,9 +1,8 @@
 -- The encoder's call (document 01, "The plan" and "What the steps give, written out"): plan w, information, block, scratch and
 -- step limit of any length and content.
-use mathlib.Core.Path.{_≡_}
-use mathlib.Core.Bool.{Bool, true, false}
-use mathlib.Core.List.{List, [], _∷_}
-use Prim.Native.Nat.{ℕ, zero, suc, _+_, _*_}
+use mathlib.Core.Bool.{true, false}
+use mathlib.Core.List.{List}
+use Prim.Native.Nat.{ℕ, zero, suc, _*_}
 use lib.Dec.{eqb}
 use lib.ListN.{length, take, drop}
 use Rattle.table.specs.Packets.{packets, joined}

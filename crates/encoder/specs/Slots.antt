@@ -1,18 +1,16 @@
 -- Slots as bytes: the first n slots in a row are the block, the others the scratch.
 use mathlib.Core.Path.{_≡_}
 use mathlib.Core.Bool.{Bool, cond, not, _||_}
-use mathlib.Core.List.{List, [], _∷_}
-use Prim.Native.Nat.{ℕ, _+_, _*_, _-_, _%_, _<_, _≤_}
+use mathlib.Core.List.{List, [], _++_}
+use Prim.Native.Nat.{ℕ, _+_, _*_, _-_, _<_, _≤_}
 use lib.Dec.{eqb}
-use lib.ListN.{length, getD, take, drop, replicate}
+use lib.ListN.{length, getD, set, take, drop, replicate}
 use Rattle.gf2.specs.Group.{XorGroup}
 use Rattle.gf2.specs.Vectors.{add}
-use Rattle.table.specs.Packets.{Packets, packets, joined, packetSum}
-use Rattle.plan.specs.declared.Step.{Step}
-use Rattle.plan.specs.declared.Step.the-variants.{Clear, Add}
+use Rattle.table.specs.Packets.{Packets, packets, joined, packetSum, written}
 use Rattle.plan.specs.Layout.{planPlaces, planGap, infoCount, infoIn, slots, stepsOf, planRefusal}
-use Rattle.plan.specs.Step.{SlotsBelow, addSteps}
-use Rattle.plan.specs.Steps.{carryOut, carryOutAll, withPackets, atStart}
+use Rattle.plan.specs.Step.{addSteps}
+use Rattle.plan.specs.Steps.{carryOutAll, withPackets, atStart}
 
 -- block and scratch hold the slots st, of s bytes each
 pub record Holds (n s : ℕ) (st : List (List ℕ)) (block scratch : List ℕ) : Type 0 where
@@ -25,23 +23,33 @@ pub record SlotIn (n s b c p : ℕ) : Type 0 where
   pub below : p < n → p * s + s ≤ b
   pub above : n ≤ p → (p - n) * s + s ≤ c
 
--- the sources of some plan numbers
-abbrev pub sourcesOf : List ℕ → List ℕ
-sourcesOf [] = []
-sourcesOf (x ∷ xs) = x % 4096 ∷ sourcesOf xs
+-- the slots fs do
+pub record SlotsIn (n s b c : ℕ) (fs : List ℕ) : Type 0 where
+  pub each : (i : ℕ) → i < length fs → SlotIn n s b c (getD fs i 0)
 
--- the sources of count numbers of w from at on lie within, are below k, and are not to
-pub record SourcesIn (w : List ℕ) (at count n s b c : ℕ) : Type 0 where
-  pub room : at + count ≤ length w
-  pub each : (i : ℕ) → i < count → SlotIn n s b c (getD w (at + i) 0 % 4096)
+-- there are slots fs among k
+pub record SlotsOf (k : ℕ) (fs : List ℕ) : Type 0 where
+  pub each : (i : ℕ) → i < length fs → getD fs i 0 < k
 
-abbrev pub SourcesBelow : List ℕ → ℕ → ℕ → ℕ → Type 0
-SourcesBelow w at count k = (i : ℕ) → i < count → getD w (at + i) 0 % 4096 < k
+-- ---- parts of slots
+-- a with the bytes of v from off on added
+abbrev pub plusPart : List ℕ → ℕ → List ℕ → List ℕ
+plusPart a off v = add XorGroup a (take (length a) (drop off v))
 
-abbrev pub SourcesApart : List ℕ → ℕ → ℕ → ℕ → Type 0
-SourcesApart w at count to = (i : ℕ) → i < count → getD w (at + i) 0 % 4096 ≡ to → ⊥
+-- the bytes of slot f from off on are added to a
+pub record PartAdded (n s f off : ℕ) (b c a a′ : List ℕ) : Type 0 where
+  pub sum : (st : List (List ℕ)) → Holds n s st b c → f < length st → a′ ≡ plusPart a off (getD st f [])
 
--- what a run of add steps starts from: zero after a clear
+-- those of the sum of the slots fs
+pub record PartsAdded (n s : ℕ) (fs : List ℕ) (off : ℕ) (b c a a′ : List ℕ) : Type 0 where
+  pub sum : (st : List (List ℕ)) → Holds n s st b c → SlotsOf (length st) fs → a′ ≡ plusPart a off (packetSum s st fs)
+
+-- x is written into slot to from off on
+pub record PartPut (n s to off : ℕ) (x b c b′ c′ : List ℕ) : Type 0 where
+  pub slots : (st : List (List ℕ)) → Holds n s st b c → to < length st → Holds n s (set st to (written (getD st to []) off x)) b′ c′
+
+-- ---- a run: a clear of slot to, or none, and then add steps from the slots fs into it
+-- what it starts from: zero after a clear
 abbrev pub baseOf : Bool → ℕ → List ℕ → List ℕ
 baseOf fresh s v = cond fresh (replicate s 0) v
 
@@ -49,16 +57,31 @@ baseOf fresh s v = cond fresh (replicate s 0) v
 abbrev pub runSum : Bool → ℕ → List (List ℕ) → ℕ → List ℕ → List ℕ
 runSum fresh s st to fs = add XorGroup (baseOf fresh s (getD st to [])) (packetSum s st fs)
 
--- the slots of a step do
-abbrev pub StepIn : ℕ → ℕ → ℕ → ℕ → Step → Type 0
-StepIn n s b c (Clear to) = SlotIn n s b c to
-StepIn n s b c (Add to from) = SlotIn n s b c to × SlotIn n s b c from
+-- the bytes that it starts from are added to a
+pub record BaseAdded (n s : ℕ) (fresh : Bool) (to off : ℕ) (b c a a′ : List ℕ) : Type 0 where
+  pub sum : (st : List (List ℕ)) → Holds n s st b c → to < length st → a′ ≡ plusPart a off (baseOf fresh s (getD st to []))
 
--- what one step x gives: its part of the count, and the slots after it
-pub record Stepped (n s : ℕ) (x : Step) (r : ℕ) (b c b′ c′ : List ℕ) : Type 0 where
-  pub count : r ≡ addSteps (x ∷ [])
-  pub slots : (st : List (List ℕ)) → Holds n s st b c → SlotsBelow (length st) x → Holds n s (carryOut s st x) b′ c′
+-- its slots are there, and none is added into itself
+pub record RunOf (k to : ℕ) (fs : List ℕ) : Type 0 where
+  pub target : to < k
+  pub sources : SlotsOf k fs
+  pub apart : (i : ℕ) → i < length fs → getD fs i 0 ≡ to → ⊥
 
+-- they lie within block and scratch
+pub record RunIn (n s b c to : ℕ) (fs : List ℕ) : Type 0 where
+  pub target : SlotIn n s b c to
+  pub sources : SlotsIn n s b c fs
+
+-- the slots when the first i bytes of slot to are what it gives
+abbrev pub gathered : Bool → ℕ → List (List ℕ) → ℕ → List ℕ → ℕ → List (List ℕ)
+gathered fresh s st to fs i = set st to (take i (runSum fresh s st to fs) ++ drop i (getD st to []))
+
+-- bytes i to j − 1 of slot to become what it gives
+pub record Gathers (n s : ℕ) (fresh : Bool) (to : ℕ) (fs : List ℕ) (i j : ℕ) (b c b′ c′ : List ℕ) : Type 0 where
+  pub slots : (st : List (List ℕ)) → Packets s st → RunOf (length st) to fs → Holds n s (gathered fresh s st to fs i) b c
+      → Holds n s (gathered fresh s st to fs j) b′ c′
+
+-- ---- the call
 -- a well-formed plan, and a block of b bytes and a scratch of c bytes for it, at s bytes a packet
 pub record Lent (w : List ℕ) (s b c : ℕ) : Type 0 where
   pub formed : planRefusal w ≡ 0

@@ -1,17 +1,18 @@
 // The encoder.
+use plan::Decoded;
+use plan::Step;
+use table::wide;
 ghost use mathlib.Core.Path.{_≡_};
-ghost use mathlib.Core.List.{List, []};
 ghost use mathlib.Core.Bool.{cond};
-ghost use lib.Dec.{ltb};
-ghost use Rattle.gf2.specs.Group.{XorGroup};
-ghost use Rattle.gf2.specs.Vectors.{add as addVectors};
-ghost use Rattle.table.specs.Packets.{packetSum, written};
-ghost use Prim.Native.Nat.{ℕ, _+_, _-_, _*_, _/_, _%_, _<_, _≤_, min};
-ghost use lib.ListN.{length, getD, set, take, drop, replicate};
+ghost use Prim.Native.Nat.{_+_, _*_, _≤_, _<_, min};
+ghost use lib.ListN.{length, replicate};
 ghost use Rattle.plan.specs.Layout.{planPlaces, infoCount, stepCount, planRefusal};
-ghost use Rattle.encoder.specs.Slots.{Holds, SlotIn, SourcesIn, SourcesBelow, SourcesApart, sourcesOf, baseOf, runSum, Lent, Ran, withInformation, startOf, wrongLengths};
+ghost use Rattle.plan.specs.Step.{unpack};
 ghost use Rattle.encoder.specs.Answers.{answerOf};
 ghost use Rattle.encoder.specs.Encoding.{encodeAnswer, blockAfter, scratchAfter};
+ghost use Rattle.encoder.specs.Runs.{stepIn, isClear, targetOf, sourceInto, Collected};
+ghost use Rattle.encoder.specs.Slots.{Holds, SlotIn, SlotsIn, PartAdded, PartsAdded, PartPut, BaseAdded, RunIn, Gathers};
+ghost use Rattle.encoder.specs.Slots.{Lent, Ran, withInformation, startOf, wrongLengths};
 
 // The refusal, 0 for none, and the number of add steps that were carried out.
 pub struct Encoded {
@@ -19,42 +20,85 @@ pub struct Encoded {
     pub additions: u32,
 }
 
-// ---- a run of steps into one slot
+// ---- steps
 
-// The slot that the step of a number adds from.
-fn source(word: u32) -> usize
-    ensures { λ r. ⌜ r ≡ word % 4096 ⌝ }
+// The step that a plan number is decoded to.
+fn decode(word: u32) -> Step
+    ensures { λ r. ⌜ r ≡ stepIn (unpack word) ⌝ }
 {
-    (word % 4096) as usize
-}
-
-// The slot that it writes.
-fn target(word: u32) -> usize
-    ensures { λ r. ⌜ r ≡ word / 4096 % 4096 ⌝ }
-{
-    (word / 4096 % 4096) as usize
-}
-
-// Past the last of the numbers from first on, up to end, that are add steps into slot to.
-fn run_end(plan: &[u32], first: usize, end: usize, to: u32) -> usize
-    requires { ⌜ (first ≤ end) × (end ≤ length (now plan)) × (to < 4096) ⌝ }
-    ensures { λ r. ⌜ (first ≤ r) × (r ≤ end) × ((i : ℕ) → first ≤ i → i < r → getD (now (plan .entry)) i 0 / 4096 ≡ 4096 + to) ⌝ }
-{
-    let head = 4096 + to;
-    let mut i = first;
-    while i < end {
-        if plan[i] / 4096 != head {
-            return i;
-        }
-        i += 1;
+    match Step::unpack(word) {
+        Decoded::Valid(x) => x,
+        Decoded::Invalid => Step::Clear(0),
     }
-    i
 }
+
+fn is_clear(x: Step) -> bool
+    ensures { λ r. ⌜ r ≡ isClear x ⌝ }
+{
+    match x {
+        Step::Clear(_) => true,
+        Step::Add(_, _) => false,
+    }
+}
+
+// The slot that a step writes.
+fn target(x: Step) -> usize
+    ensures { λ r. ⌜ r ≡ targetOf x ⌝ }
+{
+    match x {
+        Step::Clear(to) => to,
+        Step::Add(to, _) => to,
+    }
+}
+
+// The slot that it adds into slot to; 4,096, which is none, if it adds nothing there.
+fn source_into(x: Step, to: usize) -> usize
+    ensures { λ r. ⌜ r ≡ sourceInto x to ⌝ }
+{
+    match x {
+        Step::Clear(_) => Step::SLOT as usize,
+        Step::Add(t, from) => {
+            if t == to {
+                return from;
+            }
+            Step::SLOT as usize
+        }
+    }
+}
+
+// The smaller of the two: the limit, or all.
+fn within(limit: usize, count: usize) -> usize
+    ensures { λ r. ⌜ r ≡ min limit count ⌝ }
+{
+    if limit < count { limit } else { count }
+}
+
+// Decodes the numbers from first on, up to end, while they are add steps into slot to and there is
+// room for their sources; how many they are.
+fn collect(plan: &[u32], first: usize, end: usize, to: usize, sources: &mut [u16]) -> usize
+    requires { ⌜ (first ≤ end) × (end ≤ length (now plan)) ⌝ }
+    ensures { λ r. ⌜ Collected (now (plan .entry)) first end to (now (sources .exit)) r ⌝ }
+{
+    let most = within(sources.len(), end - first);
+    let mut count = 0;
+    while count < most {
+        let from = source_into(decode(plan[first + count]), to);
+        if from >= 4096 {
+            return count;
+        }
+        sources[count] = from as u16;
+        count += 1;
+    }
+    count
+}
+
+// ---- a run of steps into one slot
 
 // The bytes of slot f from off on, as many as acc has, are added into acc.
 fn add_part(acc: &mut [u8], f: usize, off: usize, n: usize, s: usize, block: &[u8], scratch: &[u8])
-    requires { ⌜ SlotIn n s (length (now block)) (length (now scratch)) f × (off + length (now acc) ≤ s) ⌝ }
-    ensures { λ _. ⌜ ((st : List (List ℕ)) → Holds n s st (now (block .entry)) (now (scratch .entry)) → f < length st → now (acc .exit) ≡ addVectors XorGroup (now (acc .entry)) (take (length (now (acc .entry))) (drop off (getD st f [])))) ⌝ }
+    requires slot { ⌜ SlotIn n s (length (now block)) (length (now scratch)) f ⌝ }
+    requires room { ⌜ off + length (now acc) ≤ s ⌝ }
+    ensures { λ _. ⌜ PartAdded n s f off (now (block .entry)) (now (scratch .entry)) (now (acc .entry)) (now (acc .exit)) ⌝ }
 {
     let k = acc.len();
     if f < n {
@@ -64,25 +108,44 @@ fn add_part(acc: &mut [u8], f: usize, off: usize, n: usize, s: usize, block: &[u
     }
 }
 
-// The same of the sources of count numbers from at on.
+// The same of the slots of sources.
 fn add_sources(
     acc: &mut [u8],
-    plan: &[u32],
-    at: usize,
-    count: usize,
+    sources: &[u16],
     off: usize,
     n: usize,
     s: usize,
     block: &[u8],
     scratch: &[u8],
 )
-    requires { ⌜ SourcesIn (now plan) at count n s (length (now block)) (length (now scratch)) × (off + length (now acc) ≤ s) ⌝ }
-    ensures { λ _. ⌜ ((st : List (List ℕ)) → Holds n s st (now (block .entry)) (now (scratch .entry)) → SourcesBelow (now (plan .entry)) at count (length st) → now (acc .exit) ≡ addVectors XorGroup (now (acc .entry)) (take (length (now (acc .entry))) (drop off (packetSum s st (sourcesOf (take count (drop at (now (plan .entry))))))))) ⌝ }
+    requires slots { ⌜ SlotsIn n s (length (now block)) (length (now scratch)) (now sources) ⌝ }
+    requires room { ⌜ off + length (now acc) ≤ s ⌝ }
+    ensures { λ _. ⌜ PartsAdded n s (now (sources .entry)) off (now (block .entry)) (now (scratch .entry)) (now (acc .entry)) (now (acc .exit)) ⌝ }
 {
     let mut m = 0;
-    while m < count {
-        add_part(acc, source(plan[at + m]), off, n, s, block, scratch);
+    while m < sources.len() {
+        add_part(acc, wide(sources[m]), off, n, s, block, scratch);
         m += 1;
+    }
+}
+
+// The same of what a run starts from: the bytes of slot to, none after a clear.
+fn add_base(
+    acc: &mut [u8],
+    to: usize,
+    fresh: bool,
+    off: usize,
+    n: usize,
+    s: usize,
+    block: &[u8],
+    scratch: &[u8],
+)
+    requires slot { ⌜ SlotIn n s (length (now block)) (length (now scratch)) to ⌝ }
+    requires room { ⌜ off + length (now acc) ≤ s ⌝ }
+    ensures { λ _. ⌜ BaseAdded n s fresh to off (now (block .entry)) (now (scratch .entry)) (now (acc .entry)) (now (acc .exit)) ⌝ }
+{
+    if !fresh {
+        add_part(acc, to, off, n, s, block, scratch);
     }
 }
 
@@ -96,8 +159,9 @@ fn put_part(
     block: &mut [u8],
     scratch: &mut [u8],
 )
-    requires { ⌜ SlotIn n s (length (now block)) (length (now scratch)) to × (off + length (now acc) ≤ s) ⌝ }
-    ensures { λ _. ⌜ ((st : List (List ℕ)) → Holds n s st (now (block .entry)) (now (scratch .entry)) → to < length st → Holds n s (set st to (written (getD st to []) off (now (acc .entry)))) (now (block .exit)) (now (scratch .exit))) ⌝ }
+    requires slot { ⌜ SlotIn n s (length (now block)) (length (now scratch)) to ⌝ }
+    requires room { ⌜ off + length (now acc) ≤ s ⌝ }
+    ensures { λ _. ⌜ PartPut n s to off (now (acc .entry)) (now (block .entry)) (now (scratch .entry)) (now (block .exit)) (now (scratch .exit)) ⌝ }
 {
     let k = acc.len();
     if to < n {
@@ -107,31 +171,10 @@ fn put_part(
     }
 }
 
-// The bytes of slot to that a run starts from: none after a clear.
-fn add_base(
-    acc: &mut [u8],
-    fresh: bool,
-    to: usize,
-    off: usize,
-    n: usize,
-    s: usize,
-    block: &[u8],
-    scratch: &[u8],
-)
-    requires { ⌜ SlotIn n s (length (now block)) (length (now scratch)) to × (off + length (now acc) ≤ s) ⌝ }
-    ensures { λ _. ⌜ ((st : List (List ℕ)) → Holds n s st (now (block .entry)) (now (scratch .entry)) → to < length st → now (acc .exit) ≡ addVectors XorGroup (now (acc .entry)) (take (length (now (acc .entry))) (drop off (baseOf fresh s (getD st to []))))) ⌝ }
-{
-    if !fresh {
-        add_part(acc, to, off, n, s, block, scratch);
-    }
-}
-
-// The bytes of slot to from off on, as many as acc has, become those of the run's sum; acc is zero.
+// The bytes of slot to from off on, as many as acc has, become what the run gives; acc is zero.
 fn run_part(
     acc: &mut [u8],
-    plan: &[u32],
-    at: usize,
-    count: usize,
+    sources: &[u16],
     to: usize,
     fresh: bool,
     off: usize,
@@ -140,19 +183,20 @@ fn run_part(
     block: &mut [u8],
     scratch: &mut [u8],
 )
-    requires { ⌜ SourcesIn (now plan) at count n s (length (now block)) (length (now scratch)) × SlotIn n s (length (now block)) (length (now scratch)) to × (off + length (now acc) ≤ s) × (now acc ≡ replicate (length (now acc)) 0) ⌝ }
-    ensures { λ _. ⌜ ((st : List (List ℕ)) → Holds n s st (now (block .entry)) (now (scratch .entry)) → to < length st → SourcesBelow (now (plan .entry)) at count (length st) → Holds n s (set st to (written (getD st to []) off (take (length (now (acc .entry))) (drop off (runSum fresh s st to (sourcesOf (take count (drop at (now (plan .entry)))))))))) (now (block .exit)) (now (scratch .exit))) ⌝ }
+    requires slots { ⌜ RunIn n s (length (now block)) (length (now scratch)) to (now sources) ⌝ }
+    requires room { ⌜ off + length (now acc) ≤ s ⌝ }
+    requires zero { ⌜ now acc ≡ replicate (length (now acc)) 0 ⌝ }
+    ensures { λ _. ⌜ Gathers n s fresh to (now (sources .entry)) off (off + length (now (acc .entry)))
+        (now (block .entry)) (now (scratch .entry)) (now (block .exit)) (now (scratch .exit)) ⌝ }
 {
-    add_base(acc, fresh, to, off, n, s, block, scratch);
-    add_sources(acc, plan, at, count, off, n, s, block, scratch);
+    add_base(acc, to, fresh, off, n, s, block, scratch);
+    add_sources(acc, sources, off, n, s, block, scratch);
     put_part(acc, to, off, n, s, block, scratch);
 }
 
 // The same for 128 bytes.
 fn run_big(
-    plan: &[u32],
-    at: usize,
-    count: usize,
+    sources: &[u16],
     to: usize,
     fresh: bool,
     off: usize,
@@ -161,30 +205,18 @@ fn run_big(
     block: &mut [u8],
     scratch: &mut [u8],
 )
-    requires { ⌜ SourcesIn (now plan) at count n s (length (now block)) (length (now scratch)) × SlotIn n s (length (now block)) (length (now scratch)) to × (off + 128 ≤ s) ⌝ }
-    ensures { λ _. ⌜ ((st : List (List ℕ)) → Holds n s st (now (block .entry)) (now (scratch .entry)) → to < length st → SourcesBelow (now (plan .entry)) at count (length st) → Holds n s (set st to (written (getD st to []) off (take 128 (drop off (runSum fresh s st to (sourcesOf (take count (drop at (now (plan .entry)))))))))) (now (block .exit)) (now (scratch .exit))) ⌝ }
+    requires slots { ⌜ RunIn n s (length (now block)) (length (now scratch)) to (now sources) ⌝ }
+    requires room { ⌜ off + 128 ≤ s ⌝ }
+    ensures { λ _. ⌜ Gathers n s fresh to (now (sources .entry)) off (off + 128)
+        (now (block .entry)) (now (scratch .entry)) (now (block .exit)) (now (scratch .exit)) ⌝ }
 {
     let mut acc = [0u8; 128];
-    run_part(
-        &mut acc,
-        plan,
-        at,
-        count,
-        to,
-        fresh,
-        off,
-        n,
-        s,
-        block,
-        scratch,
-    );
+    run_part(&mut acc, sources, to, fresh, off, n, s, block, scratch);
 }
 
 // The same for 64 bytes.
 fn run_chunk(
-    plan: &[u32],
-    at: usize,
-    count: usize,
+    sources: &[u16],
     to: usize,
     fresh: bool,
     off: usize,
@@ -193,30 +225,18 @@ fn run_chunk(
     block: &mut [u8],
     scratch: &mut [u8],
 )
-    requires { ⌜ SourcesIn (now plan) at count n s (length (now block)) (length (now scratch)) × SlotIn n s (length (now block)) (length (now scratch)) to × (off + 64 ≤ s) ⌝ }
-    ensures { λ _. ⌜ ((st : List (List ℕ)) → Holds n s st (now (block .entry)) (now (scratch .entry)) → to < length st → SourcesBelow (now (plan .entry)) at count (length st) → Holds n s (set st to (written (getD st to []) off (take 64 (drop off (runSum fresh s st to (sourcesOf (take count (drop at (now (plan .entry)))))))))) (now (block .exit)) (now (scratch .exit))) ⌝ }
+    requires slots { ⌜ RunIn n s (length (now block)) (length (now scratch)) to (now sources) ⌝ }
+    requires room { ⌜ off + 64 ≤ s ⌝ }
+    ensures { λ _. ⌜ Gathers n s fresh to (now (sources .entry)) off (off + 64)
+        (now (block .entry)) (now (scratch .entry)) (now (block .exit)) (now (scratch .exit)) ⌝ }
 {
     let mut acc = [0u8; 64];
-    run_part(
-        &mut acc,
-        plan,
-        at,
-        count,
-        to,
-        fresh,
-        off,
-        n,
-        s,
-        block,
-        scratch,
-    );
+    run_part(&mut acc, sources, to, fresh, off, n, s, block, scratch);
 }
 
-// The same for fewer than 64, the last.
+// The same for the last bytes, fewer than 64.
 fn run_rest(
-    plan: &[u32],
-    at: usize,
-    count: usize,
+    sources: &[u16],
     to: usize,
     fresh: bool,
     off: usize,
@@ -225,31 +245,19 @@ fn run_rest(
     block: &mut [u8],
     scratch: &mut [u8],
 )
-    requires { ⌜ SourcesIn (now plan) at count n s (length (now block)) (length (now scratch)) × SlotIn n s (length (now block)) (length (now scratch)) to × (off ≤ s) × (s < off + 64) ⌝ }
-    ensures { λ _. ⌜ ((st : List (List ℕ)) → Holds n s st (now (block .entry)) (now (scratch .entry)) → to < length st → SourcesBelow (now (plan .entry)) at count (length st) → Holds n s (set st to (written (getD st to []) off (take (s - off) (drop off (runSum fresh s st to (sourcesOf (take count (drop at (now (plan .entry)))))))))) (now (block .exit)) (now (scratch .exit))) ⌝ }
+    requires slots { ⌜ RunIn n s (length (now block)) (length (now scratch)) to (now sources) ⌝ }
+    requires room { ⌜ (off ≤ s) × (s < off + 64) ⌝ }
+    ensures { λ _. ⌜ Gathers n s fresh to (now (sources .entry)) off s
+        (now (block .entry)) (now (scratch .entry)) (now (block .exit)) (now (scratch .exit)) ⌝ }
 {
     let mut acc = [0u8; 64];
     let k = s - off;
-    run_part(
-        &mut acc[..k],
-        plan,
-        at,
-        count,
-        to,
-        fresh,
-        off,
-        n,
-        s,
-        block,
-        scratch,
-    );
+    run_part(&mut acc[..k], sources, to, fresh, off, n, s, block, scratch);
 }
 
-// Slot to becomes what it was, or zero after a clear, with the sources of count numbers from at on added.
+// Slot to becomes what the run gives.
 fn add_run(
-    plan: &[u32],
-    at: usize,
-    count: usize,
+    sources: &[u16],
     to: usize,
     fresh: bool,
     n: usize,
@@ -257,29 +265,23 @@ fn add_run(
     block: &mut [u8],
     scratch: &mut [u8],
 )
-    requires { ⌜ SourcesIn (now plan) at count n s (length (now block)) (length (now scratch)) × SlotIn n s (length (now block)) (length (now scratch)) to ⌝ }
-    ensures { λ _. ⌜ ((st : List (List ℕ)) → Holds n s st (now (block .entry)) (now (scratch .entry)) → to < length st → SourcesBelow (now (plan .entry)) at count (length st) → SourcesApart (now (plan .entry)) at count to → Holds n s (set st to (runSum fresh s st to (sourcesOf (take count (drop at (now (plan .entry))))))) (now (block .exit)) (now (scratch .exit))) ⌝ }
+    requires { ⌜ RunIn n s (length (now block)) (length (now scratch)) to (now sources) ⌝ }
+    ensures { λ _. ⌜ Gathers n s fresh to (now (sources .entry)) 0 s
+        (now (block .entry)) (now (scratch .entry)) (now (block .exit)) (now (scratch .exit)) ⌝ }
 {
-    let mut i = 0;
-    while 128 <= s - i {
-        run_big(plan, at, count, to, fresh, i, n, s, block, scratch);
-        i += 128;
+    let mut off = 0;
+    while 128 <= s - off {
+        run_big(sources, to, fresh, off, n, s, block, scratch);
+        off += 128;
     }
-    while 64 <= s - i {
-        run_chunk(plan, at, count, to, fresh, i, n, s, block, scratch);
-        i += 64;
+    while 64 <= s - off {
+        run_chunk(sources, to, fresh, off, n, s, block, scratch);
+        off += 64;
     }
-    if i == s {
+    if off == s {
         return;
     }
-    run_rest(plan, at, count, to, fresh, i, n, s, block, scratch);
-}
-
-// A clear is taken with the add steps after it.
-fn is_clear(word: u32) -> bool
-    ensures { λ r. ⌜ r ≡ ltb word 16777216 ⌝ }
-{
-    word < 16777216
+    run_rest(sources, to, fresh, off, n, s, block, scratch);
 }
 
 fn skipped(fresh: bool) -> usize
@@ -288,26 +290,27 @@ fn skipped(fresh: bool) -> usize
     if fresh { 1 } else { 0 }
 }
 
-// The plan's first steps, run by run; the number of add steps among them.
+// The plan's first steps, run by run: a clear is taken with the add steps into the same slot after
+// it. The number of add steps among them.
 fn run(plan: &[u32], s: usize, steps: usize, block: &mut [u8], scratch: &mut [u8]) -> u32
-    requires { ⌜ Lent (now plan) s (length (now block)) (length (now scratch)) × (steps ≤ stepCount (now plan)) ⌝ }
+    requires lent { ⌜ Lent (now plan) s (length (now block)) (length (now scratch)) ⌝ }
+    requires steps { ⌜ steps ≤ stepCount (now plan) ⌝ }
     ensures { λ r. ⌜ Ran (now (plan .entry)) s steps r (now (block .entry)) (now (scratch .entry)) (now (block .exit)) (now (scratch .exit)) ⌝ }
 {
     let n = plan::places(plan);
     let at = 7 + plan::info_count(plan);
-    let end = at + steps;
+    let mut sources = [0u16; 64];
     let mut additions = 0;
-    let mut i = at;
-    while i < end {
-        let word = plan[i];
-        let to = target(word);
-        let fresh = is_clear(word);
+    let mut i = 0;
+    while i < steps {
+        let x = decode(plan[at + i]);
+        let to = target(x);
+        let fresh = is_clear(x);
         let first = i + skipped(fresh);
-        let last = run_end(plan, i + 1, end, to as u32);
-        let count = last - first;
-        add_run(plan, first, count, to, fresh, n, s, block, scratch);
+        let count = collect(plan, at + first, at + steps, to, &mut sources);
+        add_run(&sources[..count], to, fresh, n, s, block, scratch);
         additions += count as u32;
-        i = last;
+        i = first + count;
     }
     additions
 }
@@ -341,13 +344,6 @@ fn prepare(plan: &[u32], s: usize, information: &[u8], block: &mut [u8], scratch
     clear_all(block);
     clear_all(scratch);
     copy_information(plan, s, information, block);
-}
-
-// The steps that are carried out: the limit, or all.
-fn within(limit: usize, count: usize) -> usize
-    ensures { λ r. ⌜ r ≡ min limit count ⌝ }
-{
-    if limit < count { limit } else { count }
 }
 
 // A lent buffer of wrong length.

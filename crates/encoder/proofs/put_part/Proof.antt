@@ -1,10 +1,7 @@
 -- `encoder::put_part` meets its contract: in the block or in the scratch.
+use Rattle.encoder.proofs.PartLaws.{put-front, put-back}
 use borrow.Author.Needs.{needs}
 use native.Mathlib.Omega.{arith}
-use mathlib.Core.Path.{_≡_, refl, sym, ap, ap₂, _∙_, subst}
-use Prim.Native.Nat.{ℕ, _+_, _-_, _*_, _%_, _<_, _≤_}
-use lib.ListN.{length, getD, set, take, drop, replicate, length-replicate}
-use Rattle.encoder.proofs.PartLaws.{put-front, put-back}
 use Rattle.encoder.proofs.put_part.Statement.{statement}
 use Rattle.encoder.proofs.put_part.Tie as tie
 
@@ -12,31 +9,47 @@ mul-copy : tie.Need-mul-copy
 mul-copy c = omega (arith, c .before .before .before .before .before .pre .0 .below (c .before .if1 .taken))
 
 add-copy : tie.Need-add-copy
-add-copy c = omega (arith, c .before .before .before .before .before .pre .0 .below (c .before .if1 .taken), c .before .before .before .before .before .pre .1)
+add-copy c = omega (arith, c .before .before .before .before .before .pre .0 .below (c .before .if1 .taken))
 
 copy-requires : tie.Need-copy-requires
-copy-requires c κs = (omega (arith, c .before .before .before .before .before .pre .0 .below (c .before .if1 .taken), c .before .before .before .before .before .pre .1), omega arith)
+copy-requires c κs = (omega (arith, c .before .before .before .before .before .pre .0 .below (c .before .if1 .taken)), omega arith)
 
 mul-copy-2 : tie.Need-mul-copy-2
 mul-copy-2 c = omega (arith, c .before .before .before .before .before .pre .0 .above (c .before .if1 .left))
 
 add-copy-2 : tie.Need-add-copy-2
-add-copy-2 c = omega (arith, c .before .before .before .before .before .pre .0 .above (c .before .if1 .left), c .before .before .before .before .before .pre .1)
+add-copy-2 c = omega (arith, c .before .before .before .before .before .pre .0 .above (c .before .if1 .left))
 
 copy-requires-2 : tie.Need-copy-requires-2
-copy-requires-2 c κs = (omega (arith, c .before .before .before .before .before .pre .0 .above (c .before .if1 .left), c .before .before .before .before .before .pre .1), omega arith)
+copy-requires-2 c κs = (omega (arith, c .before .before .before .before .before .pre .0 .above (c .before .if1 .left)), omega arith)
 
 same-length : tie.Need-same-length
-same-length c = c .before .before .copy .kept .0
+same-length c = search needs
 
 returns : tie.Need-returns
-returns c = λ st h l. put-front (c .before .before .before .before .before .before .before .before .args .n) (c .before .before .before .before .before .before .before .before .args .s) st (c .before .before .before .before .before .before .before .before .args .block .now) (c .before .before .before .before .before .before .before .before .args .scratch .now) h (c .before .before .before .before .before .before .before .before .args .to) (c .before .before .before .before .before .before .before .before .args .off) l (c .before .before .before .before .if1 .taken) (c .before .before .before .before .before .before .before .before .args .acc .now) _ (c .before .before .before .before .before .before .before .before .pre .1) (c .before .before .copy .ensures)
+returns c =
+    let a = c .before .before .before .before .before .before .before .before .args in
+    record { slots = λ st h l. put-front (a .n) (a .s) st (a .block .now) (a .scratch .now) h (a .to) (a .off) l (c .before .before .before .before .if1 .taken) (a .acc .now) _ (c .before .before .before .before .before .before .before .before .pre .1) (c .before .before .copy .ensures) }
 
 same-length-2 : tie.Need-same-length-2
-same-length-2 c = c .before .before .copy2 .kept .0
+same-length-2 c = search needs
 
 returns-2 : tie.Need-returns-2
-returns-2 c = λ st h l. put-back (c .before .before .before .before .before .before .before .before .args .n) (c .before .before .before .before .before .before .before .before .args .s) st (c .before .before .before .before .before .before .before .before .args .block .now) (c .before .before .before .before .before .before .before .before .args .scratch .now) h (c .before .before .before .before .before .before .before .before .args .to) (c .before .before .before .before .before .before .before .before .args .off) l (c .before .before .before .before .if1 .left) (c .before .before .before .before .before .before .before .before .args .acc .now) _ (c .before .before .before .before .before .before .before .before .pre .1) (c .before .before .copy2 .ensures)
+returns-2 c =
+    let a = c .before .before .before .before .before .before .before .before .args in
+    record { slots = λ st h l. put-back (a .n) (a .s) st (a .block .now) (a .scratch .now) h (a .to) (a .off) l (c .before .before .before .before .if1 .left) (a .acc .now) _ (c .before .before .before .before .before .before .before .before .pre .1) (c .before .before .copy2 .ensures) }
 
 pub put-part-spec : {M : Type 1} → statement M
-put-part-spec = tie.close (tie.spec mul-copy add-copy copy-requires mul-copy-2 add-copy-2 copy-requires-2 same-length returns same-length-2 returns-2)
+put-part-spec =
+    tie.close
+    (tie.spec
+    mul-copy
+    add-copy
+    copy-requires
+    mul-copy-2
+    add-copy-2
+    copy-requires-2
+    same-length
+    returns
+    same-length-2
+    returns-2)
