@@ -1,6 +1,4 @@
 pub mod CallLaws
-pub mod GatherLaws
-pub mod PartLaws
+pub mod ClearLaws
 pub mod RunLaws
-pub mod SlotLaws
 pub mod StartLaws
