@@ -13,8 +13,9 @@ use Rattle.plan.specs.Step.{addSteps}
 use Rattle.plan.specs.Steps.{carryOutAll}
 use Rattle.encoder.specs.Encoding.{slotsAfter, wrongLengths, Answer, encodes, encodeAnswer, blockAfter, scratchAfter}
 use Rattle.encoder.specs.EncodingLaws.{Accepted, not-refused-at, refused-answer, refused-keeps-block, refused-keeps-scratch, accepted-answer, accepted-block, accepted-scratch, limit-least}
-use Rattle.encoder.specs.Slots.{Holds, Ran, startOf}
-use Rattle.encoder.proofs.StartLaws.{start-length}
+use Rattle.encoder.specs.Phases.{Lent, Ran, startOf}
+use Rattle.encoder.specs.Start.{slotsIn, PreparedFor}
+use Rattle.encoder.proofs.StartLaws.{slots-length, slots-held, start-alike}
 
 -- packets are few and short
 pub product-small : (a b : ℕ) → a ≤ 1024 → b ≤ 1024 → a * b ≤ 1048576
@@ -29,6 +30,10 @@ module _ (w : List ℕ) (s i b c : ℕ) where
 
   pub lengths-scratch : i ≡ infoCount w * s → b ≡ planPlaces w * s → not (eqb c (planGap w * s)) ≡ wrongLengths w s i b c
   lengths-scratch h k = rw (eq-eqb i (infoCount w * s) h, eq-eqb b (planPlaces w * s) k)
+
+-- the buffers are then lent as they should be
+pub lent : {w : List ℕ} {s i b c b′ c′ : ℕ} → s ≡ planSize w → Accepted w i b c → b′ ≡ b → c′ ≡ c → Lent w s b′ c′
+lent {w} e a h k = record { formed = a .plan; block = h ∙ a .block ∙ ap (λ (x : ℕ). planPlaces w * x) (sym e); scratch = k ∙ a .scratch ∙ ap (λ (x : ℕ). planGap w * x) (sym e) }
 
 -- ---- the ways out
 module _ (w information block scratch : List ℕ) (limit : ℕ) where
@@ -46,13 +51,15 @@ module _ (w information block scratch : List ℕ) (limit : ℕ) where
       )
 
   pub accepted-call : (s r : ℕ) (b c b′ c′ : List ℕ) → s ≡ planSize w → Accepted w (length information) (length block) (length scratch)
-      → Holds (planPlaces w) s (startOf w s information) b c → Ran w s (min limit (stepCount w)) r b c b′ c′
-      → Ensured (record { refusal = 0; additions = r }) b′ c′
-  accepted-call s r b c b′ c′ e a h p =
+      → Lent w s (length b) (length c) → PreparedFor w s (take (min limit (stepCount w)) (stepsOf w)) information b c
+      → Ran w s (min limit (stepCount w)) r b c b′ c′ → Ensured (record { refusal = 0; additions = r }) b′ c′
+  accepted-call s r b c b′ c′ e a l h p =
       let z = not-refused-at w (length information) (length block) (length scratch) a in
-      let q = p .slots (startOf w s information) h (start-length w s information) in
-      let same : carryOutAll s (startOf w s information) (take (min limit (stepCount w)) (stepsOf w)) ≡ slotsAfter w information limit =
-      ap₂ (λ (k : ℕ) xs. carryOutAll k (startOf w k information) xs) e (limit-least w limit (a .plan)) in (
+      let xs = take (min limit (stepCount w)) (stepsOf w) in
+      let q = p .slots (slotsIn w s b c) (slots-held w s b c (l .block) (l .scratch)) (slots-length w s b c (l .block) (l .scratch)) in
+      let same : carryOutAll s (slotsIn w s b c) xs ≡ slotsAfter w information limit =
+      start-alike w s xs information b c (l .block) (l .scratch) h
+      ∙ ap₂ (λ (k : ℕ) ys. carryOutAll k (startOf w k information) ys) e (limit-least w limit (a .plan)) in (
         ap (λ (x : ℕ). record { refusal = 0; additions = x }) (p .count ∙ ap addSteps (limit-least w limit (a .plan))) ∙ sym (accepted-answer w information block scratch limit z),
         (
           q .block-is ∙ ap (λ st. joined (take (planPlaces w) st)) same ∙ sym (accepted-block w information block scratch limit z),

@@ -1,6 +1,4 @@
 pub mod CallLaws
+pub mod ClearLaws
 pub mod RunLaws
-pub mod SlotLaws
 pub mod StartLaws
-pub mod PartLaws
-pub mod GatherLaws

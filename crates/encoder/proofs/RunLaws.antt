@@ -1,30 +1,41 @@
--- The steps of a plan, one after the other.
+-- The steps of a plan: what a number is decoded to, and a run among them.
 use mathlib.Core.Path.{_≡_, refl, sym, ap, ap₂, _∙_, subst}
-use mathlib.Core.List.{List, [], _∷_, _++_}
-use mathlib.Core.Option.{Option, none, some}
-use Prim.Native.Nat.{ℕ, _+_, _*_, _<_, _≤_}
-use native.Mathlib.Numerals.{add-one}
+use mathlib.Core.Bool.{Bool, true, false, cond}
+use mathlib.Core.List.{List, [], _∷_, _++_, append-assoc}
+use mathlib.Core.Option.{Option, some}
+use Prim.Native.Nat.{ℕ, suc, _+_, _-_, _*_, _<_, _≤_}
 use native.Mathlib.Omega.{arith}
-use lib.ListN.{length, getD, take, length-set, length-take}
-use lib.Seq.{take-suc}
-use Rattle.plan.specs.declared.Decoded.the-variants.{Valid, Invalid}
+use lib.ListN.{length, getD, take, drop, length-set, length-take, length-drop, length-map, drop-of-length-le, List·getD-map}
+use lib.Seq.{drop-cons, take-suc, take-add, ext-getD, getD-take, getD-drop, length-take-le}
 use Rattle.plan.specs.declared.Step.{Step}
 use Rattle.plan.specs.declared.Step.the-variants.{Clear, Add}
-use Rattle.plan.specs.Layout.{planPlaces, planGap, infoCount, slots, stepCount, stepsOf, planRefusal}
-use Rattle.plan.specs.LayoutLaws.{Formed, formed, not-refused, steps-length, step-at, step-sound}
-use Rattle.plan.specs.Step.{unpack, decodedOf, SlotsBelow, addSteps}
+use Rattle.plan.specs.Layout.{planPlaces, planGap, infoCount, infoIn, slots, stepCount, stepsOf, planRefusal}
+use Rattle.plan.specs.LayoutLaws.{Formed, Sound, formed, not-refused, steps-length, step-at, step-sound}
+use Rattle.plan.specs.Step.{unpack, SlotsBelow, addSteps}
 use Rattle.plan.specs.Steps.{carryOut, carryOutAll}
-use Rattle.encoder.specs.Slots.{Holds, StepIn, Stepped, Ran}
-use Rattle.encoder.proofs.SlotLaws.{step-in}
+use Rattle.slots.specs.Runs.{stepIn, isClear, targetOf, adding, runSteps, sourcesOf, RunAt}
+use Rattle.slots.specs.RunLaws.{sources-within, sources-are, sources-some}
+use Rattle.slots.specs.Slots.{RunAmong, Gathers}
+use Rattle.encoder.specs.Phases.{Ran}
+use Rattle.slots.specs.GatherLaws.{gathers-all, run-gives}
+use Rattle.slots.specs.SlotLaws.{slot-in, holds-as}
 
 -- ---- counts
-pub adds-snoc : (xs : List Step) (x : Step) → addSteps (xs ++ (x ∷ [])) ≡ addSteps xs + addSteps (x ∷ [])
-adds-snoc [] x = omega arith
-adds-snoc (Clear to ∷ xs) x = adds-snoc xs x
-adds-snoc (Add to from ∷ xs) x = let h = adds-snoc xs x in omega arith
+adds-append : (xs ys : List Step) → addSteps (xs ++ ys) ≡ addSteps xs + addSteps ys
+adds-append [] ys = omega arith
+adds-append (Clear to ∷ xs) ys = adds-append xs ys
+adds-append (Add to from ∷ xs) ys = let h = adds-append xs ys in omega arith
+
+adding-adds : (to : ℕ) (fs : List ℕ) → addSteps (adding to fs) ≡ length fs
+adding-adds to [] = refl
+adding-adds to (f ∷ fs) = ap suc (adding-adds to fs)
+
+run-adds : (fresh : Bool) (to : ℕ) (fs : List ℕ) → addSteps (runSteps fresh to fs) ≡ length fs
+run-adds true to fs = adding-adds to fs
+run-adds false to fs = adding-adds to fs
 
 -- no more add steps than steps
-pub adds-few : (xs : List Step) → addSteps xs ≤ length xs
+adds-few : (xs : List Step) → addSteps xs ≤ length xs
 adds-few [] = omega arith
 adds-few (Clear to ∷ xs) = let h = adds-few xs in omega arith
 adds-few (Add to from ∷ xs) = let h = adds-few xs in omega arith
@@ -37,64 +48,170 @@ step-length : (s : ℕ) (st : List (List ℕ)) (x : Step) → length (carryOut s
 step-length s st (Clear to) = length-set st to _
 step-length s st (Add to from) = length-set st to _
 
-pub steps-keep : (s : ℕ) (st : List (List ℕ)) (xs : List Step) → length (carryOutAll s st xs) ≡ length st
+steps-keep : (s : ℕ) (st : List (List ℕ)) (xs : List Step) → length (carryOutAll s st xs) ≡ length st
 steps-keep s st [] = refl
 steps-keep s st (x ∷ xs) = steps-keep s (carryOut s st x) xs ∙ step-length s st x
 
-pub steps-snoc : (s : ℕ) (st : List (List ℕ)) (xs : List Step) (x : Step) → carryOutAll s st (xs ++ (x ∷ [])) ≡ carryOut s (carryOutAll s st xs) x
-steps-snoc s st [] x = refl
-steps-snoc s st (y ∷ xs) x = steps-snoc s (carryOut s st y) xs x
+steps-append : (s : ℕ) (st : List (List ℕ)) (xs ys : List Step) → carryOutAll s st (xs ++ ys) ≡ carryOutAll s (carryOutAll s st xs) ys
+steps-append s st [] ys = refl
+steps-append s st (x ∷ xs) ys = steps-append s (carryOut s st x) xs ys
 
--- the i-th step of a plan
-abbrev pub stepAt : List ℕ → ℕ → Step
-stepAt w i = getD (stepsOf w) i (Clear 0)
-
--- one more
-pub take-more : (w : List ℕ) → Formed w → (i : ℕ) → i < stepCount w → take (i + 1) (stepsOf w) ≡ take i (stepsOf w) ++ (stepAt w i ∷ [])
-take-more w f i h = ap (λ (k : ℕ). take k (stepsOf w)) (add-one i) ∙ take-suc (stepsOf w) i (Clear 0) (let e = steps-length w f in omega arith)
-
--- ---- a plan's first steps
+-- ---- a plan's steps
 pub ran-none : (w : List ℕ) (s : ℕ) (b c : List ℕ) → Ran w s 0 0 b c b c
 ran-none w s b c = record { count = refl; slots = λ st h l. h }
 
-pub ran-more : (w : List ℕ) → Formed w → {s i a r : ℕ} {b c b′ c′ b″ c″ : List ℕ} → i < stepCount w → Ran w s i a b c b′ c′
-    → Stepped (planPlaces w) s (stepAt w i) r b′ c′ b″ c″ → Ran w s (i + 1) (a + r) b c b″ c″
-ran-more w f {s} {i} {a} {r} {b} {c} {b′} {c′} {b″} {c″} h p q = record {
-  count = ap₂ _+_ (p .count) (q .count) ∙ sym (adds-snoc (take i (stepsOf w)) (stepAt w i)) ∙ ap addSteps (sym (take-more w f i h));
-  slots = λ st o l.
-      let e = steps-keep s st (take i (stepsOf w)) in
-      let same : slots w ≡ length (carryOutAll s st (take i (stepsOf w))) = omega arith in
-      subst (λ (z : List (List ℕ)). Holds (planPlaces w) s z b″ c″)
-      (sym (steps-snoc s st (take i (stepsOf w)) (stepAt w i)) ∙ ap (carryOutAll s st) (sym (take-more w f i h)))
-      (q .slots (carryOutAll s st (take i (stepsOf w))) (p .slots st o l)
-      (subst (λ (k : ℕ). SlotsBelow k (stepAt w i)) same (step-sound w f (Clear 0) i h .below)));
-}
-
--- ---- a plan number and its step
 pub well : (w : List ℕ) → planRefusal w ≡ 0 → Formed w
 well w h = formed w (not-refused w h)
 
-module _ (w : List ℕ) (f : Formed w) (i : ℕ) (h : i < stepCount w) (q : ℕ) (e : q ≡ infoCount w) where
-  pub step-there : unpack (getD w (7 + q + i) 0) ≡ some (stepAt w i)
-  step-there = rw e (step-at w f (Clear 0) i h)
+some-same : {y z : Step} → _≡_ {A = Option Step} (some y) (some z) → y ≡ z
+some-same r = cc
 
-  pub step-reach : (n s b c : ℕ) → n ≡ planPlaces w → b ≡ planPlaces w * s → c ≡ planGap w * s → (x : Step) → unpack (getD w (7 + q + i) 0) ≡ some x → StepIn n s b c x
-  step-reach n s b c a k l x d =
-      let same : stepAt w i ≡ x = some-inj (sym step-there ∙ d) in
-      rw (← same, a) (step-in (planPlaces w) (planGap w) s b c k l (stepAt w i) (step-sound w f (Clear 0) i h .below))
+module _ (w : List ℕ) (f : Formed w) (q : ℕ) (e : q ≡ infoCount w) where
+  -- the number of the i-th step is decoded to it
+  pub step-there : (d : Step) (i : ℕ) → i < stepCount w → stepIn (unpack (getD w (7 + q + i) 0)) ≡ getD (stepsOf w) i d
+  step-there d i h = rw (e, step-at w f d i h)
+
+  module _ (x : Step) where
+    -- its slots are there
+    pub step-below : (i : ℕ) → i < stepCount w → x ≡ stepIn (unpack (getD w (7 + q + i) 0)) → {m : ℕ} → slots w ≤ m → SlotsBelow m x
+    step-below i h is-x {m} le = wider x (rw (is-x ∙ step-there (Clear 0) i h) (step-sound w f (Clear 0) i h .below))
+      where
+        wider : (y : Step) → SlotsBelow (slots w) y → SlotsBelow m y
+        wider (Clear to) b = omega arith
+        wider (Add to from) b = (omega (arith, b .0), omega (arith, b .1))
+
+    -- it stands in front of those from i on
+    pub step-in-front : (steps i : ℕ) → steps ≤ stepCount w → 0 < i → i ≤ steps → x ≡ stepIn (unpack (getD w (7 + q + (i - 1)) 0))
+        → x ∷ drop i (take steps (stepsOf w)) ≡ drop (i - 1) (take steps (stepsOf w))
+    step-in-front steps i all h le is-x =
+        let l = take steps (stepsOf w) in
+        let long = length-take-le steps (stepsOf w) (omega (arith, steps-length w f)) in
+        let j : suc (i - 1) ≡ i = omega arith in
+        ap₂ (λ y (k : ℕ). y ∷ drop k l) (is-x ∙ step-there (Clear 0) (i - 1) (omega arith) ∙ sym (getD-take steps (stepsOf w) (i - 1) (Clear 0) (omega arith))) (sym j)
+        ∙ sym (drop-cons l (i - 1) (Clear 0) (omega arith))
+
+pub no-more-steps : (k : ℕ) (xs : List Step) → drop k (take k xs) ≡ []
+no-more-steps k xs = drop-of-length-le (take k xs) {i = k} (let e = length-take k xs in omega arith)
+
+-- a run as the code finds it: the step x at i clears slot to or adds into it; d steps after it are left out of its add steps
+pub record Found (w : List ℕ) (q i : ℕ) (x : Step) (to : ℕ) (fresh : Bool) (d : ℕ) : Type 0 where
+  pub step : x ≡ stepIn (unpack (getD w (7 + q + i) 0))
+  pub target : to ≡ targetOf x
+  pub clear : fresh ≡ isClear x
+  pub skip : d ≡ cond fresh 1 0
+
+pub found : (w : List ℕ) (q i : ℕ) {x : Step} {to : ℕ} {fresh : Bool} {d : ℕ} → x ≡ stepIn (unpack (getD w (7 + q + i) 0)) → to ≡ targetOf x → fresh ≡ isClear x
+    → d ≡ cond fresh 1 0 → Found w q i x to fresh d
+found w q i a b c e = record { step = a; target = b; clear = c; skip = e }
+
+pub skip-most : (fresh : Bool) → cond fresh 1 0 ≤ 1
+skip-most true = omega arith
+skip-most false = omega arith
+
+module _ (w : List ℕ) (f : Formed w) (q : ℕ) (e : q ≡ infoCount w) (i steps : ℕ) (more : i < steps) (all : steps ≤ stepCount w)
+    {x : Step} {to : ℕ} {fresh : Bool} {d : ℕ} (r : Found w q i x to fresh d) where
+  abbrev l : List Step
+  l = stepsOf w
+
+  abbrev fs : List ℕ
+  fs = sourcesOf w (7 + q + (i + d)) (7 + q + steps) to
+
+  order : 7 + q + (i + d) ≤ 7 + q + steps
+  order = omega (arith, r .skip, skip-most fresh)
+
+  inside : 7 + q + steps ≤ length w
+  inside = let k = f .counts in omega arith
+
+  fs-within : i + d + length fs ≤ steps
+  fs-within = omega (arith, sources-within w (7 + q + (i + d)) (7 + q + steps) to order inside)
+
+  -- the k-th of the add steps
+  adds-at : (y : Step) (k : ℕ) → k < length fs → getD l (i + d + k) y ≡ Add to (getD fs k 0)
+  adds-at y k g =
+      let j : 7 + q + (i + d + k) ≡ 7 + q + (i + d) + k = omega arith in
+      sym (step-there w f q e y (i + d + k) (omega (arith, fs-within))) ∙ ap (λ (m : ℕ). stepIn (unpack (getD w m 0))) j
+      ∙ ap stepIn (sources-are w (7 + q + (i + d)) (7 + q + steps) to order inside k g)
+
+  adds-there : take (length fs) (drop (i + d) l) ≡ adding to fs
+  adds-there =
+      let b : length (take (length fs) (drop (i + d) l)) ≡ length fs =
+      length-take-le (length fs) (drop (i + d) l) (let z = length-drop (i + d) l in omega (arith, steps-length w f, fs-within)) in
+      ext-getD (Add to 0) _ _ (b ∙ sym (length-map fs (Add to))) (λ k g.
+      let m : k < length fs = omega (arith, b) in
+      getD-take (length fs) (drop (i + d) l) k (Add to 0) m ∙ getD-drop (i + d) l k (Add to 0) ∙ adds-at (Add to 0) k m ∙ sym (List·getD-map (Add to) fs k 0))
+
+  sound-at : (k : ℕ) → k < length fs → Sound (slots w) (infoIn w) (Add to (getD fs k 0))
+  sound-at k g = subst (λ y. Sound (slots w) (infoIn w) y) (adds-at (Clear 0) k g) (step-sound w f (Clear 0) (i + d + k) (omega (arith, fs-within)))
+
+  x-there : x ≡ getD l i (Clear 0)
+  x-there = r .step ∙ step-there w f q e (Clear 0) i (omega arith)
+
+  target-below : (y : Step) → SlotsBelow (slots w) y → targetOf y < slots w
+  target-below (Clear t) b = b
+  target-below (Add t from) b = b .0
+
+  -- its slots are there
+  run-among : RunAmong (slots w) to fs
+  run-among = record {
+    target = rw (r .target) (target-below x (rw x-there (step-sound w f (Clear 0) i (omega arith) .below)));
+    sources = record { each = λ k g. sound-at k g .below .1 };
+    apart = λ k g z. sound-at k g .apart (sym z);
+  }
+
+  pub run-at : (s b c : ℕ) → b ≡ planPlaces w * s → c ≡ planGap w * s → RunAt w (7 + q + (i + d)) (7 + q + steps) to (planPlaces w) s b c
+  run-at s b c lb lc = record {
+    order = order;
+    inside = inside;
+    slots = record {
+      target = slot-in (planPlaces w) (planGap w) s b c to lb lc (run-among .target);
+      sources = record { each = λ k g. slot-in (planPlaces w) (planGap w) s b c (getD fs k 0) lb lc (run-among .sources .each k g) };
+    };
+  }
+
+  by-kind : {P : Type 0} → (x ≡ Clear to → fresh ≡ true → P) → ((from : ℕ) → x ≡ Add to from → fresh ≡ false → P) → P
+  by-kind {P} clear adds = go x refl
     where
-      some-inj : {y z : Step} → _≡_ {A = Option Step} (some y) (some z) → y ≡ z
-      some-inj r = cc
+      go : (y : Step) → x ≡ y → P
+      go (Clear t) z = clear (z ∙ ap Clear (sym (r .target ∙ ap targetOf z))) (r .clear ∙ ap isClear z)
+      go (Add t from) z = adds from (z ∙ ap (λ (k : ℕ). Add k from) (sym (r .target ∙ ap targetOf z))) (r .clear ∙ ap isClear z)
 
--- ---- what decoding tells
-pub decoded-some : (o : Option Step) (x : Step) → decodedOf o ≡ Valid x → o ≡ some x
-decoded-some none x h = absurd (let z : _≡_ {A = ℕ} 0 1 = cc in omega arith)
-decoded-some (some y) x h = let e : y ≡ x = cc in ap some e
+  module _ (count : ℕ) (counted : count ≡ length fs) where
+    pub run-within : i + d + count ≤ steps
+    run-within = omega (arith, fs-within)
 
-pub decoded-same : (o : Option Step) (x y : Step) → decodedOf o ≡ Valid x → o ≡ some y → x ≡ y
-decoded-same none x y h k = absurd (let z : _≡_ {A = ℕ} 0 1 = cc in omega arith)
-decoded-same (some z) x y h k = cc
+    -- at least one step
+    pub run-goes : i < i + d + count
+    run-goes = by-kind
+        (λ z y. let b : d ≡ 1 = r .skip ∙ rw y in omega arith)
+        (λ from z y.
+        let b : d ≡ 0 = r .skip ∙ rw y in
+        let j : 7 + infoCount w + i ≡ 7 + q + (i + d) = omega arith in
+        let there : unpack (getD w (7 + q + (i + d)) 0) ≡ some (Add to from) = rw j at (step-at w f (Clear 0) i (omega arith) ∙ ap some (sym x-there ∙ z)) in
+        omega (arith, sources-some w (7 + q + (i + d)) (7 + q + steps) to from (omega arith) inside there))
 
-pub decoded-never : (o : Option Step) (y : Step) → decodedOf o ≡ Invalid → o ≡ some y → ⊥
-decoded-never none y h k = let z : _≡_ {A = ℕ} 0 1 = cc in omega arith
-decoded-never (some z) y h k = let z : _≡_ {A = ℕ} 0 1 = cc in omega arith
+    -- the steps with it
+    run-there : take (i + d + count) l ≡ take i l ++ runSteps fresh to fs
+    run-there = ap (λ (k : ℕ). take (i + d + k) l) counted ∙ take-add (i + d) (length fs) l ∙ ap (λ v. take (i + d) l ++ v) adds-there ∙ by-kind
+        (λ z y.
+        let b : i + d ≡ suc i = (let a : d ≡ 1 = r .skip ∙ rw y in omega arith) in
+        let there : take (i + d) l ≡ take i l ++ (Clear to ∷ []) =
+        ap (λ (k : ℕ). take k l) b ∙ take-suc l i (Clear 0) (let a = steps-length w f in omega arith) ∙ ap (λ v. take i l ++ (v ∷ [])) (sym x-there ∙ z) in
+        ap (λ v. v ++ adding to fs) there ∙ append-assoc (take i l) (Clear to ∷ []) (adding to fs) ∙ ap (λ t. take i l ++ runSteps t to fs) (sym y))
+        (λ from z y.
+        let b : i + d ≡ i = (let a : d ≡ 0 = r .skip ∙ rw y in omega arith) in
+        ap (λ (k : ℕ). take k l ++ adding to fs) b ∙ ap (λ t. take i l ++ runSteps t to fs) (sym y))
+
+    -- what they give
+    pub ran-run : {s a : ℕ} {b c b′ c′ b″ c″ : List ℕ} → Ran w s i a b c b′ c′ → Gathers (planPlaces w) s fresh to fs 0 s b′ c′ b″ c″
+        → Ran w s (i + d + count) (a + count) b c b″ c″
+    ran-run {s} {a} {b} {c} {b′} {c′} {b″} {c″} p g = record {
+      count = let z = run-adds fresh to fs in let y = p .count in let m = adds-append (take i l) (runSteps fresh to fs) in
+          (omega arith) ∙ sym m ∙ ap addSteps (sym run-there);
+      slots = λ st o k.
+          let before = carryOutAll s st (take i l) in
+          let long : slots w ≡ length before = sym (steps-keep s st (take i l) ∙ k) in
+          let there : RunAmong (length before) to fs = rw (← long) run-among in
+          let hold = p .slots st o k in
+          holds-as (sym (ap (carryOutAll s st) run-there ∙ steps-append s st (take i l) (runSteps fresh to fs) ∙ run-gives fresh s before to fs (hold .sized) there))
+          (gathers-all g before there hold);
+    }

@@ -1,21 +1,29 @@
 -- The slots before the first step.
 use mathlib.Core.Path.{_≡_, refl, sym, ap, ap₂, _∙_}
+use mathlib.Core.Bool.{Bool, false, true≢false}
 use mathlib.Core.List.{List, [], _∷_, _++_}
+use mathlib.Core.Logic.{⊎-elim}
 use Prim.Native.Nat.{ℕ, zero, suc, _+_, _*_, _<_}
-use native.Mathlib.Nat.{suc-mul}
 use native.Mathlib.Numerals.{add-one}
 use native.Mathlib.Omega.{arith}
-use lib.ListN.{length, getD, set, take, drop, replicate, length-set, length-replicate, replicate-append-replicate}
+use lib.ListN.{length, getD, set, take, drop, replicate, length-set, length-append, length-replicate, getD-replicate, List·getD-eq-default}
 use lib.Seq.{drop-cons, take-at, drop-at, set-append-left}
 use Rattle.gf2.specs.Lists.{all-getD, all-set}
-use Rattle.gf2.specs.Width.{All.nil, All.cons}
-use Rattle.table.specs.BufferLaws.{set-copied}
+use Rattle.gf2.specs.Span.{byBool}
+use Rattle.gf2.specs.Width.{All.cons}
+use Rattle.table.specs.BufferLaws.{side, set-copied}
 use Rattle.table.specs.Packets.{Packets, packets, joined, written}
 use Rattle.table.specs.PacketLaws.{packets-length, packets-sized, packets-joined, joined-packets}
+use Rattle.plan.specs.declared.Step.{Step}
 use Rattle.plan.specs.Layout.{planPlaces, planGap, infoCount, infoIn, slots}
 use Rattle.plan.specs.LayoutLaws.{Formed, info-length, info-below}
-use Rattle.plan.specs.Steps.{withPackets}
-use Rattle.encoder.specs.Slots.{Holds, withInformation, startOf}
+use Rattle.plan.specs.LookOver.{isMarked}
+use Rattle.plan.specs.Steps.{carryOutAll, withPackets}
+use Rattle.slots.specs.Slots.{Holds}
+use Rattle.encoder.specs.Phases.{withInformation, startOf}
+use Rattle.encoder.specs.Start.{clearsFirst, cleared, MarkedOnly, slotsIn, ClearedFor, PreparedFor}
+use Rattle.slots.specs.SlotLaws.{all-append}
+use Rattle.encoder.proofs.ClearLaws.{steps-alike, packets-alike, cleared-length, cleared-sized, cleared-clears, cleared-append}
 
 -- ---- packets at places
 with-length : (st : List (List ℕ)) (I : List ℕ) (ps : List (List ℕ)) → length (withPackets st I ps) ≡ length st
@@ -59,56 +67,92 @@ copied s n m b information e f p k h l =
     ∙ ap (λ (j : ℕ). packets s j (joined x)) (sym long)
     ∙ joined-packets s (all-set a p (getD qs k []) (all-getD d k there))
 
--- ---- zero bytes
-joined-zeros : (s g : ℕ) → joined (replicate g (replicate s 0)) ≡ replicate (g * s) 0
-joined-zeros s zero = ap (λ (k : ℕ). replicate k 0) {x = 0} {y = 0 * s} (omega arith)
-joined-zeros s (suc g) =
-    ap (λ (r : List ℕ). replicate s 0 ++ r) (joined-zeros s g) ∙ replicate-append-replicate s (g * s) 0
-    ∙ ap (λ (k : ℕ). replicate k 0) {x = s + g * s} {y = suc g * s} (omega (arith, suc-mul g s))
+-- ---- the slots that block and scratch hold
+-- packets joined and cut again
+cut-again : (s n : ℕ) {ps : List (List ℕ)} → Packets s ps → length ps ≡ n → packets s n (joined ps) ≡ ps
+cut-again s n {ps} a e = ap (λ (k : ℕ). packets s k (joined ps)) (sym e) ∙ joined-packets s a
 
-zeros-sized : (s g : ℕ) → Packets s (replicate g (replicate s 0))
-zeros-sized s zero = nil
-zeros-sized s (suc g) = cons (length-replicate {A = ℕ} s 0) (zeros-sized s g)
+module _ (w : List ℕ) (s : ℕ) (b c : List ℕ) (lb : length b ≡ planPlaces w * s) (lc : length c ≡ planGap w * s) where
+  abbrev front : List (List ℕ)
+  front = packets s (planPlaces w) b
 
-packets-zeros : (s n : ℕ) → packets s n (replicate (n * s) 0) ≡ replicate n (replicate s 0)
-packets-zeros s n =
-    let z : List ℕ = replicate s 0 in
-    let long : length (replicate n z) ≡ n = length-replicate n z in
-    ap (packets s n) (sym (joined-zeros s n)) ∙ ap (λ (k : ℕ). packets s k (joined (replicate n z))) (sym long) ∙ joined-packets s (zeros-sized s n)
+  abbrev back : List (List ℕ)
+  back = packets s (planGap w) c
+
+  front-long : length front ≡ planPlaces w
+  front-long = packets-length s (planPlaces w) b
+
+  pub slots-length : length (slotsIn w s b c) ≡ slots w
+  slots-length = length-append front back ∙ ap₂ _+_ front-long (packets-length s (planGap w) c)
+
+  pub slots-held : Holds (planPlaces w) s (slotsIn w s b c) b c
+  slots-held = record {
+    sized = all-append (packets-sized s (planPlaces w) b lb) (packets-sized s (planGap w) c lc);
+    block-is = sym (ap joined (take-at front back (planPlaces w) front-long) ∙ packets-joined s (planPlaces w) b lb);
+    scratch-is = sym (ap joined (drop-at front back (planPlaces w) front-long) ∙ packets-joined s (planGap w) c lc);
+  }
+
+  -- cleared by marks
+  module _ (xs : List Step) (marks : List ℕ) (only : MarkedOnly xs marks) where
+    abbrev keep : ℕ → Bool
+    keep = isMarked marks
+
+    slots-cleared : (b′ c′ : List ℕ) → b′ ≡ joined (cleared keep s 0 front) → c′ ≡ joined (cleared keep s (planPlaces w) back)
+        → slotsIn w s b′ c′ ≡ cleared keep s 0 (slotsIn w s b c)
+    slots-cleared b′ c′ e f =
+        let x = cleared keep s 0 front in let y = cleared keep s (planPlaces w) back in
+        ap₂ _++_
+        (ap (packets s (planPlaces w)) e ∙ cut-again s (planPlaces w) (cleared-sized keep s 0 (packets-sized s (planPlaces w) b lb)) (cleared-length keep s 0 front ∙ front-long))
+        (ap (packets s (planGap w)) f
+        ∙ cut-again s (planGap w) (cleared-sized keep s (planPlaces w) (packets-sized s (planGap w) c lc)) (cleared-length keep s (planPlaces w) back ∙ packets-length s (planGap w) c))
+        ∙ ap (λ (k : ℕ). x ++ cleared keep s k back) {x = planPlaces w} {y = 0 + length front} (omega (arith, front-long)) ∙ sym (cleared-append keep s 0 front back)
+
+    pub cleared-for : (b′ c′ : List ℕ) → b′ ≡ joined (cleared keep s 0 front) → c′ ≡ joined (cleared keep s (planPlaces w) back) → ClearedFor w s xs b′ c′
+    cleared-for b′ c′ e f = record {
+      zero = λ p h none.
+          let out : isMarked marks p ≡ false = byBool (isMarked marks p) (λ z. absurd (true≢false (sym (only .only p z) ∙ none))) (λ z. z) in
+          ap (λ st. getD st p []) (slots-cleared b′ c′ e f) ∙ cleared-clears keep s 0 (slotsIn w s b c) p (omega (arith, slots-length))
+          (ap keep {x = 0 + p} {y = p} (omega arith) ∙ out);
+    }
+
+  -- the information copied
+  pub prepared-for : Formed w → (xs : List Step) (information : List ℕ) → length information ≡ infoCount w * s → ClearedFor w s xs b c
+      → PreparedFor w s xs information (withInformation w s information b) c
+  prepared-for f xs information li k = record {
+    agrees = λ p h. ap (λ st. getD st p []) same ∙ packets-alike I ps (slotsIn w s b c) (replicate (slots w) z) p (slots-length ∙ sym zeros) (start p h);
+  }
+    where
+      z : List ℕ
+      z = replicate s 0
+
+      I : List ℕ
+      I = infoIn w
+
+      ps : List (List ℕ)
+      ps = packets s (infoCount w) information
+
+      zeros : length (replicate (slots w) z) ≡ slots w
+      zeros = length-replicate (slots w) z
+
+      same : slotsIn w s (withInformation w s information b) c ≡ withPackets (slotsIn w s b c) I ps
+      same =
+          ap (λ v. v ++ back)
+          (cut-again s (planPlaces w) (with-sized s front I ps (packets-sized s (planPlaces w) b lb) (packets-sized s (infoCount w) information li)) (with-length front I ps ∙ front-long))
+          ∙ sym (with-append front back I ps (λ i l. let o = info-length w f in let m = info-below w f i (omega arith) in omega (arith, front-long)))
+
+      start : (p : ℕ) → clearsFirst xs p ≡ false → getD (slotsIn w s b c) p [] ≡ getD (replicate (slots w) z) p []
+      start p h = ⊎-elim
+          (λ l. k .zero p l h ∙ sym (getD-replicate (slots w) p z [] l))
+          (λ l. List·getD-eq-default (slotsIn w s b c) [] (omega (arith, slots-length)) ∙ sym (List·getD-eq-default (replicate (slots w) z) [] (omega (arith, zeros))))
+          (side p (slots w))
 
 -- ---- the start
 pub start-length : (w : List ℕ) (s : ℕ) (information : List ℕ) → length (startOf w s information) ≡ slots w
 start-length w s information =
     let z : List ℕ = replicate s 0 in with-length (replicate (slots w) z) (infoIn w) (packets s (infoCount w) information) ∙ length-replicate (slots w) z
 
-pub start-holds : (w : List ℕ) → Formed w → (s : ℕ) (information : List ℕ) → length information ≡ infoCount w * s
-    → Holds (planPlaces w) s (startOf w s information) (withInformation w s information (replicate (planPlaces w * s) 0)) (replicate (planGap w * s) 0)
-start-holds w f s information e = record {
-  sized = with-sized s (replicate (slots w) z) I ps (zeros-sized s (slots w)) (packets-sized s (infoCount w) information e);
-  block-is = ap (λ (st : List (List ℕ)). joined (withPackets st I ps)) (packets-zeros s (planPlaces w)) ∙ ap joined (sym (ap (take (planPlaces w)) split ∙ take-at front back (planPlaces w) long));
-  scratch-is = sym (joined-zeros s (planGap w)) ∙ ap joined (sym (ap (drop (planPlaces w)) split ∙ drop-at front back (planPlaces w) long));
-}
-  where
-    z : List ℕ
-    z = replicate s 0
-
-    I : List ℕ
-    I = infoIn w
-
-    ps : List (List ℕ)
-    ps = packets s (infoCount w) information
-
-    front : List (List ℕ)
-    front = withPackets (replicate (planPlaces w) z) I ps
-
-    back : List (List ℕ)
-    back = replicate (planGap w) z
-
-    long : length front ≡ planPlaces w
-    long = with-length (replicate (planPlaces w) z) I ps ∙ length-replicate (planPlaces w) z
-
-    split : startOf w s information ≡ front ++ back
-    split =
-        ap (λ (st : List (List ℕ)). withPackets st I ps) (sym (replicate-append-replicate (planPlaces w) (planGap w) z))
-        ∙ with-append (replicate (planPlaces w) z) back I ps
-        (λ k l. let d = length-replicate (planPlaces w) z in let o = info-length w f in let m = info-below w f k (omega arith) in omega arith)
+-- the steps give from it what they give from the slots prepared
+pub start-alike : (w : List ℕ) (s : ℕ) (xs : List Step) (information b c : List ℕ) → length b ≡ planPlaces w * s → length c ≡ planGap w * s
+    → PreparedFor w s xs information b c → carryOutAll s (slotsIn w s b c) xs ≡ carryOutAll s (startOf w s information) xs
+start-alike w s xs information b c lb lc k =
+    steps-alike s xs (slotsIn w s b c) (startOf w s information) (slots-length w s b c lb lc ∙ sym (start-length w s information)) (k .agrees)

@@ -1,4 +1,5 @@
 pub mod Answers
 pub mod Encoding
 pub mod EncodingLaws
-pub mod Slots
+pub mod Phases
+pub mod Start

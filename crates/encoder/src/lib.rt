@@ -1,17 +1,19 @@
 // The encoder.
+use plan::Step;
 ghost use mathlib.Core.Path.{_≡_};
-ghost use mathlib.Core.List.{List, []};
 ghost use mathlib.Core.Bool.{cond};
-ghost use lib.Dec.{ltb};
-ghost use Rattle.gf2.specs.Group.{XorGroup};
-ghost use Rattle.gf2.specs.Vectors.{add as addVectors};
-ghost use Rattle.table.specs.Packets.{packetSum, written};
-ghost use Prim.Native.Nat.{ℕ, _+_, _-_, _*_, _/_, _%_, _<_, _≤_, min};
-ghost use lib.ListN.{length, getD, set, take, drop, replicate};
-ghost use Rattle.plan.specs.Layout.{planPlaces, infoCount, stepCount, planRefusal};
-ghost use Rattle.encoder.specs.Slots.{Holds, SlotIn, SourcesIn, SourcesBelow, SourcesApart, sourcesOf, baseOf, runSum, Lent, Ran, withInformation, startOf};
+ghost use mathlib.Core.List.{List, [], _∷_};
+ghost use Prim.Native.Nat.{_+_, _*_, _≤_, _<_, min};
+ghost use lib.ListN.{length, take};
+ghost use Rattle.table.specs.Packets.{packets, joined};
+ghost use Rattle.plan.specs.declared.Step.{Step as StepValue};
+ghost use Rattle.plan.specs.Layout.{planPlaces, infoCount, slots, stepCount, stepsOf, planRefusal};
+ghost use Rattle.plan.specs.LookOver.{isMarked};
+ghost use Rattle.plan.specs.Step.{SlotsBelow};
 ghost use Rattle.encoder.specs.Answers.{answerOf};
 ghost use Rattle.encoder.specs.Encoding.{wrongLengths, encodeAnswer, blockAfter, scratchAfter};
+ghost use Rattle.encoder.specs.Phases.{Lent, Ran, withInformation};
+ghost use Rattle.encoder.specs.Start.{cleared, Marked, MarkedOnly, Unmarked, ClearedFor, PreparedFor};
 
 // The refusal, 0 for none, and the number of add steps that were carried out.
 pub struct Encoded {
@@ -19,267 +21,13 @@ pub struct Encoded {
     pub additions: u32,
 }
 
-// ---- a run of steps into one slot
+// ---- the steps
 
-// The slot that the step of a number adds from.
-fn source(word: u32) -> usize
-    ensures { λ r. ⌜ r ≡ word % 4096 ⌝ }
+// The steps that are carried out: the limit, or all.
+fn within(limit: usize, count: usize) -> usize
+    ensures { λ r. ⌜ r ≡ min limit count ⌝ }
 {
-    (word % 4096) as usize
-}
-
-// The slot that it writes.
-fn target(word: u32) -> usize
-    ensures { λ r. ⌜ r ≡ word / 4096 % 4096 ⌝ }
-{
-    (word / 4096 % 4096) as usize
-}
-
-// Past the last of the numbers from first on, up to end, that are add steps into slot to.
-fn run_end(plan: &[u32], first: usize, end: usize, to: u32) -> usize
-    requires { ⌜ (first ≤ end) × (end ≤ length (now plan)) × (to < 4096) ⌝ }
-    ensures { λ r. ⌜ (first ≤ r) × (r ≤ end) × ((i : ℕ) → first ≤ i → i < r → getD (now (plan .entry)) i 0 / 4096 ≡ 4096 + to) ⌝ }
-{
-    let head = 4096 + to;
-    let mut i = first;
-    while i < end {
-        if plan[i] / 4096 != head {
-            return i;
-        }
-        i += 1;
-    }
-    i
-}
-
-// The bytes of slot f from off on, as many as acc has, are added into acc.
-fn add_part(acc: &mut [u8], f: usize, off: usize, n: usize, s: usize, block: &[u8], scratch: &[u8])
-    requires { ⌜ SlotIn n s (length (now block)) (length (now scratch)) f × (off + length (now acc) ≤ s) ⌝ }
-    ensures { λ _. ⌜ ((st : List (List ℕ)) → Holds n s st (now (block .entry)) (now (scratch .entry)) → f < length st → now (acc .exit) ≡ addVectors XorGroup (now (acc .entry)) (take (length (now (acc .entry))) (drop off (getD st f [])))) ⌝ }
-{
-    let k = acc.len();
-    if f < n {
-        table::add_from(acc, 0, block, f * s + off, k);
-    } else {
-        table::add_from(acc, 0, scratch, (f - n) * s + off, k);
-    }
-}
-
-// The same of the sources of count numbers from at on.
-fn add_sources(
-    acc: &mut [u8],
-    plan: &[u32],
-    at: usize,
-    count: usize,
-    off: usize,
-    n: usize,
-    s: usize,
-    block: &[u8],
-    scratch: &[u8],
-)
-    requires { ⌜ SourcesIn (now plan) at count n s (length (now block)) (length (now scratch)) × (off + length (now acc) ≤ s) ⌝ }
-    ensures { λ _. ⌜ ((st : List (List ℕ)) → Holds n s st (now (block .entry)) (now (scratch .entry)) → SourcesBelow (now (plan .entry)) at count (length st) → now (acc .exit) ≡ addVectors XorGroup (now (acc .entry)) (take (length (now (acc .entry))) (drop off (packetSum s st (sourcesOf (take count (drop at (now (plan .entry))))))))) ⌝ }
-{
-    let mut m = 0;
-    while m < count {
-        add_part(acc, source(plan[at + m]), off, n, s, block, scratch);
-        m += 1;
-    }
-}
-
-// acc becomes the bytes of slot to from off on.
-fn put_part(
-    acc: &[u8],
-    to: usize,
-    off: usize,
-    n: usize,
-    s: usize,
-    block: &mut [u8],
-    scratch: &mut [u8],
-)
-    requires { ⌜ SlotIn n s (length (now block)) (length (now scratch)) to × (off + length (now acc) ≤ s) ⌝ }
-    ensures { λ _. ⌜ ((st : List (List ℕ)) → Holds n s st (now (block .entry)) (now (scratch .entry)) → to < length st → Holds n s (set st to (written (getD st to []) off (now (acc .entry)))) (now (block .exit)) (now (scratch .exit))) ⌝ }
-{
-    let k = acc.len();
-    if to < n {
-        table::copy(block, to * s + off, acc, 0, k);
-    } else {
-        table::copy(scratch, (to - n) * s + off, acc, 0, k);
-    }
-}
-
-// The bytes of slot to that a run starts from: none after a clear.
-fn add_base(
-    acc: &mut [u8],
-    fresh: bool,
-    to: usize,
-    off: usize,
-    n: usize,
-    s: usize,
-    block: &[u8],
-    scratch: &[u8],
-)
-    requires { ⌜ SlotIn n s (length (now block)) (length (now scratch)) to × (off + length (now acc) ≤ s) ⌝ }
-    ensures { λ _. ⌜ ((st : List (List ℕ)) → Holds n s st (now (block .entry)) (now (scratch .entry)) → to < length st → now (acc .exit) ≡ addVectors XorGroup (now (acc .entry)) (take (length (now (acc .entry))) (drop off (baseOf fresh s (getD st to []))))) ⌝ }
-{
-    if !fresh {
-        add_part(acc, to, off, n, s, block, scratch);
-    }
-}
-
-// The bytes of slot to from off on, as many as acc has, become those of the run's sum; acc is zero.
-fn run_part(
-    acc: &mut [u8],
-    plan: &[u32],
-    at: usize,
-    count: usize,
-    to: usize,
-    fresh: bool,
-    off: usize,
-    n: usize,
-    s: usize,
-    block: &mut [u8],
-    scratch: &mut [u8],
-)
-    requires { ⌜ SourcesIn (now plan) at count n s (length (now block)) (length (now scratch)) × SlotIn n s (length (now block)) (length (now scratch)) to × (off + length (now acc) ≤ s) × (now acc ≡ replicate (length (now acc)) 0) ⌝ }
-    ensures { λ _. ⌜ ((st : List (List ℕ)) → Holds n s st (now (block .entry)) (now (scratch .entry)) → to < length st → SourcesBelow (now (plan .entry)) at count (length st) → Holds n s (set st to (written (getD st to []) off (take (length (now (acc .entry))) (drop off (runSum fresh s st to (sourcesOf (take count (drop at (now (plan .entry)))))))))) (now (block .exit)) (now (scratch .exit))) ⌝ }
-{
-    add_base(acc, fresh, to, off, n, s, block, scratch);
-    add_sources(acc, plan, at, count, off, n, s, block, scratch);
-    put_part(acc, to, off, n, s, block, scratch);
-}
-
-// The same for 128 bytes.
-fn run_big(
-    plan: &[u32],
-    at: usize,
-    count: usize,
-    to: usize,
-    fresh: bool,
-    off: usize,
-    n: usize,
-    s: usize,
-    block: &mut [u8],
-    scratch: &mut [u8],
-)
-    requires { ⌜ SourcesIn (now plan) at count n s (length (now block)) (length (now scratch)) × SlotIn n s (length (now block)) (length (now scratch)) to × (off + 128 ≤ s) ⌝ }
-    ensures { λ _. ⌜ ((st : List (List ℕ)) → Holds n s st (now (block .entry)) (now (scratch .entry)) → to < length st → SourcesBelow (now (plan .entry)) at count (length st) → Holds n s (set st to (written (getD st to []) off (take 128 (drop off (runSum fresh s st to (sourcesOf (take count (drop at (now (plan .entry)))))))))) (now (block .exit)) (now (scratch .exit))) ⌝ }
-{
-    let mut acc = [0u8; 128];
-    run_part(
-        &mut acc,
-        plan,
-        at,
-        count,
-        to,
-        fresh,
-        off,
-        n,
-        s,
-        block,
-        scratch,
-    );
-}
-
-// The same for 64 bytes.
-fn run_chunk(
-    plan: &[u32],
-    at: usize,
-    count: usize,
-    to: usize,
-    fresh: bool,
-    off: usize,
-    n: usize,
-    s: usize,
-    block: &mut [u8],
-    scratch: &mut [u8],
-)
-    requires { ⌜ SourcesIn (now plan) at count n s (length (now block)) (length (now scratch)) × SlotIn n s (length (now block)) (length (now scratch)) to × (off + 64 ≤ s) ⌝ }
-    ensures { λ _. ⌜ ((st : List (List ℕ)) → Holds n s st (now (block .entry)) (now (scratch .entry)) → to < length st → SourcesBelow (now (plan .entry)) at count (length st) → Holds n s (set st to (written (getD st to []) off (take 64 (drop off (runSum fresh s st to (sourcesOf (take count (drop at (now (plan .entry)))))))))) (now (block .exit)) (now (scratch .exit))) ⌝ }
-{
-    let mut acc = [0u8; 64];
-    run_part(
-        &mut acc,
-        plan,
-        at,
-        count,
-        to,
-        fresh,
-        off,
-        n,
-        s,
-        block,
-        scratch,
-    );
-}
-
-// The same for fewer than 64, the last.
-fn run_rest(
-    plan: &[u32],
-    at: usize,
-    count: usize,
-    to: usize,
-    fresh: bool,
-    off: usize,
-    n: usize,
-    s: usize,
-    block: &mut [u8],
-    scratch: &mut [u8],
-)
-    requires { ⌜ SourcesIn (now plan) at count n s (length (now block)) (length (now scratch)) × SlotIn n s (length (now block)) (length (now scratch)) to × (off ≤ s) × (s < off + 64) ⌝ }
-    ensures { λ _. ⌜ ((st : List (List ℕ)) → Holds n s st (now (block .entry)) (now (scratch .entry)) → to < length st → SourcesBelow (now (plan .entry)) at count (length st) → Holds n s (set st to (written (getD st to []) off (take (s - off) (drop off (runSum fresh s st to (sourcesOf (take count (drop at (now (plan .entry)))))))))) (now (block .exit)) (now (scratch .exit))) ⌝ }
-{
-    let mut acc = [0u8; 64];
-    let k = s - off;
-    run_part(
-        &mut acc[..k],
-        plan,
-        at,
-        count,
-        to,
-        fresh,
-        off,
-        n,
-        s,
-        block,
-        scratch,
-    );
-}
-
-// Slot to becomes what it was, or zero after a clear, with the sources of count numbers from at on added.
-fn add_run(
-    plan: &[u32],
-    at: usize,
-    count: usize,
-    to: usize,
-    fresh: bool,
-    n: usize,
-    s: usize,
-    block: &mut [u8],
-    scratch: &mut [u8],
-)
-    requires { ⌜ SourcesIn (now plan) at count n s (length (now block)) (length (now scratch)) × SlotIn n s (length (now block)) (length (now scratch)) to ⌝ }
-    ensures { λ _. ⌜ ((st : List (List ℕ)) → Holds n s st (now (block .entry)) (now (scratch .entry)) → to < length st → SourcesBelow (now (plan .entry)) at count (length st) → SourcesApart (now (plan .entry)) at count to → Holds n s (set st to (runSum fresh s st to (sourcesOf (take count (drop at (now (plan .entry))))))) (now (block .exit)) (now (scratch .exit))) ⌝ }
-{
-    let mut i = 0;
-    while 128 <= s - i {
-        run_big(plan, at, count, to, fresh, i, n, s, block, scratch);
-        i += 128;
-    }
-    while 64 <= s - i {
-        run_chunk(plan, at, count, to, fresh, i, n, s, block, scratch);
-        i += 64;
-    }
-    if i == s {
-        return;
-    }
-    run_rest(plan, at, count, to, fresh, i, n, s, block, scratch);
-}
-
-// A clear is taken with the add steps after it.
-fn is_clear(word: u32) -> bool
-    ensures { λ r. ⌜ r ≡ ltb word 16777216 ⌝ }
-{
-    word < 16777216
+    if limit < count { limit } else { count }
 }
 
 fn skipped(fresh: bool) -> usize
@@ -288,41 +36,138 @@ fn skipped(fresh: bool) -> usize
     if fresh { 1 } else { 0 }
 }
 
-// The plan's first steps, run by run; the number of add steps among them.
+// The plan's first steps, run by run: a clear is taken with the add steps into the same slot after
+// it. The number of add steps among them.
 fn run(plan: &[u32], s: usize, steps: usize, block: &mut [u8], scratch: &mut [u8]) -> u32
-    requires { ⌜ Lent (now plan) s (length (now block)) (length (now scratch)) × (steps ≤ stepCount (now plan)) ⌝ }
+    requires lent { ⌜ Lent (now plan) s (length (now block)) (length (now scratch)) ⌝ }
+    requires steps { ⌜ steps ≤ stepCount (now plan) ⌝ }
+    requires bytes { ⌜ 1 ≤ s ⌝ }
     ensures { λ r. ⌜ Ran (now (plan .entry)) s steps r (now (block .entry)) (now (scratch .entry)) (now (block .exit)) (now (scratch .exit)) ⌝ }
 {
     let n = plan::places(plan);
     let at = 7 + plan::info_count(plan);
-    let end = at + steps;
     let mut additions = 0;
-    let mut i = at;
-    while i < end {
-        let word = plan[i];
-        let to = target(word);
-        let fresh = is_clear(word);
+    let mut i = 0;
+    while i < steps {
+        let x = slots::decode(plan[at + i]);
+        let to = slots::target(x);
+        let fresh = slots::is_clear(x);
         let first = i + skipped(fresh);
-        let last = run_end(plan, i + 1, end, to as u32);
-        let count = last - first;
-        add_run(plan, first, count, to, fresh, n, s, block, scratch);
+        let count = slots::add_run(
+            plan,
+            at + first,
+            at + steps,
+            to,
+            fresh,
+            n,
+            s,
+            block,
+            scratch,
+        );
         additions += count as u32;
-        i = last;
+        i = first + count;
     }
     additions
 }
 
-// All bytes become zero.
-fn clear_all(b: &mut [u8])
-    ensures { λ _. ⌜ now (b .exit) ≡ replicate (length (now (b .entry))) 0 ⌝ }
+// ---- before the first step
+
+// Marks, a byte a slot, of those that the steps clear first: for one step more in front of them.
+fn mark_step(x: Step, marks: &mut [u8])
+    requires { ⌜ SlotsBelow (length (now marks)) x ⌝ }
+    ensures { λ _. ⌜ ((xs : List StepValue) → Marked xs (now (marks .entry)) → Marked (x ∷ xs) (now (marks .exit))) ⌝ }
 {
-    let k = b.len();
-    table::clear(b, 0, k);
+    match x {
+        Step::Clear(to) => {
+            marks[to] = 1;
+        }
+        Step::Add(to, from) => {
+            marks[to] = 0;
+            marks[from] = 0;
+        }
+    }
+}
+
+// For the plan's first steps, from the last of them to the first.
+fn mark_cleared(plan: &[u32], steps: usize, marks: &mut [u8])
+    requires formed { ⌜ planRefusal (now plan) ≡ 0 ⌝ }
+    requires steps { ⌜ steps ≤ stepCount (now plan) ⌝ }
+    requires room { ⌜ slots (now plan) ≤ length (now marks) ⌝ }
+    requires none { ⌜ Marked [] (now marks) ⌝ }
+    ensures { λ _. ⌜ Marked (take steps (stepsOf (now (plan .entry)))) (now (marks .exit)) ⌝ }
+{
+    let at = 7 + plan::info_count(plan);
+    let mut i = steps;
+    while 0 < i {
+        i -= 1;
+        mark_step(slots::decode(plan[at + i]), marks);
+    }
+}
+
+// From so many bytes a packet on it takes longer to clear slots than to look for those that need no clearing.
+const LONG: usize = 512;
+
+// Marks for the clearing of slots of s bytes.
+fn mark_slots(plan: &[u32], s: usize, steps: usize, marks: &mut [u8])
+    requires formed { ⌜ planRefusal (now plan) ≡ 0 ⌝ }
+    requires steps { ⌜ steps ≤ stepCount (now plan) ⌝ }
+    requires room { ⌜ slots (now plan) ≤ length (now marks) ⌝ }
+    requires none { ⌜ Marked [] (now marks) ⌝ }
+    ensures { λ _. ⌜ MarkedOnly (take steps (stepsOf (now (plan .entry)))) (now (marks .exit)) ⌝ }
+{
+    if LONG <= s {
+        mark_cleared(plan, steps, marks);
+    }
+}
+
+// Past the packets from i on that have no mark; packets are numbered from first on, and are count.
+fn unmarked(marks: &[u8], first: usize, i: usize, count: usize) -> usize
+    requires { ⌜ (i ≤ count) × (first + count ≤ length (now marks)) ⌝ }
+    ensures { λ r. ⌜ Unmarked (now (marks .entry)) first i count r ⌝ }
+{
+    let mut r = i;
+    while r < count {
+        if marks[first + r] == 1 {
+            return r;
+        }
+        r += 1;
+    }
+    r
+}
+
+// The packets of b become zero, but those that have a mark.
+fn clear_unmarked(b: &mut [u8], marks: &[u8], first: usize, count: usize, s: usize)
+    requires bytes { ⌜ length (now b) ≡ count * s ⌝ }
+    requires marks { ⌜ first + count ≤ length (now marks) ⌝ }
+    ensures { λ _. ⌜ now (b .exit) ≡ joined (cleared (isMarked (now (marks .entry))) s first (packets s count (now (b .entry)))) ⌝ }
+{
+    let mut i = 0;
+    while i < count {
+        let r = unmarked(marks, first, i, count);
+        table::clear(b, i * s, (r - i) * s);
+        i = r + 1;
+    }
+}
+
+// Every slot becomes zero, but some that the plan's first steps clear first.
+fn clear_slots(plan: &[u32], s: usize, steps: usize, block: &mut [u8], scratch: &mut [u8])
+    requires lent { ⌜ Lent (now plan) s (length (now block)) (length (now scratch)) ⌝ }
+    requires steps { ⌜ steps ≤ stepCount (now plan) ⌝ }
+    ensures { λ _. ⌜ ClearedFor (now (plan .entry)) s (take steps (stepsOf (now (plan .entry)))) (now (block .exit)) (now (scratch .exit)) ⌝ }
+{
+    let n = plan::places(plan);
+    let g = plan::gap(plan);
+    let mut marks = [0u8; 1056];
+    mark_slots(plan, s, steps, &mut marks);
+    clear_unmarked(block, &marks, 0, n, s);
+    clear_unmarked(scratch, &marks, n, g, s);
 }
 
 // The k-th information packet is copied to the k-th information place.
 fn copy_information(plan: &[u32], s: usize, information: &[u8], block: &mut [u8])
-    requires { ⌜ (planRefusal (now plan) ≡ 0) × (length (now information) ≡ infoCount (now plan) * s) × (length (now block) ≡ planPlaces (now plan) * s) ⌝ }
+    requires formed { ⌜ planRefusal (now plan) ≡ 0 ⌝ }
+    requires information { ⌜ length (now information) ≡ infoCount (now plan) * s ⌝ }
+    requires block { ⌜ length (now block) ≡ planPlaces (now plan) * s ⌝ }
     ensures { λ _. ⌜ now (block .exit) ≡ withInformation (now (plan .entry)) s (now (information .entry)) (now (block .entry)) ⌝ }
 {
     let count = plan::info_count(plan);
@@ -333,21 +178,23 @@ fn copy_information(plan: &[u32], s: usize, information: &[u8], block: &mut [u8]
     }
 }
 
-// Block and scratch as they are before the first step.
-fn prepare(plan: &[u32], s: usize, information: &[u8], block: &mut [u8], scratch: &mut [u8])
-    requires { ⌜ Lent (now plan) s (length (now block)) (length (now scratch)) × (length (now information) ≡ infoCount (now plan) * s) ⌝ }
-    ensures { λ _. ⌜ Holds (planPlaces (now (plan .entry))) s (startOf (now (plan .entry)) s (now (information .entry))) (now (block .exit)) (now (scratch .exit)) ⌝ }
+// Block and scratch before the first of so many steps.
+fn prepare(
+    plan: &[u32],
+    s: usize,
+    steps: usize,
+    information: &[u8],
+    block: &mut [u8],
+    scratch: &mut [u8],
+)
+    requires lent { ⌜ Lent (now plan) s (length (now block)) (length (now scratch)) ⌝ }
+    requires steps { ⌜ steps ≤ stepCount (now plan) ⌝ }
+    requires information { ⌜ length (now information) ≡ infoCount (now plan) * s ⌝ }
+    ensures { λ _. ⌜ PreparedFor (now (plan .entry)) s (take steps (stepsOf (now (plan .entry)))) (now (information .entry))
+        (now (block .exit)) (now (scratch .exit)) ⌝ }
 {
-    clear_all(block);
-    clear_all(scratch);
+    clear_slots(plan, s, steps, block, scratch);
     copy_information(plan, s, information, block);
-}
-
-// The steps that are carried out: the limit, or all.
-fn within(limit: usize, count: usize) -> usize
-    ensures { λ r. ⌜ r ≡ min limit count ⌝ }
-{
-    if limit < count { limit } else { count }
 }
 
 // A lent buffer of wrong length.
@@ -391,8 +238,8 @@ pub fn encode(
             additions: 0,
         };
     }
-    prepare(plan, s, information, block, scratch);
     let steps = within(limit, plan::step_count(plan));
+    prepare(plan, s, steps, information, block, scratch);
     let additions = run(plan, s, steps, block, scratch);
     Encoded {
         refusal: 0,

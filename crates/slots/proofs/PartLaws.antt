@@ -1,0 +1,178 @@
+-- Parts of slots: one added, one put back, and those of a sum.
+use mathlib.Core.Path.{_≡_, refl, sym, ap, ap₂, _∙_}
+use mathlib.Core.List.{List, [], _∷_, _++_}
+use mathlib.Core.Logic.{⊎-elim}
+use Prim.Native.Nat.{ℕ, _+_, _*_, _-_, _<_, _≤_}
+use native.Mathlib.Omega.{arith}
+use lib.ListN.{length-append, length-take, length-drop, List·getD-append, length, getD, set, take, drop, replicate}
+use lib.Seq.{take-set-le, take-set-lt, drop-set-lt, drop-set-add, getD-take, getD-drop, getD-append-seam, take-all, drop-drop}
+use Rattle.gf2.specs.Group.{XorGroup}
+use Rattle.gf2.specs.Lists.{all-getD, all-set}
+use Rattle.gf2.specs.Vectors.{add, add-assoc, add-comm, add-zl}
+use Rattle.table.specs.BufferLaws.{Patched, patched-same, side, part-length, getD-part, written-bytes, written-length, mixed-whole, place-fits, packet-part, set-written}
+use Rattle.table.specs.PacketLaws.{joined-length}
+use Rattle.table.specs.Packets.{Packets, joined, packetSum, written, mixed}
+use Rattle.table.specs.SumLaws.{part-of-part, part-sum, part-zeros, sum-snoc}
+use Rattle.slots.specs.Slots.{Holds, Among, plusPart, PartOf, PartAdded, PartsAdded}
+use Rattle.slots.specs.SlotLaws.{all-take, all-drop}
+
+-- ---- one slot written, in bytes and in slots
+module _ (n s : ℕ) (st : List (List ℕ)) (b c : List ℕ) (h : Holds n s st b c) where
+  front-length : (to : ℕ) → to < n → to < length st → to < length (take n st)
+  front-length to l m = let e = length-take n st in omega arith
+
+  back-length : (to : ℕ) → n ≤ to → to < length st → to - n < length (drop n st)
+  back-length to l m = let e = length-drop n st in omega arith
+
+  -- a slot of the block
+  put-block : (to : ℕ) (v d : List ℕ) → to < n → length v ≡ s → d ≡ joined (set (take n st) to v) → Holds n s (set st to v) d c
+  put-block to v d l e q = record {
+    sized = all-set (h .sized) to v e;
+    block-is = q ∙ ap joined (sym (take-set-lt n st to v l));
+    scratch-is = h .scratch-is ∙ ap joined (sym (drop-set-lt n st to v l));
+  }
+
+  -- a slot of the scratch
+  put-scratch : (to : ℕ) (v d : List ℕ) → n ≤ to → length v ≡ s → d ≡ joined (set (drop n st) (to - n) v) → Holds n s (set st to v) b d
+  put-scratch to v d l e q = record {
+    sized = all-set (h .sized) to v e;
+    block-is = h .block-is ∙ ap joined (sym (take-set-le n st to v l));
+    scratch-is = q ∙ ap joined (sym (drop-set-add n st (to - n) v) ∙ ap (λ (i : ℕ). drop n (set st i v)) {x = n + (to - n)} {y = to} (omega arith));
+  }
+
+  front : (to : ℕ) → to < n → getD st to [] ≡ getD (take n st) to []
+  front to l = sym (getD-take n st to [] l)
+
+  back : (to : ℕ) → n ≤ to → getD st to [] ≡ getD (drop n st) (to - n) []
+  back to l = ap (λ (i : ℕ). getD st i []) {x = to} {y = n + (to - n)} (omega arith) ∙ sym (getD-drop n st (to - n) [])
+
+-- ---- one of some packets in a row
+module _ (s : ℕ) {ps : List (List ℕ)} (w : Packets s ps) (f off : ℕ) (l : f < length ps) where
+  bytes-in : (k : ℕ) → off + k ≤ s → take k (drop (f * s + off) (joined ps)) ≡ take k (drop off (getD ps f []))
+  bytes-in k fits =
+      ap (take k) (sym (drop-drop off (f * s) (joined ps))) ∙ sym (part-of-part off k s (drop (f * s) (joined ps)) fits)
+      ∙ ap (λ p. take k (drop off p)) (sym (packet-part s w f l))
+
+  row-fits : f * s + s ≤ length (joined ps)
+  row-fits = omega (arith, joined-length s w, place-fits f (length ps) s l)
+
+  -- x written into it
+  module _ (x : List ℕ) (fits : off + length x ≤ s) where
+    abbrev old : List ℕ
+    old = getD ps f []
+
+    abbrev new : List ℕ
+    new = written old off x
+
+    old-long : length old ≡ s
+    old-long = all-getD w f l
+
+    new-long : length new ≡ s
+    new-long = written-length old off x (omega (arith, old-long)) ∙ old-long
+
+    old-at : (i : ℕ) → i < s → getD old i 0 ≡ getD (joined ps) (f * s + i) 0
+    old-at i h = ap (λ (p : List ℕ). getD p i 0) (packet-part s w f l) ∙ getD-part (joined ps) (f * s) s i h
+
+    outer : Patched (joined ps) (f * s) s (λ i. getD new i 0) (written (joined ps) (f * s) new)
+    outer = written-bytes (joined ps) (f * s) new s new-long row-fits
+
+    inner : Patched old off (length x) (λ i. getD x i 0) new
+    inner = written-bytes old off x (length x) refl (omega (arith, old-long))
+
+    within : Patched (joined ps) (f * s + off) (length x) (λ i. getD x i 0) (written (joined ps) (f * s) new)
+    within = record {
+      len = outer .len;
+      inside = λ i h. let d : f * s + (off + i) ≡ f * s + off + i = omega arith in rw d at (outer .inside (off + i) (omega arith) ∙ inner .inside i h);
+      below = λ k h. ⊎-elim (λ m. outer .below k m)
+          (λ m. let d : f * s + (k - f * s) ≡ k = omega arith in
+          rw d at (outer .inside (k - f * s) (omega arith) ∙ inner .below (k - f * s) (omega arith) ∙ old-at (k - f * s) (omega arith)))
+          (side k (f * s));
+      above = λ k h. ⊎-elim
+          (λ m. let d : f * s + (k - f * s) ≡ k = omega arith in
+          rw d at (outer .inside (k - f * s) (omega arith) ∙ inner .above (k - f * s) (omega arith) ∙ old-at (k - f * s) (omega arith)))
+          (λ m. outer .above k m) (side k (f * s + s));
+    }
+
+    row-put : written (joined ps) (f * s + off) x ≡ joined (set ps f new)
+    row-put = patched-same (λ i h. refl) (written-bytes (joined ps) (f * s + off) x (length x) refl (omega (arith, row-fits))) within
+        ∙ sym (set-written s w f new l new-long)
+
+-- ---- a slot
+module _ (n s : ℕ) (st : List (List ℕ)) (b c : List ℕ) (h : Holds n s st b c) (f off : ℕ) (l : f < length st) where
+  front-part : f < n → (k : ℕ) → off + k ≤ s → take k (drop (f * s + off) b) ≡ take k (drop off (getD st f []))
+  front-part m k fits =
+      ap (λ x. take k (drop (f * s + off) x)) (h .block-is) ∙ bytes-in s (all-take n (h .sized)) f off (front-length n s st b c h f m l) k fits
+      ∙ ap (λ x. take k (drop off x)) (sym (front n s st b c h f m))
+
+  back-part : n ≤ f → (k : ℕ) → off + k ≤ s → take k (drop ((f - n) * s + off) c) ≡ take k (drop off (getD st f []))
+  back-part m k fits =
+      ap (λ x. take k (drop ((f - n) * s + off) x)) (h .scratch-is) ∙ bytes-in s (all-drop n (h .sized)) (f - n) off (back-length n s st b c h f m l) k fits
+      ∙ ap (λ x. take k (drop off x)) (sym (back n s st b c h f m))
+
+  put-long : (x : List ℕ) → off + length x ≤ s → length (written (getD st f []) off x) ≡ s
+  put-long x fits = let o = all-getD (h .sized) f l in written-length (getD st f []) off x (omega arith) ∙ o
+
+  pub put-front : f < n → (x d : List ℕ) → off + length x ≤ s → d ≡ written b (f * s + off) (take (length x) x) → Holds n s (set st f (written (getD st f []) off x)) d c
+  put-front m x d fits e = put-block n s st b c h f (written (getD st f []) off x) d m (put-long x fits)
+      (e ∙ ap₂ (λ y z. written y (f * s + off) z) (h .block-is) (take-all (length x) x (omega arith))
+      ∙ row-put s (all-take n (h .sized)) f off (front-length n s st b c h f m l) x fits
+      ∙ ap (λ v. joined (set (take n st) f (written v off x))) (sym (front n s st b c h f m)))
+
+  pub put-back : n ≤ f → (x d : List ℕ) → off + length x ≤ s → d ≡ written c ((f - n) * s + off) (take (length x) x) → Holds n s (set st f (written (getD st f []) off x)) b d
+  put-back m x d fits e = put-scratch n s st b c h f (written (getD st f []) off x) d m (put-long x fits)
+      (e ∙ ap₂ (λ y z. written y ((f - n) * s + off) z) (h .scratch-is) (take-all (length x) x (omega arith))
+      ∙ row-put s (all-drop n (h .sized)) (f - n) off (back-length n s st b c h f m l) x fits
+      ∙ ap (λ v. joined (set (drop n st) (f - n) (written v off x))) (sym (back n s st b c h f m)))
+
+-- ---- the bytes of a slot
+pub part-front : (n s f off k : ℕ) (b c r : List ℕ) → f < n → off + k ≤ s → f * s + off + k ≤ length b → r ≡ take k (drop (f * s + off) b) → PartOf n s f off k b c r
+part-front n s f off k b c r m fits room e = record {
+  long = ap length e ∙ part-length b (f * s + off) k room;
+  is = λ st h l. e ∙ front-part n s st b c h f off l m k fits;
+}
+
+pub part-back : (n s f off k : ℕ) (b c r : List ℕ) → n ≤ f → off + k ≤ s → (f - n) * s + off + k ≤ length c → r ≡ take k (drop ((f - n) * s + off) c)
+    → PartOf n s f off k b c r
+part-back n s f off k b c r m fits room e = record {
+  long = ap length e ∙ part-length c ((f - n) * s + off) k room;
+  is = λ st h l. e ∙ back-part n s st b c h f off l m k fits;
+}
+
+-- added
+pub part-added : {n s f off : ℕ} {b c x : List ℕ} (a r : List ℕ) → PartOf n s f off (length a) b c x → r ≡ mixed a 0 (take (length a) (drop 0 x)) → PartAdded n s f off b c a r
+part-added {n} {s} {f} {off} {b} {c} {x} a r p e = record {
+  sum = λ st h l. e ∙ ap (mixed a 0) (take-all (length a) x (omega (arith, p .long))) ∙ mixed-whole a x (p .long) ∙ ap (add XorGroup a) (p .is st h l);
+}
+
+-- ---- sums of slots
+-- zeros add nothing
+pub zeros-added : (s off : ℕ) (a : List ℕ) → off + length a ≤ s → a ≡ plusPart a off (replicate s 0)
+zeros-added s off a fits = sym (ap (add XorGroup a) (part-zeros off (length a) s fits) ∙ add-comm XorGroup a (replicate (length a) 0) ∙ add-zl XorGroup a (length a) refl)
+
+-- no slot yet
+pub parts-none : {n s off : ℕ} {b c a : List ℕ} → off + length a ≤ s → PartsAdded n s [] off b c a a
+parts-none {n} {s} {off} {b} {c} {a} fits = record { sum = λ st h l. zeros-added s off a fits }
+
+-- one more
+among-more : {k f : ℕ} (fs : List ℕ) → Among k (fs ++ (f ∷ [])) → Among k fs × (f < k)
+among-more {k} {f} fs h =
+    let e = length-append fs (f ∷ []) in (
+      record { each = λ i l. rw (List·getD-append fs (f ∷ []) 0 i l) at (h .each i (omega arith)) },
+      rw (getD-append-seam fs f [] 0) at (h .each (length fs) (omega arith)),
+    )
+
+pub parts-more : {n s off f : ℕ} {fs b c z a r : List ℕ} → length a ≡ length z → PartsAdded n s fs off b c z a → PartAdded n s f off b c a r
+    → PartsAdded n s (fs ++ (f ∷ [])) off b c z r
+parts-more {n} {s} {off} {f} {fs} {b} {c} {z} {a} {r} long p q = record {
+  sum = λ st h l.
+      let m = among-more fs l in
+      let k = length z in
+      let v = packetSum s st fs in
+      let y = getD st f [] in
+      q .sum st h (m .1) ∙ ap₂ (λ (x : List ℕ) (j : ℕ). add XorGroup x (take j (drop off y))) (p .sum st h (m .0)) long
+      ∙ add-assoc XorGroup z (take k (drop off v)) (take k (drop off y))
+      ∙ ap (add XorGroup z) (sym (ap (λ x. take k (drop off x)) (sum-snoc s st fs f) ∙ part-sum off k v y));
+}
+
+pub parts-as : {n s off : ℕ} {fs gs b c a a′ : List ℕ} → fs ≡ gs → PartsAdded n s fs off b c a a′ → PartsAdded n s gs off b c a a′
+parts-as e p = rw (← e) p

@@ -1,0 +1,5 @@
+pub mod GatherLaws
+pub mod RunLaws
+pub mod Runs
+pub mod SlotLaws
+pub mod Slots
