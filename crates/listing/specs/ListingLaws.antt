@@ -6,7 +6,7 @@ use Prim.Native.Nat.{ℕ, _%_, _<_, _≤_}
 use native.Mathlib.Omega.{arith}
 use borrow.Author.Tests.{eqb-true, eqb-false, eq-eqb, ne-eqb, lt-ltb, ltb-true, ltb-false}
 use lib.Dec.{eqb, ltb}
-use lib.ListN.{length, take, replicate, length-take, length-replicate}
+use lib.ListN.{length, take, length-take}
 use lib.Seq.{take-all}
 use Rattle.gf2.specs.Span.{byBool}
 use Rattle.table.specs.Table.{places, size, checks, refusal}
@@ -14,7 +14,7 @@ use Rattle.table.specs.TableLaws.{accepted}
 use Rattle.plan.specs.Layout.{mostAside}
 use Rattle.rule.specs.Accepted.{kept-weight}
 use Rattle.planner.specs.Planning.{planOf, numbersOf, planningRefusal, leastPlan, workWords}
-use Rattle.theorems.specs.Demands.{accepted-planning}
+use Rattle.planner.specs.PlanningLaws.{accepted-planning}
 use Rattle.theorems.specs.OwnPlan.{own-info, own-steps, own-accepted}
 use Rattle.table_file.specs.Words.{wordsOf, unfit}
 use Rattle.listing.specs.Listing.{tableText, listing}
@@ -44,7 +44,7 @@ refused-text t h = rw (ne-eqb (planningRefusal t leastPlan workWords) 0 h, table
 table-most : (t : List ℕ) → length (tableText t) ≤ mostText
 table-most t = byBool (eqb (planningRefusal t leastPlan workWords) 0)
     (λ e. let h = eqb-true (planningRefusal t leastPlan workWords) 0 e in
-    let ok = accepted-planning t (replicate leastPlan 0) (replicate workWords 0) (ap₂ (planningRefusal t) (length-replicate {A = ℕ} leastPlan 0) (length-replicate {A = ℕ} workWords 0) ∙ h) in
+    let ok = accepted-planning t leastPlan workWords h in
     rw (accepted-text t h (ok .0) (ok .1)) (plan-most (numbersOf t) (planOf t .W) (own-accepted t (ok .0) (ok .1)) (ones-few t (ok .0))))
     (λ e. rw (refused-text t (eqb-false (planningRefusal t leastPlan workWords) 0 e)) (refused-most (planningRefusal t leastPlan workWords)))
 
