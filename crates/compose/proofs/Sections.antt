@@ -12,7 +12,7 @@ use Rattle.gf2.specs.Lists.{rev}
 use Rattle.gf2.specs.Places.{has, filter, minus}
 use Rattle.gf2.specs.Span.{byBool}
 use Rattle.table.specs.Checks.{check}
-use Rattle.table.specs.Table.{places, number}
+use Rattle.table.specs.Table.{mostPlaces, places, number}
 use Rattle.plan.specs.declared.Step.{Step}
 use Rattle.plan.specs.Step.{pack}
 use Rattle.rule.specs.Rule.{Solved, solvingSteps, scratchSteps, fittingSteps, planSteps, fittedPlaces, inverse, reduced}
@@ -30,12 +30,12 @@ filter-few f (x ∷ l) = let ih = filter-few f l in byBool (f x) (λ e. rw (e, f
 pub info-few : (n : ℕ) (X : List ℕ) → length (minus (rev (below n)) X) ≤ n
 info-few n X = let a = filter-few (λ p. not (has p X)) (rev (below n)) in let b = length-rev (below n) in let c = length-below n in omega arith
 
-module _ (n : ℕ) (us fs : List ℕ) (taken g : ℕ) (u : Below n us taken) (f : Below n fs g) (h : n ≤ 1024) (m₁ m₂ : List ℕ)
-    (e₁ : m₁ ≡ marking (replicate 1024 0) (take g fs)) (e₂ : m₂ ≡ marking m₁ (take taken us)) where
-  long₁ : length m₁ ≡ 1024
-  long₁ = ap length e₁ ∙ marking-length (replicate 1024 0) (take g fs) ∙ length-replicate {A = ℕ} 1024 0
+module _ (n : ℕ) (us fs : List ℕ) (taken g : ℕ) (u : Below n us taken) (f : Below n fs g) (h : n ≤ mostPlaces) (m₁ m₂ : List ℕ)
+    (e₁ : m₁ ≡ marking (replicate mostPlaces 0) (take g fs)) (e₂ : m₂ ≡ marking m₁ (take taken us)) where
+  long₁ : length m₁ ≡ mostPlaces
+  long₁ = ap length e₁ ∙ marking-length (replicate mostPlaces 0) (take g fs) ∙ length-replicate {A = ℕ} mostPlaces 0
 
-  pub used-long : length m₂ ≡ 1024
+  pub used-long : length m₂ ≡ mostPlaces
   used-long = ap length e₂ ∙ marking-length m₁ (take taken us) ∙ long₁
 
   pub info-is : minus (rev (below n)) (marked m₂) ≡ minus (rev (below n)) (take taken us ++ take g fs)
@@ -43,7 +43,7 @@ module _ (n : ℕ) (us fs : List ℕ) (taken g : ℕ) (u : Below n us taken) (f 
       (λ p. ap (λ m. has p (marked m)) e₂ ∙ marked-more m₁ us taken (below-more u (omega (arith, long₁))) (take g fs) first p)
     where
       first : (p : ℕ) → has p (marked m₁) ≡ has p (take g fs)
-      first p = ap (λ m. has p (marked m)) e₁ ∙ marked-more (replicate 1024 0) fs g (below-more f (omega (arith, length-replicate {A = ℕ} 1024 0))) [] (none-marked 1024) p
+      first p = ap (λ m. has p (marked m)) e₁ ∙ marked-more (replicate mostPlaces 0) fs g (below-more f (omega (arith, length-replicate {A = ℕ} mostPlaces 0))) [] (none-marked mostPlaces) p
           ∙ ap (has p) (append-nil (take g fs))
 
 -- ---- the steps
@@ -61,13 +61,13 @@ module _ {t starts order us : List ℕ} {taken : ℕ} {aside : List ℕ} {g : �
   fitted-below = fitted-low (ph .fits)
 
   -- the marks of the fitted places
-  module _ (skip : List ℕ) (e : skip ≡ marking (replicate 1024 0) (take g fs)) where
-    skip-long : length skip ≡ 1024
-    skip-long = ap length e ∙ marking-length (replicate 1024 0) (take g fs) ∙ length-replicate {A = ℕ} 1024 0
+  module _ (skip : List ℕ) (e : skip ≡ marking (replicate mostPlaces 0) (take g fs)) where
+    skip-long : length skip ≡ mostPlaces
+    skip-long = ap length e ∙ marking-length (replicate mostPlaces 0) (take g fs) ∙ length-replicate {A = ℕ} mostPlaces 0
 
     skip-is : (p : ℕ) → has p (marked skip) ≡ has p (fittedPlaces n T Z)
     skip-is p = let h = ph .each .narrow in
-        ap (λ m. has p (marked m)) e ∙ marked-more (replicate 1024 0) fs g (below-more fitted-below (omega (arith, length-replicate {A = ℕ} 1024 0))) [] (none-marked 1024) p
+        ap (λ m. has p (marked m)) e ∙ marked-more (replicate mostPlaces 0) fs g (below-more fitted-below (omega (arith, length-replicate {A = ℕ} mostPlaces 0))) [] (none-marked mostPlaces) p
         ∙ ap (has p) (append-nil (take g fs) ∙ ph .fits .places)
 
     -- the steps, and their four parts

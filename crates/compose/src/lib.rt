@@ -1,4 +1,5 @@
 // The plan: from the checks chosen and the places fitted to its numbers.
+use table::MOST_PLACES;
 use table::wide;
 ghost use mathlib.Core.Path.{_≡_};
 ghost use Prim.Native.Nat.{_+_, _≤_};
@@ -30,7 +31,7 @@ fn gap_steps(
         (gapStepsIn (now (t .entry)) (now (order .entry)) (now (owns .entry)) taken (now (aside .entry)) g)
         (now (plan .exit)) r ⌝ }
 {
-    let mut skip = [0u8; 1024];
+    let mut skip = [0u8; MOST_PLACES];
     emit::mark(&mut skip, fitted, g);
     let a = emit::solve_all(plan, at, t, starts, order, owns, taken, &skip);
     let b = emit::set_aside(plan, a, t, starts, aside, g, &skip);
@@ -153,7 +154,7 @@ fn info_section(
         (infoNumbers (infoPlaces n (now (owns .entry)) taken (now (fitted .entry)) g))
         (now (plan .exit)) r ⌝ }
 {
-    let mut used = [0u8; 1024];
+    let mut used = [0u8; MOST_PLACES];
     emit::mark(&mut used, fitted, g);
     emit::mark(&mut used, owns, taken);
     let k = unmarked(plan, at + 1, n, &used);

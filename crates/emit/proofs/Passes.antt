@@ -10,7 +10,7 @@ use Rattle.gf2.specs.Lists.{rev, eqb-lt}
 use Rattle.gf2.specs.Places.{has, minus}
 use Rattle.gf2.specs.Span.{byBool}
 use Rattle.table.specs.Checks.{check, offset, Places, Checks}
-use Rattle.table.specs.Table.{places, number}
+use Rattle.table.specs.Table.{mostPlaces, places, number}
 use Rattle.plan.specs.Step.{pack}
 use Rattle.rule.specs.Buffers.{solved, maskBits}
 use Rattle.rule.specs.Rule.{Solved, clearAndAdd, solvingSteps, scratchSteps, slotsNamed}
@@ -24,11 +24,11 @@ check-is : (t : List ℕ) (m j start weight : ℕ) → start ≡ 5 + m + offset 
 unfolding check
 check-is t m j start weight a b = ap₂ (λ s w. take w (drop s t)) a b
 
-wider : {t : List ℕ} {at weight n : ℕ} → Places t at weight n → n ≤ 1024 → Places t at weight 1024
+wider : {t : List ℕ} {at weight n : ℕ} → Places t at weight n → n ≤ mostPlaces → Places t at weight mostPlaces
 wider p h = record { room = p .room; below = λ i l. let b = p .below i l in omega arith; rising = p .rising }
 
 pub check-read : {t starts marks : List ℕ} (start weight j : ℕ) → Readable t starts marks → j < number t → start ≡ getD starts j 0 → weight ≡ getD t (4 + j) 0
-    → (take weight (drop start t) ≡ check t (number t) j) × Places t start weight 1024
+    → (take weight (drop start t) ≡ check t (number t) j) × Places t start weight mostPlaces
 check-read {t} start weight j r h a b =
     let s : start ≡ 5 + number t + offset t j = a ∙ r .first .each j h in
     (check-is t (number t) j start weight s b, rw (s, b) (wider (r .each .each j h) (r .each .narrow)))
@@ -122,5 +122,5 @@ fits-next n g fitted rows j h =
     ∙ ap (λ k. map pack (clearAndAdd (getD fitted j 0) (slotsNamed n (maskBits g (getD rows j 0)))) ++ map pack (fittingRows n g fitted rows k (g - (j + 1)))) (sym (add-one j))
 
 -- where nothing is marked no place is left out
-pub whole-is : (us : List Solved) → solvingSteps (marked (replicate 1024 0)) us ≡ solvingSteps [] us
-whole-is us = solving-same (marked (replicate 1024 0)) [] us (none-marked 1024)
+pub whole-is : (us : List Solved) → solvingSteps (marked (replicate mostPlaces 0)) us ≡ solvingSteps [] us
+whole-is us = solving-same (marked (replicate mostPlaces 0)) [] us (none-marked mostPlaces)

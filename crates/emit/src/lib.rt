@@ -1,5 +1,6 @@
 // The sections of a plan's steps as numbers: one check, a pass over the solved checks, the checks set aside, the fitted places.
 use plan::Step;
+use table::MOST_PLACES;
 use table::wide;
 ghost use mathlib.Core.Path.{_≡_};
 ghost use Prim.Native.Nat.{_≤_, _<_};
@@ -129,7 +130,7 @@ pub fn solve_whole(
         (wholeSteps (now (t .entry)) (now (order .entry)) (now (owns .entry)) taken)
         (now (plan .exit)) r ⌝ }
 {
-    let none = [0u8; 1024];
+    let none = [0u8; MOST_PLACES];
     solve_all(plan, at, t, starts, order, owns, taken, &none)
 }
 

@@ -7,8 +7,7 @@ use borrow.Author.Tests.{eq-eqb, ne-eqb, lt-ltb, le-ltb}
 use lib.Dec.{eqb, ltb}
 use lib.ListN.{length, getD}
 use Rattle.table.specs.Table.{mostPlaces, mostBytes, mostChecks, outside}
-use Rattle.plan.specs.Layout.{mostAside, mostSteps, headCount, leastNumbers, planPlaces, planSize, planGap, planKept, infoCount, stepCount, stepsAt, badCounts}
-use Rattle.plan.specs.LookOver.{badLengths, badLimits}
+use Rattle.plan.specs.Layout.{mostAside, mostSteps, headCount, leastNumbers, planPlaces, planSize, planGap, planKept, infoCount, stepCount, stepsAt, badLengths, badLimits, badCounts}
 
 pub outside-zero : (most x : ℕ) → x ≡ 0 → true ≡ outside most x
 outside-zero most x h = rw h

@@ -94,12 +94,20 @@ abbrev pub stepsOf : List ℕ → List Step
 stepsOf w = unpackAll (stepsIn w)
 
 -- ---- cause 9
--- "wrong counts or length, n or s beyond limits, g over 32 or over M, M over n or 512, over 13,344 steps"
+-- the counts, in three parts, each with the parts behind it
+-- "wrong counts or length", "over 13,344 steps"
+abbrev pub badLengths : List ℕ → Bool
+badLengths w = not (eqb (infoCount w) (planPlaces w - planKept w)) || (ltb (length w) (stepsAt w) || (ltb mostSteps (stepCount w)
+    || not (eqb (length w) (stepsAt w + stepCount w))))
+
+-- "n or s beyond limits, g over 32 or over M, M over n or 512"
+abbrev pub badLimits : List ℕ → Bool
+badLimits w = outside mostPlaces (planPlaces w) || (outside mostBytes (planSize w) || (ltb mostAside (planGap w) || (ltb (planKept w) (planGap w)
+    || (ltb (planPlaces w) (planKept w) || (ltb mostChecks (planKept w) || badLengths w)))))
+
+-- too short to have counts, or a first section of another length
 abbrev pub badCounts : List ℕ → Bool
-badCounts w = ltb (length w) leastNumbers || (not (eqb (getD w 0 0) headCount) || (outside mostPlaces (planPlaces w) || (outside mostBytes (planSize w)
-    || (ltb mostAside (planGap w) || (ltb (planKept w) (planGap w) || (ltb (planPlaces w) (planKept w) || (ltb mostChecks (planKept w)
-    || (not (eqb (infoCount w) (planPlaces w - planKept w)) || (ltb (length w) (stepsAt w) || (ltb mostSteps (stepCount w)
-    || not (eqb (length w) (stepsAt w + stepCount w))))))))))))
+badCounts w = ltb (length w) leastNumbers || (not (eqb (getD w 0 0) headCount) || badLimits w)
 
 -- "an unknown kind, a slot outside, clear with from above 0, a slot added into itself, or an information place written",
 -- for k slots and the information places I

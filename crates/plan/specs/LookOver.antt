@@ -1,26 +1,16 @@
 -- The look-over's own words: information places as marks, a byte a slot, so that "an information place written" is one look.
 use mathlib.Core.Path.{_≡_}
-use mathlib.Core.Bool.{Bool, true, false, cond, not, _||_, _&&_}
+use mathlib.Core.Bool.{Bool, true, false, cond, not, _&&_}
 use mathlib.Core.List.{List}
 use mathlib.Core.Option.{Option, none, some}
-use Prim.Native.Nat.{ℕ, _+_, _-_, _<_}
+use Prim.Native.Nat.{ℕ, _+_, _<_}
 use lib.Dec.{eqb, ltb}
 use lib.ListN.{length, getD}
 use Rattle.gf2.specs.Places.{has}
-use Rattle.table.specs.Table.{mostPlaces, mostBytes, mostChecks, outside, rising}
+use Rattle.table.specs.Table.{mostPlaces, rising}
 use Rattle.plan.specs.declared.Step.{Step}
 use Rattle.plan.specs.declared.Step.the-variants.{Clear, Add}
-use Rattle.plan.specs.Layout.{mostAside, mostSteps, planPlaces, planSize, planGap, planKept, infoCount, stepCount, stepsAt}
-
--- the last tests of badCounts: "wrong counts or length", "over 13,344 steps"
-abbrev pub badLengths : List ℕ → Bool
-badLengths w = not (eqb (infoCount w) (planPlaces w - planKept w)) || (ltb (length w) (stepsAt w) || (ltb mostSteps (stepCount w)
-    || not (eqb (length w) (stepsAt w + stepCount w))))
-
--- the tests from the limits on: "n or s beyond limits, g over 32 or over M, M over n or 512"
-abbrev pub badLimits : List ℕ → Bool
-badLimits w = outside mostPlaces (planPlaces w) || (outside mostBytes (planSize w) || (ltb mostAside (planGap w) || (ltb (planKept w) (planGap w)
-    || (ltb (planPlaces w) (planKept w) || (ltb mostChecks (planKept w) || badLengths w)))))
+use Rattle.plan.specs.Layout.{mostAside}
 
 -- places and scratch slots
 abbrev pub mostSlots : ℕ

@@ -12,8 +12,8 @@ ghost use Rattle.table.specs.Packets.{written};
 ghost use Rattle.table.specs.Table.{outside};
 ghost use Rattle.plan.specs.Head.{HeadFits};
 ghost use Rattle.plan.specs.Layout.{leastNumbers, planHead, planPlaces, planSize, planGap, planKept};
-ghost use Rattle.plan.specs.Layout.{infoAt, infoCount, infoIn, stepCount, stepsAt, badCounts, planRefusal};
-ghost use Rattle.plan.specs.LookOver.{badLengths, badLimits, Marks, Marking, isMarked, writable, goodStepBy};
+ghost use Rattle.plan.specs.Layout.{infoAt, infoCount, infoIn, stepCount, stepsAt, badLengths, badLimits, badCounts, planRefusal};
+ghost use Rattle.plan.specs.LookOver.{Marks, Marking, isMarked, writable, goodStepBy};
 ghost use Rattle.plan.specs.Step.{SlotsBelow, pack, unpack, decodedOf};
 
 // clears a slot, or adds one slot into another: Add(to, from)

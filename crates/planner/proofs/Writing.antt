@@ -14,13 +14,14 @@ use Rattle.plan.specs.Layout.{mostAside, leastPlan, leastNumbers}
 use Rattle.plan.specs.ReadBack.{numbers-length}
 use Rattle.plan.specs.Step.{addSteps}
 use Rattle.rule.specs.Accepted.{numbers-limit, kept-length, kept-weight}
-use Rattle.rule.specs.Buffers.{peeling, solved, Fitted}
+use Rattle.rule.specs.Buffers.{solved, Fitted}
 use Rattle.rule.specs.PlanOf.{planOf, numbersOf, withNumbers}
-use Rattle.rule.specs.Rule.{kept, setAsideOf}
+use Rattle.rule.specs.Rule.{kept}
 use Rattle.peel.specs.Choice.{ChoiceOf}
 use Rattle.columns.specs.Fitting.{Ready}
 use Rattle.compose.specs.Compose.{Composable, Composed}
 use Rattle.planner.specs.Planning.{answerAt, Answer}
+use Rattle.planner.proofs.Refusals.{gap-is}
 
 adds-few : (xs : List Step) → addSteps xs ≤ length xs
 adds-few [] = omega arith
@@ -43,10 +44,6 @@ module _ (t : List ℕ) (ok : refusal t ≡ 0) where
   unfolding planOf
   ones-is = refl
 
-  pub gap-is : planOf t .g ≡ length (setAsideOf (peeling t))
-  unfolding planOf
-  gap-is = refl
-
   pub kept-few : planOf t .M ≤ mostChecks
   unfolding planOf
   kept-few = let a = kept-length (places t) (checks t) in let b = accepted t ok .few-checks in omega arith
@@ -55,16 +52,16 @@ module _ (t : List ℕ) (ok : refusal t ≡ 0) where
   unfolding planOf
   ones-few = let a = kept-weight (places t) (checks t) in let b = accepted t ok .few-ones in omega arith
 
-  words : planOf t .g ≤ mostAside → leastNumbers + length (planOf t .info) + length (planOf t .steps) ≤ leastPlan
+  numbers-fit : planOf t .g ≤ mostAside → leastNumbers + length (planOf t .info) + length (planOf t .steps) ≤ leastPlan
   unfolding planOf
-  words h = let a = accepted t ok in numbers-limit (places t) (checks t) (a .distinct) (a .low) (a .few-places) (a .few-ones) h
+  numbers-fit h = let a = accepted t ok in numbers-limit (places t) (checks t) (a .distinct) (a .low) (a .few-places) (a .few-ones) h
 
   length-few : planOf t .g ≤ mostAside → length (numbersOf t) ≤ leastPlan
   unfolding numbersOf
-  length-few h = let a = numbers-length (places t) (size t) (planOf t .g) (planOf t .M) (planOf t .info) (planOf t .steps) in let b = words h in omega arith
+  length-few h = let a = numbers-length (places t) (size t) (planOf t .g) (planOf t .M) (planOf t .info) (planOf t .steps) in let b = numbers-fit h in omega arith
 
   pub adds-most : planOf t .g ≤ mostAside → addSteps (planOf t .steps) ≤ leastPlan
-  adds-most h = let a = adds-few (planOf t .steps) in let b = words h in omega arith
+  adds-most h = let a = adds-few (planOf t .steps) in let b = numbers-fit h in omega arith
 
   -- ---- what the next phases ask
   module _ {starts order owns aside : List ℕ} {M W taken put : ℕ} (st : Starts t (number t) starts) (ch : ChoiceOf t order owns aside M W taken put) (few : put ≤ mostAside) where
@@ -93,7 +90,7 @@ module _ (t : List ℕ) (ok : refusal t ≡ 0) where
     }
 
     gap-few : planOf t .g ≤ mostAside
-    gap-few = let a = gap-is in let b = ch .gap in omega arith
+    gap-few = let a = gap-is t in let b = ch .gap in omega arith
 
     pub kept-fits : M ≤ mostChecks
     kept-fits = let a = kept-is in let b = ch .keeps in let c = kept-few in omega arith
@@ -111,6 +108,6 @@ module _ (t : List ℕ) (ok : refusal t ≡ 0) where
         → (_≡_ {A = Answer} (record { refusal = 0; length = count; kept = M; ones = W; gap = put; additions = adds }) (answerAt 0 t))
         × (after ≡ withNumbers t before)
     written-out {before} {after} {count} {adds} e = (
-      same-answer refl (e .numbers) (ch .keeps ∙ sym kept-is) (ch .with-ones ∙ sym ones-is) (ch .gap ∙ sym gap-is) (e .additions),
+      same-answer refl (e .numbers) (ch .keeps ∙ sym kept-is) (ch .with-ones ∙ sym ones-is) (ch .gap ∙ sym (gap-is t)) (e .additions),
       e .list,
     )

@@ -1,5 +1,6 @@
 // The planner.
 use peel::Choice;
+use table::MOST_CHECKS;
 use table::wide;
 ghost use mathlib.Core.Path.{_≡_};
 ghost use Prim.Native.Nat.{_≤_};
@@ -113,10 +114,10 @@ fn plan_table(t: &[u16], plan: &mut [u32], work: &mut [u64]) -> Planned
 {
     let n = wide(t[1]);
     let m = wide(t[3]);
-    let mut starts = [0u16; 512];
-    let mut order = [0u16; 512];
-    let mut owns = [0u16; 512];
-    let mut aside = [0u16; 512];
+    let mut starts = [0u16; MOST_CHECKS];
+    let mut order = [0u16; MOST_CHECKS];
+    let mut owns = [0u16; MOST_CHECKS];
+    let mut aside = [0u16; MOST_CHECKS];
     table::fill_starts(t, m, &mut starts);
     let c = peel::choose_checks(t, m, n, &starts, work, &mut order, &mut owns, &mut aside);
     if plan::MOST_ASIDE < c.aside {

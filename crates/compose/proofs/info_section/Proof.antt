@@ -7,6 +7,7 @@ use lib.ListN.{length, take}
 use Rattle.gf2.specs.Fit.{below}
 use Rattle.gf2.specs.Lists.{rev}
 use Rattle.gf2.specs.Places.{minus}
+use Rattle.table.specs.Table.{mostPlaces}
 use Rattle.emit.specs.Emit.{marked, Wrote}
 use Rattle.emit.specs.MarkLaws.{below-more}
 use Rattle.emit.specs.WroteLaws.{wrote-count, wrote-is}
@@ -27,7 +28,7 @@ slice-aggregate-mark-2 : tie.Need-slice-aggregate-mark-2
 slice-aggregate-mark-2 c = search needs
 
 mark-requires-2 : tie.Need-mark-requires-2
-mark-requires-2 c κs = below-more (c .before .before .before .before .before .before .before .pre .1 .0) (let l : length (c .before .before .mark .last .0) ≡ 1024 = c .before .used2 .given in omega arith)
+mark-requires-2 c κs = below-more (c .before .before .before .before .before .before .before .pre .1 .0) (let l : length (c .before .before .mark .last .0) ≡ mostPlaces = c .before .used2 .given in omega arith)
 
 add-unmarked : tie.Need-add-unmarked
 add-unmarked c = search needs

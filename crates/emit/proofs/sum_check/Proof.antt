@@ -57,6 +57,28 @@ pack-requires-2 c κs =
     let e = c .before .before .before .wide .ensures in
     omega arith
 
+loop-again : tie.Need-loop-again Inv-loop μ-loop
+loop-again c =
+    let a = c .before .before .before .before .before .before .before .before .before .args in
+    let s = c .before .before .before .before .loop in
+    let C = take (a .weight) (drop (a .start) (a .t .now)) in
+    let room : a .at + 1 + length (adds (a .to) (a .skip .now) C) ≤ length (set (a .plan .now) (a .at) (c .before .before .before .before .before .pack .result)) = simp length-set (omega (arith, adds-length (a .to) (a .skip .now) C)) in
+    let h : s .i < length C = rw (part-length (a .t .now) (a .start) (a .weight) (c .before .before .before .before .before .before .before .before .before .pre .1 .0 .room)) (omega arith) in
+    let q : c .before .wide .result ≡ getD C (s .i) 0 = c .before .wide .ensures ∙ part-at (a .t .now) (a .start) (a .weight) (s .i) (omega arith) in
+    let to = a .to in
+    let sk = a .skip .now in
+    let p = c .before .wide .result in
+    let rest = adds to sk (drop (s .i + 1) C) in
+    let l = s .inv .1 in (
+      omega arith,
+      ⊎-elim
+          (λ u. rw (u .4, u .5, u .3 .ensures) (left-one room (left-is _ l (adds-next to sk C (s .i) p h q (u .0 .taken) (u .2 .taken)))))
+          (⊎-elim
+          (λ u. rw (u .3, u .4) (left-is _ l (adds-marked to sk C (s .i) p h q (u .0 .taken) (u .2 .left))))
+          (λ u. rw (u .1, u .2) (left-is _ l (adds-own to sk C (s .i) p h q (u .0 .left)))))
+          (c .if1 .came),
+    )
+
 slice-write-plan-2 : tie.Need-slice-write-plan-2 Inv-loop μ-loop
 slice-write-plan-2 c =
     let a = c .before .before .before .before .before .before .before .before .before .before .before .before .args in
@@ -95,28 +117,6 @@ add-i c = omega arith
 
 loop-less : tie.Need-loop-less Inv-loop μ-loop
 loop-less c = omega arith
-
-loop-again : tie.Need-loop-again Inv-loop μ-loop
-loop-again c =
-    let a = c .before .before .before .before .before .before .before .before .before .args in
-    let s = c .before .before .before .before .loop in
-    let C = take (a .weight) (drop (a .start) (a .t .now)) in
-    let room : a .at + 1 + length (adds (a .to) (a .skip .now) C) ≤ length (set (a .plan .now) (a .at) (c .before .before .before .before .before .pack .result)) = simp length-set (omega (arith, adds-length (a .to) (a .skip .now) C)) in
-    let h : s .i < length C = rw (part-length (a .t .now) (a .start) (a .weight) (c .before .before .before .before .before .before .before .before .before .pre .1 .0 .room)) (omega arith) in
-    let q : c .before .wide .result ≡ getD C (s .i) 0 = c .before .wide .ensures ∙ part-at (a .t .now) (a .start) (a .weight) (s .i) (omega arith) in
-    let to = a .to in
-    let sk = a .skip .now in
-    let p = c .before .wide .result in
-    let rest = adds to sk (drop (s .i + 1) C) in
-    let l = s .inv .1 in (
-      omega arith,
-      ⊎-elim
-          (λ u. rw (u .4, u .5, u .3 .ensures) (left-one room (left-is _ l (adds-next to sk C (s .i) p h q (u .0 .taken) (u .2 .taken)))))
-          (⊎-elim
-          (λ u. rw (u .3, u .4) (left-is _ l (adds-marked to sk C (s .i) p h q (u .0 .taken) (u .2 .left))))
-          (λ u. rw (u .1, u .2) (left-is _ l (adds-own to sk C (s .i) p h q (u .0 .left)))))
-          (c .if1 .came),
-    )
 
 same-length : tie.Need-same-length Inv-loop μ-loop
 same-length c =

@@ -33,7 +33,8 @@ fit-places-requires c κs =
     let start = c .before .before .before .before .before .before .before .before .before .before .before .before in
     let t = start .args .t .now in
     let p = start .pre in
-    (fit-ready t (p .0) (p .1 .0) (p .1 .1 .0) (p .1 .1 .1 .0) (c .before .before .wide2 .ensures) (c .before .before .before .before .wide .ensures), p .1 .1 .1 .0, p .1 .1 .1 .0)
+    let few = p .1 .1 .1 .0 in
+    (fit-ready t (p .0) (p .1 .0) (p .1 .1 .0) (p .1 .1 .1 .0) (c .before .before .wide2 .ensures) (c .before .before .before .before .wide .ensures), omega arith, omega arith)
 
 slice-aggregate-write-plan : tie.Need-slice-aggregate-write-plan
 slice-aggregate-write-plan c = search needs
