@@ -108,29 +108,29 @@ pub skip-most : (fresh : Bool) → cond fresh 1 0 ≤ 1
 skip-most true = omega arith
 skip-most false = omega arith
 
-module _ (w : List ℕ) (f : Formed w) (q : ℕ) (e : q ≡ infoCount w) (i steps : ℕ) (more : i < steps) (all : steps ≤ stepCount w)
+module _ (w : List ℕ) (f : Formed w) (q : ℕ) (e : q ≡ infoCount w) (i last : ℕ) (more : i < last) (all : last ≤ stepCount w)
     {x : Step} {to : ℕ} {fresh : Bool} {d : ℕ} (r : Found w q i x to fresh d) where
   abbrev l : List Step
   l = stepsOf w
 
   abbrev fs : List ℕ
-  fs = sourcesOf w (7 + q + (i + d)) (7 + q + steps) to
+  fs = sourcesOf w (7 + q + (i + d)) (7 + q + last) to
 
-  order : 7 + q + (i + d) ≤ 7 + q + steps
+  order : 7 + q + (i + d) ≤ 7 + q + last
   order = omega (arith, r .skip, skip-most fresh)
 
-  inside : 7 + q + steps ≤ length w
+  inside : 7 + q + last ≤ length w
   inside = let k = f .counts in omega arith
 
-  fs-within : i + d + length fs ≤ steps
-  fs-within = omega (arith, sources-within w (7 + q + (i + d)) (7 + q + steps) to order inside)
+  fs-within : i + d + length fs ≤ last
+  fs-within = omega (arith, sources-within w (7 + q + (i + d)) (7 + q + last) to order inside)
 
   -- the k-th of the add steps
   adds-at : (y : Step) (k : ℕ) → k < length fs → getD l (i + d + k) y ≡ Add to (getD fs k 0)
   adds-at y k g =
       let j : 7 + q + (i + d + k) ≡ 7 + q + (i + d) + k = omega arith in
       sym (step-there w f q e y (i + d + k) (omega (arith, fs-within))) ∙ ap (λ (m : ℕ). stepIn (unpack (getD w m 0))) j
-      ∙ ap stepIn (sources-are w (7 + q + (i + d)) (7 + q + steps) to order inside k g)
+      ∙ ap stepIn (sources-are w (7 + q + (i + d)) (7 + q + last) to order inside k g)
 
   adds-there : take (length fs) (drop (i + d) l) ≡ adding to fs
   adds-there =
@@ -158,7 +158,7 @@ module _ (w : List ℕ) (f : Formed w) (q : ℕ) (e : q ≡ infoCount w) (i step
     apart = λ k g z. sound-at k g .apart (sym z);
   }
 
-  pub run-at : (s b c : ℕ) → b ≡ planPlaces w * s → c ≡ planGap w * s → RunAt w (7 + q + (i + d)) (7 + q + steps) to (planPlaces w) s b c
+  pub run-at : (s b c : ℕ) → b ≡ planPlaces w * s → c ≡ planGap w * s → RunAt w (7 + q + (i + d)) (7 + q + last) to (planPlaces w) s b c
   run-at s b c lb lc = record {
     order = order;
     inside = inside;
@@ -176,7 +176,7 @@ module _ (w : List ℕ) (f : Formed w) (q : ℕ) (e : q ≡ infoCount w) (i step
       go (Add t from) z = adds from (z ∙ ap (λ (k : ℕ). Add k from) (sym (r .target ∙ ap targetOf z))) (r .clear ∙ ap isClear z)
 
   module _ (count : ℕ) (counted : count ≡ length fs) where
-    pub run-within : i + d + count ≤ steps
+    pub run-within : i + d + count ≤ last
     run-within = omega (arith, fs-within)
 
     -- at least one step
@@ -187,7 +187,7 @@ module _ (w : List ℕ) (f : Formed w) (q : ℕ) (e : q ≡ infoCount w) (i step
         let b : d ≡ 0 = r .skip ∙ rw y in
         let j : 7 + infoCount w + i ≡ 7 + q + (i + d) = omega arith in
         let there : unpack (getD w (7 + q + (i + d)) 0) ≡ some (Add to from) = rw j at (step-at w f (Clear 0) i (omega arith) ∙ ap some (sym x-there ∙ z)) in
-        omega (arith, sources-some w (7 + q + (i + d)) (7 + q + steps) to from (omega arith) inside there))
+        omega (arith, sources-some w (7 + q + (i + d)) (7 + q + last) to from (omega arith) inside there))
 
     -- the steps with it
     run-there : take (i + d + count) l ≡ take i l ++ runSteps fresh to fs

@@ -41,11 +41,11 @@ fn skipped(fresh: bool) -> usize
 fn run(plan: &[u32], s: usize, steps: usize, block: &mut [u8], scratch: &mut [u8]) -> u32
     requires lent { ⌜ Lent (now plan) s (length (now block)) (length (now scratch)) ⌝ }
     requires steps { ⌜ steps ≤ stepCount (now plan) ⌝ }
-    requires bytes { ⌜ 1 ≤ s ⌝ }
     ensures { λ r. ⌜ Ran (now (plan .entry)) s steps r (now (block .entry)) (now (scratch .entry)) (now (block .exit)) (now (scratch .exit)) ⌝ }
 {
     let n = plan::places(plan);
     let at = 7 + plan::info_count(plan);
+    let mut sources = [0u16; 64];
     let mut additions = 0;
     let mut i = 0;
     while i < steps {
@@ -56,9 +56,10 @@ fn run(plan: &[u32], s: usize, steps: usize, block: &mut [u8], scratch: &mut [u8
         let count = slots::add_run(
             plan,
             at + first,
-            at + steps,
+            at + within(first + 64, steps),
             to,
             fresh,
+            &mut sources,
             n,
             s,
             block,

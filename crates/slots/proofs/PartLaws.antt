@@ -3,9 +3,10 @@ use mathlib.Core.Path.{_≡_, refl, sym, ap, ap₂, _∙_}
 use mathlib.Core.List.{List, [], _∷_, _++_}
 use mathlib.Core.Logic.{⊎-elim}
 use Prim.Native.Nat.{ℕ, _+_, _*_, _-_, _<_, _≤_}
+use native.Mathlib.Numerals.{add-one}
 use native.Mathlib.Omega.{arith}
 use lib.ListN.{length-append, length-take, length-drop, List·getD-append, length, getD, set, take, drop, replicate}
-use lib.Seq.{take-set-le, take-set-lt, drop-set-lt, drop-set-add, getD-take, getD-drop, getD-append-seam, take-all, drop-drop}
+use lib.Seq.{take-suc, take-suc-set, take-set-le, take-set-lt, drop-set-lt, drop-set-add, getD-take, getD-drop, getD-append-seam, take-all, drop-drop}
 use Rattle.gf2.specs.Group.{XorGroup}
 use Rattle.gf2.specs.Lists.{all-getD, all-set}
 use Rattle.gf2.specs.Vectors.{add, add-assoc, add-comm, add-zl}
@@ -13,7 +14,7 @@ use Rattle.table.specs.BufferLaws.{Patched, patched-same, side, part-length, ge
 use Rattle.table.specs.PacketLaws.{joined-length}
 use Rattle.table.specs.Packets.{Packets, joined, packetSum, written, mixed}
 use Rattle.table.specs.SumLaws.{part-of-part, part-sum, part-zeros, sum-snoc}
-use Rattle.slots.specs.Slots.{Holds, Among, plusPart, PartOf, PartAdded, PartsAdded}
+use Rattle.slots.specs.Slots.{Holds, Among, plusPart, PartAdded, PartsAdded}
 use Rattle.slots.specs.SlotLaws.{all-take, all-drop}
 
 -- ---- one slot written, in bytes and in slots
@@ -109,6 +110,14 @@ module _ (n s : ℕ) (st : List (List ℕ)) (b c : List ℕ) (h : Holds n s st b
       ap (λ x. take k (drop ((f - n) * s + off) x)) (h .scratch-is) ∙ bytes-in s (all-drop n (h .sized)) (f - n) off (back-length n s st b c h f m l) k fits
       ∙ ap (λ x. take k (drop off x)) (sym (back n s st b c h f m))
 
+  pub added-front : f < n → (a r : List ℕ) → off + length a ≤ s → f * s + off + length a ≤ length b → r ≡ mixed a 0 (take (length a) (drop (f * s + off) b))
+      → r ≡ add XorGroup a (take (length a) (drop off (getD st f [])))
+  added-front m a r fits room e = e ∙ mixed-whole a _ (part-length b (f * s + off) (length a) room) ∙ ap (add XorGroup a) (front-part m (length a) fits)
+
+  pub added-back : n ≤ f → (a r : List ℕ) → off + length a ≤ s → (f - n) * s + off + length a ≤ length c → r ≡ mixed a 0 (take (length a) (drop ((f - n) * s + off) c))
+      → r ≡ add XorGroup a (take (length a) (drop off (getD st f [])))
+  added-back m a r fits room e = e ∙ mixed-whole a _ (part-length c ((f - n) * s + off) (length a) room) ∙ ap (add XorGroup a) (back-part m (length a) fits)
+
   put-long : (x : List ℕ) → off + length x ≤ s → length (written (getD st f []) off x) ≡ s
   put-long x fits = let o = all-getD (h .sized) f l in written-length (getD st f []) off x (omega arith) ∙ o
 
@@ -123,26 +132,6 @@ module _ (n s : ℕ) (st : List (List ℕ)) (b c : List ℕ) (h : Holds n s st b
       (e ∙ ap₂ (λ y z. written y ((f - n) * s + off) z) (h .scratch-is) (take-all (length x) x (omega arith))
       ∙ row-put s (all-drop n (h .sized)) (f - n) off (back-length n s st b c h f m l) x fits
       ∙ ap (λ v. joined (set (drop n st) (f - n) (written v off x))) (sym (back n s st b c h f m)))
-
--- ---- the bytes of a slot
-pub part-front : (n s f off k : ℕ) (b c r : List ℕ) → f < n → off + k ≤ s → f * s + off + k ≤ length b → r ≡ take k (drop (f * s + off) b) → PartOf n s f off k b c r
-part-front n s f off k b c r m fits room e = record {
-  long = ap length e ∙ part-length b (f * s + off) k room;
-  is = λ st h l. e ∙ front-part n s st b c h f off l m k fits;
-}
-
-pub part-back : (n s f off k : ℕ) (b c r : List ℕ) → n ≤ f → off + k ≤ s → (f - n) * s + off + k ≤ length c → r ≡ take k (drop ((f - n) * s + off) c)
-    → PartOf n s f off k b c r
-part-back n s f off k b c r m fits room e = record {
-  long = ap length e ∙ part-length c ((f - n) * s + off) k room;
-  is = λ st h l. e ∙ back-part n s st b c h f off l m k fits;
-}
-
--- added
-pub part-added : {n s f off : ℕ} {b c x : List ℕ} (a r : List ℕ) → PartOf n s f off (length a) b c x → r ≡ mixed a 0 (take (length a) (drop 0 x)) → PartAdded n s f off b c a r
-part-added {n} {s} {f} {off} {b} {c} {x} a r p e = record {
-  sum = λ st h l. e ∙ ap (mixed a 0) (take-all (length a) x (omega (arith, p .long))) ∙ mixed-whole a x (p .long) ∙ ap (add XorGroup a) (p .is st h l);
-}
 
 -- ---- sums of slots
 -- zeros add nothing
@@ -176,3 +165,10 @@ parts-more {n} {s} {off} {f} {fs} {b} {c} {z} {a} {r} long p q = record {
 
 pub parts-as : {n s off : ℕ} {fs gs b c a a′ : List ℕ} → fs ≡ gs → PartsAdded n s fs off b c a a′ → PartsAdded n s gs off b c a a′
 parts-as e p = rw (← e) p
+
+-- a first part of a list with one more, and with one more written
+pub take-more : (fs : List ℕ) (m : ℕ) → m < length fs → take m fs ++ (getD fs m 0 ∷ []) ≡ take (m + 1) fs
+take-more fs m h = sym (ap (λ (k : ℕ). take k fs) (add-one m) ∙ take-suc fs m 0 h)
+
+pub take-written : (fs : List ℕ) (m f : ℕ) → m < length fs → take (m + 1) (set fs m f) ≡ take m fs ++ (f ∷ [])
+take-written fs m f h = ap (λ (k : ℕ). take k (set fs m f)) (add-one m) ∙ take-suc-set fs m f h

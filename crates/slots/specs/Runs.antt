@@ -1,4 +1,5 @@
 -- Steps as the code reads them: decoded one by one, and taken in runs.
+use mathlib.Core.Path.{_≡_}
 use mathlib.Core.Bool.{Bool, true, false, cond}
 use mathlib.Core.List.{List, [], _∷_, map}
 use mathlib.Core.Option.{Option, none, some}
@@ -56,3 +57,8 @@ pub record RunAt (w : List ℕ) (first end to n s b c : ℕ) : Type 0 where
   pub order : first ≤ end
   pub inside : end ≤ length w
   pub slots : RunIn n s b c to (sourcesOf w first end to)
+
+-- the sources fs stand in front in a list of sources, and are r
+pub record Listed (fs : List ℕ) (r : ℕ) (sources : List ℕ) : Type 0 where
+  pub count : r ≡ length fs
+  pub front : take r sources ≡ fs

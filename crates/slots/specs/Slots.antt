@@ -32,12 +32,7 @@ pub record Among (k : ℕ) (fs : List ℕ) : Type 0 where
 abbrev pub plusPart : List ℕ → ℕ → List ℕ → List ℕ
 plusPart a off v = add XorGroup a (take (length a) (drop off v))
 
--- x is the k bytes of slot f from off on
-pub record PartOf (n s f off k : ℕ) (b c x : List ℕ) : Type 0 where
-  pub long : length x ≡ k
-  pub is : (st : List (List ℕ)) → Holds n s st b c → f < length st → x ≡ take k (drop off (getD st f []))
-
--- they are added to a
+-- the bytes of slot f from off on are added to a
 pub record PartAdded (n s f off : ℕ) (b c a a′ : List ℕ) : Type 0 where
   pub sum : (st : List (List ℕ)) → Holds n s st b c → f < length st → a′ ≡ plusPart a off (getD st f [])
 

@@ -2,12 +2,13 @@
 // run is carried out piece by piece: the sum of a piece's bytes is gathered, and written once.
 use plan::Decoded;
 use plan::Step;
+use table::wide;
 ghost use mathlib.Core.Path.{_≡_};
 ghost use Prim.Native.Nat.{_+_, _≤_, _<_};
 ghost use lib.ListN.{length, replicate};
 ghost use Rattle.plan.specs.Step.{unpack};
-ghost use Rattle.slots.specs.Runs.{stepIn, isClear, targetOf, sourceInto, sourcesOf, RunAt};
-ghost use Rattle.slots.specs.Slots.{SlotIn, PartOf, PartAdded, PartsAdded, PartPut, BaseAdded, Gathers};
+ghost use Rattle.slots.specs.Runs.{stepIn, isClear, targetOf, sourceInto, sourcesOf, RunAt, Listed};
+ghost use Rattle.slots.specs.Slots.{SlotIn, SlotsIn, PartAdded, PartsAdded, PartPut, BaseAdded, RunIn, Gathers};
 
 // ---- steps
 
@@ -57,46 +58,39 @@ fn source_into(x: Step, to: usize) -> usize
 
 // ---- parts of slots
 
-// The k bytes of slot f from off on.
-fn part_of<'a>(
-    f: usize,
-    off: usize,
-    k: usize,
-    n: usize,
-    s: usize,
-    block: &'a [u8],
-    scratch: &'a [u8],
-) -> &'a [u8]
-    requires slot { ⌜ SlotIn n s (length (now block)) (length (now scratch)) f ⌝ }
-    requires room { ⌜ off + k ≤ s ⌝ }
-    ensures { λ r. ⌜ PartOf n s f off k (now (block .entry)) (now (scratch .entry)) (now r) ⌝ }
-{
-    if f < n {
-        let start = f * s + off;
-        let end = start + k;
-        return &block[start..end];
-    }
-    let start = (f - n) * s + off;
-    let end = start + k;
-    &scratch[start..end]
-}
-
-// As many as acc has are added into acc.
-fn add_part<'a>(
-    acc: &mut [u8],
-    f: usize,
-    off: usize,
-    n: usize,
-    s: usize,
-    block: &'a [u8],
-    scratch: &'a [u8],
-)
+// The bytes of slot f from off on, as many as acc has, are added into acc.
+fn add_part(acc: &mut [u8], f: usize, off: usize, n: usize, s: usize, block: &[u8], scratch: &[u8])
     requires slot { ⌜ SlotIn n s (length (now block)) (length (now scratch)) f ⌝ }
     requires room { ⌜ off + length (now acc) ≤ s ⌝ }
     ensures { λ _. ⌜ PartAdded n s f off (now (block .entry)) (now (scratch .entry)) (now (acc .entry)) (now (acc .exit)) ⌝ }
 {
     let k = acc.len();
-    table::add_from(acc, 0, part_of(f, off, k, n, s, block, scratch), 0, k);
+    if f < n {
+        table::add_from(acc, 0, block, f * s + off, k);
+    } else {
+        table::add_from(acc, 0, scratch, (f - n) * s + off, k);
+    }
+}
+
+// Those of the slots of sources.
+fn add_sources(
+    acc: &mut [u8],
+    sources: &[u16],
+    off: usize,
+    n: usize,
+    s: usize,
+    block: &[u8],
+    scratch: &[u8],
+)
+    requires slots { ⌜ SlotsIn n s (length (now block)) (length (now scratch)) (now sources) ⌝ }
+    requires room { ⌜ off + length (now acc) ≤ s ⌝ }
+    ensures { λ _. ⌜ PartsAdded n s (now (sources .entry)) off (now (block .entry)) (now (scratch .entry)) (now (acc .entry)) (now (acc .exit)) ⌝ }
+{
+    let mut m = 0;
+    while m < sources.len() {
+        add_part(acc, wide(sources[m]), off, n, s, block, scratch);
+        m += 1;
+    }
 }
 
 // acc becomes the bytes of slot to from off on.
@@ -121,18 +115,18 @@ fn put_part(
     }
 }
 
-// ---- a run
+// ---- a run whose sources are listed
 
 // What a run starts from is added into acc: the bytes of slot to, none after a clear.
-fn add_base<'a>(
+fn add_base(
     acc: &mut [u8],
     to: usize,
     fresh: bool,
     off: usize,
     n: usize,
     s: usize,
-    block: &'a [u8],
-    scratch: &'a [u8],
+    block: &[u8],
+    scratch: &[u8],
 )
     requires slot { ⌜ SlotIn n s (length (now block)) (length (now scratch)) to ⌝ }
     requires room { ⌜ off + length (now acc) ≤ s ⌝ }
@@ -143,24 +137,141 @@ fn add_base<'a>(
     }
 }
 
-// Decodes the numbers from first on, up to end, while they are add steps into slot to; the bytes of
-// their slots from off on are added into acc. How many steps they are.
-fn add_steps<'a>(
+// The bytes of slot to from off on, as many as acc has, become what the run gives; acc is zero.
+fn run_part(
+    acc: &mut [u8],
+    sources: &[u16],
+    to: usize,
+    fresh: bool,
+    off: usize,
+    n: usize,
+    s: usize,
+    block: &mut [u8],
+    scratch: &mut [u8],
+)
+    requires slots { ⌜ RunIn n s (length (now block)) (length (now scratch)) to (now sources) ⌝ }
+    requires room { ⌜ off + length (now acc) ≤ s ⌝ }
+    requires zero { ⌜ now acc ≡ replicate (length (now acc)) 0 ⌝ }
+    ensures { λ _. ⌜ Gathers n s fresh to (now (sources .entry)) off (off + length (now (acc .entry)))
+        (now (block .entry)) (now (scratch .entry)) (now (block .exit)) (now (scratch .exit)) ⌝ }
+{
+    add_base(acc, to, fresh, off, n, s, block, scratch);
+    add_sources(acc, sources, off, n, s, block, scratch);
+    put_part(acc, to, off, n, s, block, scratch);
+}
+
+// The same for 128 bytes.
+fn run_big(
+    sources: &[u16],
+    to: usize,
+    fresh: bool,
+    off: usize,
+    n: usize,
+    s: usize,
+    block: &mut [u8],
+    scratch: &mut [u8],
+)
+    requires slots { ⌜ RunIn n s (length (now block)) (length (now scratch)) to (now sources) ⌝ }
+    requires room { ⌜ off + 128 ≤ s ⌝ }
+    ensures { λ _. ⌜ Gathers n s fresh to (now (sources .entry)) off (off + 128)
+        (now (block .entry)) (now (scratch .entry)) (now (block .exit)) (now (scratch .exit)) ⌝ }
+{
+    let mut acc = [0u8; 128];
+    run_part(&mut acc, sources, to, fresh, off, n, s, block, scratch);
+}
+
+// The same for 64 bytes.
+fn run_chunk(
+    sources: &[u16],
+    to: usize,
+    fresh: bool,
+    off: usize,
+    n: usize,
+    s: usize,
+    block: &mut [u8],
+    scratch: &mut [u8],
+)
+    requires slots { ⌜ RunIn n s (length (now block)) (length (now scratch)) to (now sources) ⌝ }
+    requires room { ⌜ off + 64 ≤ s ⌝ }
+    ensures { λ _. ⌜ Gathers n s fresh to (now (sources .entry)) off (off + 64)
+        (now (block .entry)) (now (scratch .entry)) (now (block .exit)) (now (scratch .exit)) ⌝ }
+{
+    let mut acc = [0u8; 64];
+    run_part(&mut acc, sources, to, fresh, off, n, s, block, scratch);
+}
+
+// The same for the last bytes, fewer than 64.
+fn run_rest(
+    sources: &[u16],
+    to: usize,
+    fresh: bool,
+    off: usize,
+    n: usize,
+    s: usize,
+    block: &mut [u8],
+    scratch: &mut [u8],
+)
+    requires slots { ⌜ RunIn n s (length (now block)) (length (now scratch)) to (now sources) ⌝ }
+    requires room { ⌜ (off ≤ s) × (s < off + 64) ⌝ }
+    ensures { λ _. ⌜ Gathers n s fresh to (now (sources .entry)) off s
+        (now (block .entry)) (now (scratch .entry)) (now (block .exit)) (now (scratch .exit)) ⌝ }
+{
+    let mut acc = [0u8; 64];
+    let k = s - off;
+    run_part(&mut acc[..k], sources, to, fresh, off, n, s, block, scratch);
+}
+
+// Slot to from its byte 64 on becomes what the run gives.
+fn add_rest(
+    sources: &[u16],
+    to: usize,
+    fresh: bool,
+    n: usize,
+    s: usize,
+    block: &mut [u8],
+    scratch: &mut [u8],
+)
+    requires slots { ⌜ RunIn n s (length (now block)) (length (now scratch)) to (now sources) ⌝ }
+    requires room { ⌜ 64 ≤ s ⌝ }
+    ensures { λ _. ⌜ Gathers n s fresh to (now (sources .entry)) 64 s
+        (now (block .entry)) (now (scratch .entry)) (now (block .exit)) (now (scratch .exit)) ⌝ }
+{
+    let mut off = 64;
+    while 128 <= s - off {
+        run_big(sources, to, fresh, off, n, s, block, scratch);
+        off += 128;
+    }
+    while 64 <= s - off {
+        run_chunk(sources, to, fresh, off, n, s, block, scratch);
+        off += 64;
+    }
+    if off == s {
+        return;
+    }
+    run_rest(sources, to, fresh, off, n, s, block, scratch);
+}
+
+// ---- a run from its steps
+
+// Decodes the numbers from first on, up to end, while they are add steps into slot to: lists their sources, and adds the first
+// bytes of these into acc. How many they are.
+fn collect(
     acc: &mut [u8],
     plan: &[u32],
     first: usize,
     end: usize,
     to: usize,
-    off: usize,
+    sources: &mut [u16],
     n: usize,
     s: usize,
-    block: &'a [u8],
-    scratch: &'a [u8],
+    block: &[u8],
+    scratch: &[u8],
 ) -> usize
     requires run { ⌜ RunAt (now plan) first end to n s (length (now block)) (length (now scratch)) ⌝ }
-    requires room { ⌜ off + length (now acc) ≤ s ⌝ }
-    ensures count { λ r. ⌜ r ≡ length (sourcesOf (now (plan .entry)) first end to) ⌝ }
-    ensures sum { λ _. ⌜ PartsAdded n s (sourcesOf (now (plan .entry)) first end to) off
+    requires room { ⌜ length (now acc) ≤ s ⌝ }
+    requires list { ⌜ end ≤ first + length (now sources) ⌝ }
+    ensures list { λ r. ⌜ Listed (sourcesOf (now (plan .entry)) first end to) r (now (sources .exit)) ⌝ }
+    ensures sum { λ _. ⌜ PartsAdded n s (sourcesOf (now (plan .entry)) first end to) 0
         (now (block .entry)) (now (scratch .entry)) (now (acc .entry)) (now (acc .exit)) ⌝ }
 {
     let most = end - first;
@@ -170,176 +281,89 @@ fn add_steps<'a>(
         if from >= 4096 {
             return count;
         }
-        add_part(acc, from, off, n, s, block, scratch);
+        sources[count] = from as u16;
+        add_part(acc, from, 0, n, s, block, scratch);
         count += 1;
     }
     count
 }
 
-// The bytes of slot to from off on, as many as acc has, become what the run gives; acc is zero.
-fn run_part(
-    acc: &mut [u8],
+// The first 64 bytes of slot to become what the run gives.
+fn start_chunk(
     plan: &[u32],
     first: usize,
     end: usize,
     to: usize,
     fresh: bool,
-    off: usize,
+    sources: &mut [u16],
     n: usize,
     s: usize,
     block: &mut [u8],
     scratch: &mut [u8],
 ) -> usize
     requires run { ⌜ RunAt (now plan) first end to n s (length (now block)) (length (now scratch)) ⌝ }
-    requires room { ⌜ off + length (now acc) ≤ s ⌝ }
-    requires zero { ⌜ now acc ≡ replicate (length (now acc)) 0 ⌝ }
-    ensures count { λ r. ⌜ r ≡ length (sourcesOf (now (plan .entry)) first end to) ⌝ }
-    ensures slot { λ _. ⌜ Gathers n s fresh to (sourcesOf (now (plan .entry)) first end to) off (off + length (now (acc .entry)))
+    requires room { ⌜ 64 ≤ s ⌝ }
+    requires list { ⌜ end ≤ first + length (now sources) ⌝ }
+    ensures list { λ r. ⌜ Listed (sourcesOf (now (plan .entry)) first end to) r (now (sources .exit)) ⌝ }
+    ensures slot { λ _. ⌜ Gathers n s fresh to (sourcesOf (now (plan .entry)) first end to) 0 64
         (now (block .entry)) (now (scratch .entry)) (now (block .exit)) (now (scratch .exit)) ⌝ }
 {
-    add_base(acc, to, fresh, off, n, s, block, scratch);
-    let count = add_steps(acc, plan, first, end, to, off, n, s, block, scratch);
-    put_part(acc, to, off, n, s, block, scratch);
+    let mut acc = [0u8; 64];
+    add_base(&mut acc, to, fresh, 0, n, s, block, scratch);
+    let count = collect(
+        &mut acc,
+        plan,
+        first,
+        end,
+        to,
+        sources,
+        n,
+        s,
+        block,
+        scratch,
+    );
+    put_part(&acc, to, 0, n, s, block, scratch);
     count
 }
 
-// The same for 128 bytes.
-fn run_big(
-    plan: &[u32],
-    first: usize,
-    end: usize,
-    to: usize,
-    fresh: bool,
-    off: usize,
-    n: usize,
-    s: usize,
-    block: &mut [u8],
-    scratch: &mut [u8],
-) -> usize
-    requires run { ⌜ RunAt (now plan) first end to n s (length (now block)) (length (now scratch)) ⌝ }
-    requires room { ⌜ off + 128 ≤ s ⌝ }
-    ensures count { λ r. ⌜ r ≡ length (sourcesOf (now (plan .entry)) first end to) ⌝ }
-    ensures slot { λ _. ⌜ Gathers n s fresh to (sourcesOf (now (plan .entry)) first end to) off (off + 128)
-        (now (block .entry)) (now (scratch .entry)) (now (block .exit)) (now (scratch .exit)) ⌝ }
-{
-    let mut acc = [0u8; 128];
-    run_part(
-        &mut acc,
-        plan,
-        first,
-        end,
-        to,
-        fresh,
-        off,
-        n,
-        s,
-        block,
-        scratch,
-    )
-}
-
-// The same for 64 bytes.
-fn run_chunk(
-    plan: &[u32],
-    first: usize,
-    end: usize,
-    to: usize,
-    fresh: bool,
-    off: usize,
-    n: usize,
-    s: usize,
-    block: &mut [u8],
-    scratch: &mut [u8],
-) -> usize
-    requires run { ⌜ RunAt (now plan) first end to n s (length (now block)) (length (now scratch)) ⌝ }
-    requires room { ⌜ off + 64 ≤ s ⌝ }
-    ensures count { λ r. ⌜ r ≡ length (sourcesOf (now (plan .entry)) first end to) ⌝ }
-    ensures slot { λ _. ⌜ Gathers n s fresh to (sourcesOf (now (plan .entry)) first end to) off (off + 64)
-        (now (block .entry)) (now (scratch .entry)) (now (block .exit)) (now (scratch .exit)) ⌝ }
-{
-    let mut acc = [0u8; 64];
-    run_part(
-        &mut acc,
-        plan,
-        first,
-        end,
-        to,
-        fresh,
-        off,
-        n,
-        s,
-        block,
-        scratch,
-    )
-}
-
-// The same for the last bytes, fewer than 64.
-fn run_rest(
-    plan: &[u32],
-    first: usize,
-    end: usize,
-    to: usize,
-    fresh: bool,
-    off: usize,
-    n: usize,
-    s: usize,
-    block: &mut [u8],
-    scratch: &mut [u8],
-) -> usize
-    requires run { ⌜ RunAt (now plan) first end to n s (length (now block)) (length (now scratch)) ⌝ }
-    requires room { ⌜ (off ≤ s) × (s < off + 64) ⌝ }
-    ensures count { λ r. ⌜ r ≡ length (sourcesOf (now (plan .entry)) first end to) ⌝ }
-    ensures slot { λ _. ⌜ Gathers n s fresh to (sourcesOf (now (plan .entry)) first end to) off s
-        (now (block .entry)) (now (scratch .entry)) (now (block .exit)) (now (scratch .exit)) ⌝ }
-{
-    let mut acc = [0u8; 64];
-    let k = s - off;
-    run_part(
-        &mut acc[..k],
-        plan,
-        first,
-        end,
-        to,
-        fresh,
-        off,
-        n,
-        s,
-        block,
-        scratch,
-    )
-}
-
-// Slot to becomes what the run gives: cleared or not, and then the add steps into it from first on,
-// up to end. How many these are.
+// Slot to becomes what the run gives: cleared or not, and then the add steps into it from first on, up to end. How many these
+// are; their sources are listed.
 pub fn add_run(
     plan: &[u32],
     first: usize,
     end: usize,
     to: usize,
     fresh: bool,
+    sources: &mut [u16],
     n: usize,
     s: usize,
     block: &mut [u8],
     scratch: &mut [u8],
 ) -> usize
     requires run { ⌜ RunAt (now plan) first end to n s (length (now block)) (length (now scratch)) ⌝ }
-    requires bytes { ⌜ 1 ≤ s ⌝ }
-    ensures count { λ r. ⌜ r ≡ length (sourcesOf (now (plan .entry)) first end to) ⌝ }
+    requires list { ⌜ end ≤ first + length (now sources) ⌝ }
+    ensures list { λ r. ⌜ Listed (sourcesOf (now (plan .entry)) first end to) r (now (sources .exit)) ⌝ }
     ensures slot { λ _. ⌜ Gathers n s fresh to (sourcesOf (now (plan .entry)) first end to) 0 s
         (now (block .entry)) (now (scratch .entry)) (now (block .exit)) (now (scratch .exit)) ⌝ }
 {
-    let mut count = 0;
-    let mut off = 0;
-    while 128 <= s - off {
-        count = run_big(plan, first, end, to, fresh, off, n, s, block, scratch);
-        off += 128;
-    }
-    while 64 <= s - off {
-        count = run_chunk(plan, first, end, to, fresh, off, n, s, block, scratch);
-        off += 64;
-    }
-    if off == s {
+    if s < 64 {
+        let mut none = [0u8; 1];
+        let count = collect(
+            &mut none[..0],
+            plan,
+            first,
+            end,
+            to,
+            sources,
+            n,
+            s,
+            block,
+            scratch,
+        );
+        run_rest(&sources[..count], to, fresh, 0, n, s, block, scratch);
         return count;
     }
-    run_rest(plan, first, end, to, fresh, off, n, s, block, scratch)
+    let count = start_chunk(plan, first, end, to, fresh, sources, n, s, block, scratch);
+    add_rest(&sources[..count], to, fresh, n, s, block, scratch);
+    count
 }

@@ -55,7 +55,7 @@ run-requires c κs =
     let a = c .before .before .before .before .before .before .before .before .before .before .before .before .before .before .before .before .before .before .before .before .args in let w = a .plan .now in let e = c .before .before .before .before .before .before .before .before .before .before .before .before .before .size .ensures in
     let ok = right-lengths w (length (a .information .now)) (length (a .block .now)) (length (a .scratch .now)) (sym (c .before .before .before .before .before .before .before .before .before .before .before .before .before .before .before .look-over .ensures) ∙ c .before .before .before .before .before .before .before .before .before .before .before .before .before .before .if1 .left)
     (rw e at (sym (c .before .before .before .before .before .before .before .before .before .before .before .before .wrong-lengths .ensures) ∙ c .before .before .before .before .before .before .before .before .before .before .before .if2 .left)) in
-    (lent e ok (c .before .before .before .before .before .block .given) (c .before .before .before .scratch .given), (omega (arith, min-le-right (a .limit) (stepCount w)), (let k = well w (ok .plan) .counts in omega arith)))
+    (lent e ok (c .before .before .before .before .before .block .given) (c .before .before .before .scratch .given), omega (arith, min-le-right (a .limit) (stepCount w)))
 
 same-length : tie.Need-same-length
 same-length c = search needs

@@ -7,8 +7,8 @@ use Rattle.slots.proofs.run_part.Tie as tie
 add-base-requires : tie.Need-add-base-requires
 add-base-requires c κs = search needs
 
-add-steps-requires : tie.Need-add-steps-requires
-add-steps-requires c κs = search needs
+add-sources-requires : tie.Need-add-sources-requires
+add-sources-requires c κs = search needs
 
 put-part-requires : tie.Need-put-part-requires
 put-part-requires c κs = search needs
@@ -24,15 +24,16 @@ same-length-3 c = search needs
 
 returns : tie.Need-returns
 returns c =
-    let a = c .before .before .before .before .before .before .before .before .before .before .before .before .before .before .before .before .before .before .before .before .before .before .before .before .args in let p = c .before .before .before .before .before .before .before .before .before .before .before .before .before .before .before .before .before .before .before .before .before .before .before .before .pre in let e = c .before .before .before .before .before .before .before .before .before .before .add-steps .ensures in
-    (e .0, gathers-part (a .off) (a .acc .now) _ _ (p .1 .1) (p .1 .0) (c .before .before .before .before .before .before .before .before .before .before .before .before .before .before .before .before .add-base .kept .0) (c .before .before .before .before .before .before .before .before .before .before .before .before .before .before .before .before .add-base .ensures) (e .1) (c .before .before .before .before .put-part .ensures))
+    let a = c .before .before .before .before .before .before .before .before .before .before .before .before .before .before .before .before .before .before .before .before .before .before .before .before .args in
+    let p = c .before .before .before .before .before .before .before .before .before .before .before .before .before .before .before .before .before .before .before .before .before .before .before .before .pre in
+    gathers-part (a .off) (a .acc .now) _ _ (p .1 .1) (p .1 .0) (c .before .before .before .before .before .before .before .before .before .before .before .before .before .before .before .before .add-base .kept .0) (c .before .before .before .before .before .before .before .before .before .before .before .before .before .before .before .before .add-base .ensures) (c .before .before .before .before .before .before .before .before .before .before .add-sources .ensures) (c .before .before .before .before .put-part .ensures)
 
 pub run-part-spec : {M : Type 1} → statement M
 run-part-spec =
     tie.close
     (tie.spec
     add-base-requires
-    add-steps-requires
+    add-sources-requires
     put-part-requires
     same-length
     same-length-2

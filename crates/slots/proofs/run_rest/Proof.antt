@@ -39,8 +39,7 @@ returns c =
     let k = a .s - a .off in
     let e = length-take-le k (replicate {A = ℕ} 64 0) (omega arith) in
     let d : a .off + length (take k (replicate {A = ℕ} 64 0)) ≡ a .s = omega arith in
-    let r = c .before .before .before .before .before .run-part .ensures in
-    (r .0, gathers-as d (r .1))
+    gathers-as d (c .before .before .before .before .before .run-part .ensures)
 
 pub run-rest-spec : {M : Type 1} → statement M
 run-rest-spec =
