@@ -221,9 +221,12 @@ pub fn encode(
     scratch: &mut [u8],
     limit: usize,
 ) -> Encoded
-    ensures answer { λ r. ⌜ answerOf r ≡ encodeAnswer (now (plan .entry)) (now (information .entry)) (now (block .entry)) (now (scratch .entry)) limit ⌝ }
-    ensures block { λ _. ⌜ now (block .exit) ≡ blockAfter (now (plan .entry)) (now (information .entry)) (now (block .entry)) (now (scratch .entry)) limit ⌝ }
-    ensures scratch { λ _. ⌜ now (scratch .exit) ≡ scratchAfter (now (plan .entry)) (now (information .entry)) (now (block .entry)) (now (scratch .entry)) limit ⌝ }
+    ensures answer { λ r. ⌜ answerOf r
+        ≡ encodeAnswer (now (plan .entry)) (now (information .entry)) (now (block .entry)) (now (scratch .entry)) limit ⌝ }
+    ensures block { λ _. ⌜ now (block .exit)
+        ≡ blockAfter (now (plan .entry)) (now (information .entry)) (now (block .entry)) (now (scratch .entry)) limit ⌝ }
+    ensures scratch { λ _. ⌜ now (scratch .exit)
+        ≡ scratchAfter (now (plan .entry)) (now (information .entry)) (now (block .entry)) (now (scratch .entry)) limit ⌝ }
 {
     let refusal = plan::look_over(plan);
     if refusal != 0 {

@@ -9,11 +9,12 @@ use lib.ListN.{length-append, length-take, length-drop, List·getD-append, lengt
 use lib.Seq.{take-suc, take-suc-set, take-set-le, take-set-lt, drop-set-lt, drop-set-add, getD-take, getD-drop, getD-append-seam, take-all, drop-drop}
 use Rattle.gf2.specs.Group.{XorGroup}
 use Rattle.gf2.specs.Lists.{all-getD, all-set}
-use Rattle.gf2.specs.Vectors.{add, add-assoc, add-comm, add-zl}
+use Rattle.gf2.specs.Vectors.{add}
 use Rattle.table.specs.BufferLaws.{Patched, patched-same, side, part-length, getD-part, written-bytes, written-length, mixed-whole, place-fits, packet-part, set-written}
+use Rattle.table.specs.GatherLaws.{plus-zeros, one-more}
 use Rattle.table.specs.PacketLaws.{joined-length}
-use Rattle.table.specs.Packets.{Packets, joined, packetSum, written, mixed}
-use Rattle.table.specs.SumLaws.{part-of-part, part-sum, part-zeros, sum-snoc}
+use Rattle.table.specs.Packets.{Packets, joined, written, mixed}
+use Rattle.table.specs.SumLaws.{part-of-part, part-zeros}
 use Rattle.slots.specs.Slots.{Holds, Among, plusPart, PartAdded, PartsAdded}
 use Rattle.slots.specs.SlotLaws.{all-take, all-drop}
 
@@ -136,7 +137,7 @@ module _ (n s : ℕ) (st : List (List ℕ)) (b c : List ℕ) (h : Holds n s st b
 -- ---- sums of slots
 -- zeros add nothing
 pub zeros-added : (s off : ℕ) (a : List ℕ) → off + length a ≤ s → a ≡ plusPart a off (replicate s 0)
-zeros-added s off a fits = sym (ap (add XorGroup a) (part-zeros off (length a) s fits) ∙ add-comm XorGroup a (replicate (length a) 0) ∙ add-zl XorGroup a (length a) refl)
+zeros-added s off a fits = plus-zeros a _ (part-zeros off (length a) s fits)
 
 -- no slot yet
 pub parts-none : {n s off : ℕ} {b c a : List ℕ} → off + length a ≤ s → PartsAdded n s [] off b c a a
@@ -155,12 +156,8 @@ pub parts-more : {n s off f : ℕ} {fs b c z a r : List ℕ} → length a ≡ le
 parts-more {n} {s} {off} {f} {fs} {b} {c} {z} {a} {r} long p q = record {
   sum = λ st h l.
       let m = among-more fs l in
-      let k = length z in
-      let v = packetSum s st fs in
-      let y = getD st f [] in
-      q .sum st h (m .1) ∙ ap₂ (λ (x : List ℕ) (j : ℕ). add XorGroup x (take j (drop off y))) (p .sum st h (m .0)) long
-      ∙ add-assoc XorGroup z (take k (drop off v)) (take k (drop off y))
-      ∙ ap (add XorGroup z) (sym (ap (λ x. take k (drop off x)) (sum-snoc s st fs f) ∙ part-sum off k v y));
+      q .sum st h (m .1) ∙ ap₂ (λ (x : List ℕ) (j : ℕ). add XorGroup x (take j (drop off (getD st f [])))) (p .sum st h (m .0)) long
+      ∙ one-more s st off fs f (length z) z;
 }
 
 pub parts-as : {n s off : ℕ} {fs gs b c a a′ : List ℕ} → fs ≡ gs → PartsAdded n s fs off b c a a′ → PartsAdded n s gs off b c a a′

@@ -29,16 +29,22 @@ module _ (s : ℕ) (ps : List (List ℕ)) (off : ℕ) where
   pub gathered-as : {fs fs′ a₀ a a′ : List ℕ} → fs ≡ fs′ → a′ ≡ a → Gathered s ps off fs a₀ a → Gathered s ps off fs′ a₀ a′
   gathered-as e f g = rw (← e, f) g
 
+  -- the packet at one place more is added to what the places fs give
+  pub one-more : (fs : List ℕ) (q k : ℕ) (a : List ℕ)
+      → add XorGroup (add XorGroup a (take k (drop off (packetSum s ps fs)))) (take k (drop off (getD ps q [])))
+      ≡ add XorGroup a (take k (drop off (packetSum s ps (fs ++ (q ∷ [])))))
+  one-more fs q k a =
+      let p = packetSum s ps fs in
+      add-assoc XorGroup a (take k (drop off p)) (take k (drop off (getD ps q [])))
+      ∙ ap (add XorGroup a) (sym (ap (λ y. take k (drop off y)) (sum-snoc s ps fs q) ∙ part-sum off k p (getD ps q [])))
+
   -- one place more
   pub gathered-more : {fs a₀ a r : List ℕ} (q : ℕ) (x : List ℕ) → Gathered s ps off fs a₀ a → length x ≡ length a
       → x ≡ take (length a₀) (drop off (getD ps q [])) → r ≡ mixed a 0 x → Gathered s ps off (fs ++ (q ∷ [])) a₀ r
   gathered-more {fs} {a₀} {a} {r} q x g long e f =
-      let k = length a₀ in
-      let p = packetSum s ps fs in
       record {
         len = ap length f ∙ mixed-length a 0 x (omega arith) ∙ g .len;
-        is = f ∙ mixed-whole a x long ∙ ap₂ (add XorGroup) (g .is) e ∙ add-assoc XorGroup a₀ (take k (drop off p)) (take k (drop off (getD ps q [])))
-            ∙ ap (add XorGroup a₀) (sym (ap (λ y. take k (drop off y)) (sum-snoc s ps fs q) ∙ part-sum off k p (getD ps q [])));
+        is = f ∙ mixed-whole a x long ∙ ap₂ (add XorGroup) (g .is) e ∙ one-more fs q (length a₀) a₀;
       }
 
   module _ (fs : List ℕ) (long : length (packetSum s ps fs) ≡ s) where
