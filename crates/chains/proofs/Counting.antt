@@ -12,11 +12,11 @@ use Rattle.table.specs.Checks.{offset, check, Places}
 use Rattle.chains.specs.Linked.{Counted}
 use Rattle.erasure.specs.Restoring.{lostPlaces}
 use Rattle.erasure.specs.Stopping.{isLost}
-use Rattle.table.specs.TableUse.{TableOf, light, places-at}
+use Rattle.table.specs.Accepted.{Accepted, light, places-at}
 use Rattle.erasure.specs.LostLaws.{filter-less}
 
 -- check j as the code has it
-module _ (t : List ℕ) (m n s : ℕ) (k : TableOf t m n s) (j : ℕ) (h : j < m) (a w : ℕ) (at : a ≡ 5 + m + offset t j) (weight : w ≡ getD t (4 + j) 0) where
+module _ (t : List ℕ) (m n s : ℕ) (k : Accepted t m n s) (j : ℕ) (h : j < m) (a w : ℕ) (at : a ≡ 5 + m + offset t j) (weight : w ≡ getD t (4 + j) 0) where
   pub run-is : take w (drop a t) ≡ check t m j
   unfolding check
   run-is = rw (at, weight)

@@ -19,7 +19,7 @@ use Rattle.chains.specs.Linked.{Chain, Chain.end, Chain.link, Links, Lin
 use Rattle.erasure.specs.Restoring.{lostPlaces}
 use Rattle.erasure.specs.RestoringLaws.{lost-inside}
 use Rattle.erasure.specs.Stopping.{isLost}
-use Rattle.table.specs.TableUse.{TableOf, offset-more, offset-last}
+use Rattle.table.specs.Accepted.{Accepted, offset-more, offset-last}
 use Rattle.chains.proofs.Counting.{run-is}
 
 -- ---- a chain
@@ -135,7 +135,7 @@ pub links-none : (nx ow head : List ℕ) (x : ℕ) (f : ℕ → List ℕ) → ((
 unfolding holders
 links-none nx ow head x f h = record { each = λ p k. rw (h p) end }
 
-module _ (t : List ℕ) (m n s : ℕ) (k : TableOf t m n s) where
+module _ (t : List ℕ) (m n s : ℕ) (k : Accepted t m n s) where
   -- one check more
   pub links-more : (j : ℕ) → j < m → (a w : ℕ) → a ≡ 5 + m + offset t j → w ≡ getD t (4 + j) 0 → (nx ow head : List ℕ)
       → Links nx ow head (a + w) (partly (take w (drop a t)) j (λ p. holders (check t m) p j)) → Links nx ow head (5 + m + offset t (j + 1)) (λ p. holders (check t m) p (j + 1))

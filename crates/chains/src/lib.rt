@@ -5,7 +5,7 @@ ghost use mathlib.Core.Path.{_≡_};
 ghost use Prim.Native.Nat.{ℕ, _+_, _≤_};
 ghost use lib.ListN.{length, getD, take, drop};
 ghost use Rattle.table.specs.Checks.{check, Places, Starts};
-ghost use Rattle.table.specs.TableUse.{TableOf};
+ghost use Rattle.table.specs.Accepted.{Accepted};
 ghost use Rattle.erasure.specs.Restoring.{lostPlaces};
 ghost use Rattle.chains.specs.Linked.{Links, withCheck, Counted, Walk, Walked, LowestOne, holders};
 
@@ -36,7 +36,7 @@ pub fn count_all(
     map: &[u8],
     count: &mut [u16],
 )
-    requires { ⌜ TableOf (now t) m n s × Starts (now t) m (now starts) × (length (now map) ≡ n) × (m ≤ length (now count)) ⌝ }
+    requires { ⌜ Accepted (now t) m n s × Starts (now t) m (now starts) × (length (now map) ≡ n) × (m ≤ length (now count)) ⌝ }
     ensures { λ _. ⌜ Counted (now (t .entry)) m (now (map .entry)) (now (count .exit)) ⌝ }
 {
     let mut j = 0;
@@ -94,7 +94,7 @@ pub fn link_all(
     owner: &mut [u16],
 )
     requires { ⌜
-        TableOf (now t) m n s
+        Accepted (now t) m n s
         × Starts (now t) m (now starts)
         × (n ≤ length (now head))
         × (length (now t) ≤ length (now next))

@@ -7,7 +7,7 @@ use lib.ListN.{length}
 use Rattle.gf2.specs.ListLaws.{length-rev}
 use Rattle.gf2.specs.Lists.{rev}
 use Rattle.plan.specs.Step.{addSteps}
-use Rattle.rule.specs.Accepted.{length-steps}
+use Rattle.rule.specs.WithinLimits.{length-steps}
 use Rattle.rule.specs.Bound.{count-steps}
 use Rattle.rule.specs.Count.{solving-clears, scratch-clears, fitting-clears}
 use Rattle.rule.specs.Rule.{Solved, planSteps, fittedPlaces, inverse, reduced}

@@ -14,7 +14,7 @@ use Rattle.plan.specs.declared.Step.{Step}
 use Rattle.plan.specs.Head.{HeadFits}
 use Rattle.plan.specs.Layout.{mostSteps, leastPlan, leastNumbers, planHead, infoNumbers, stepNumbers, planNumbers, infoCountAt}
 use Rattle.plan.specs.Step.{addSteps}
-use Rattle.rule.specs.Accepted.{steps-limit, numbers-limit, kept-length}
+use Rattle.rule.specs.WithinLimits.{steps-limit, numbers-limit, kept-length}
 use Rattle.rule.specs.Buffers.{solved, peeling}
 use Rattle.rule.specs.PlanOf.{planOf, numbersOf}
 use Rattle.rule.specs.Rule.{Solved, owns, planSteps, fittedPlaces, solvedOf, setAsideOf}

@@ -11,8 +11,8 @@ use Rattle.table.specs.Packets.{joined}
 use Rattle.plan.specs.Layout.{planPlaces, planSize, planGap, infoCount, stepCount, stepsOf}
 use Rattle.plan.specs.Step.{addSteps}
 use Rattle.plan.specs.Steps.{carryOutAll}
-use Rattle.encoder.specs.Encoding.{slotsAfter, wrongLengths, Answer, encodes, encodeAnswer, blockAfter, scratchAfter}
-use Rattle.encoder.specs.EncodingLaws.{Accepted, not-refused-at, refused-answer, refused-keeps-block, refused-keeps-scratch, accepted-answer, accepted-block, accepted-scratch, limit-least}
+use Rattle.encoder.specs.Encoding.{slotsAfter, wrongLengths, Answer, encodingRefused, encodeAnswer, blockAfter, scratchAfter}
+use Rattle.encoder.specs.EncodingLaws.{AcceptedEncoding, not-refused-at, refused-answer, refused-keeps-block, refused-keeps-scratch, accepted-answer, accepted-block, accepted-scratch, limit-least}
 use Rattle.encoder.specs.Phases.{Lent, Ran, startOf}
 use Rattle.encoder.specs.Start.{slotsIn, PreparedFor}
 use Rattle.encoder.proofs.StartLaws.{slots-length, slots-held, start-alike}
@@ -32,7 +32,7 @@ module _ (w : List ℕ) (s i b c : ℕ) where
   lengths-scratch h k = rw (eq-eqb i (infoCount w * s) h, eq-eqb b (planPlaces w * s) k)
 
 -- the buffers are then lent as they should be
-pub lent : {w : List ℕ} {s i b c b′ c′ : ℕ} → s ≡ planSize w → Accepted w i b c → b′ ≡ b → c′ ≡ c → Lent w s b′ c′
+pub lent : {w : List ℕ} {s i b c b′ c′ : ℕ} → s ≡ planSize w → AcceptedEncoding w i b c → b′ ≡ b → c′ ≡ c → Lent w s b′ c′
 lent {w} e a h k = record { formed = a .plan; block = h ∙ a .block ∙ ap (λ (x : ℕ). planPlaces w * x) (sym e); scratch = k ∙ a .scratch ∙ ap (λ (x : ℕ). planGap w * x) (sym e) }
 
 -- ---- the ways out
@@ -43,14 +43,14 @@ module _ (w information block scratch : List ℕ) (limit : ℕ) where
       (a ≡ encodeAnswer w information block scratch limit)
       × ((b ≡ blockAfter w information block scratch limit) × (c ≡ scratchAfter w information block scratch limit))
 
-  pub refused-call : (r : ℕ) → encodes w information block scratch limit ≡ r → (r ≡ 0 → ⊥) → Ensured (record { refusal = r; additions = 0 }) block scratch
+  pub refused-call : (r : ℕ) → encodingRefused w information block scratch limit ≡ r → (r ≡ 0 → ⊥) → Ensured (record { refusal = r; additions = 0 }) block scratch
   refused-call r e h =
-      let no : encodes w information block scratch limit ≡ 0 → ⊥ = λ z. h (sym e ∙ z) in (
+      let no : encodingRefused w information block scratch limit ≡ 0 → ⊥ = λ z. h (sym e ∙ z) in (
         ap (λ (x : ℕ). record { refusal = x; additions = 0 }) (sym e) ∙ sym (refused-answer w information block scratch limit no),
         (sym (refused-keeps-block w information block scratch limit no), sym (refused-keeps-scratch w information block scratch limit no)),
       )
 
-  pub accepted-call : (s r : ℕ) (b c b′ c′ : List ℕ) → s ≡ planSize w → Accepted w (length information) (length block) (length scratch)
+  pub accepted-call : (s r : ℕ) (b c b′ c′ : List ℕ) → s ≡ planSize w → AcceptedEncoding w (length information) (length block) (length scratch)
       → Lent w s (length b) (length c) → PreparedFor w s (take (min limit (stepCount w)) (stepsOf w)) information b c
       → Ran w s (min limit (stepCount w)) r b c b′ c′ → Ensured (record { refusal = 0; additions = r }) b′ c′
   accepted-call s r b c b′ c′ e a l h p =

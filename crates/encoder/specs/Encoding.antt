@@ -43,15 +43,15 @@ answerAt zero additions = record { refusal = 0; additions = additions }
 answerAt (suc r) additions = record { refusal = suc r; additions = 0 }
 
 module _ (w information block scratch : List ℕ) (limit : ℕ) where
-  abbrev pub encodes : ℕ
-  encodes = encodeRefusal w (length information) (length block) (length scratch)
+  abbrev pub encodingRefused : ℕ
+  encodingRefused = encodeRefusal w (length information) (length block) (length scratch)
 
   abbrev pub encodeAnswer : Answer
-  encodeAnswer = answerAt encodes (addSteps (stepsWithin w limit))
+  encodeAnswer = answerAt encodingRefused (addSteps (stepsWithin w limit))
 
   -- "slots 0 to n − 1 in a row are the block, the others the scratch"; on refusal as they were
   abbrev pub blockAfter : List ℕ
-  blockAfter = elim (eqb encodes 0) [ true ↦ joined (take (planPlaces w) (slotsAfter w information limit)) | false ↦ block ]
+  blockAfter = elim (eqb encodingRefused 0) [ true ↦ joined (take (planPlaces w) (slotsAfter w information limit)) | false ↦ block ]
 
   abbrev pub scratchAfter : List ℕ
-  scratchAfter = elim (eqb encodes 0) [ true ↦ joined (drop (planPlaces w) (slotsAfter w information limit)) | false ↦ scratch ]
+  scratchAfter = elim (eqb encodingRefused 0) [ true ↦ joined (drop (planPlaces w) (slotsAfter w information limit)) | false ↦ scratch ]

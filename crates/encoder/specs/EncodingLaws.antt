@@ -18,11 +18,11 @@ use Rattle.plan.specs.Layout.{planPlaces, planSize, planGap, infoCount, infoIn,
 use Rattle.plan.specs.LayoutLaws.{formed, not-refused, steps-length, or-left, or-right}
 use Rattle.plan.specs.Step.{addSteps}
 use Rattle.plan.specs.Steps.{carryOutAll, atStart}
-use Rattle.encoder.specs.Encoding.{stepsWithin, slotsAfter, wrongLengths, encodeRefusal, Answer, answerAt, encodes, encodeAnswer, blockAfter, scratchAfter}
+use Rattle.encoder.specs.Encoding.{stepsWithin, slotsAfter, wrongLengths, encodeRefusal, Answer, answerAt, encodingRefused, encodeAnswer, blockAfter, scratchAfter}
 
 -- ---- the refusal
 -- an encoding of information, block and scratch of i, b and c bytes that is not refused
-pub record Accepted (w : List ℕ) (i b c : ℕ) : Type 0 where
+pub record AcceptedEncoding (w : List ℕ) (i b c : ℕ) : Type 0 where
   pub plan : planRefusal w ≡ 0
   pub information : i ≡ infoCount w * planSize w
   pub block : b ≡ planPlaces w * planSize w
@@ -45,7 +45,7 @@ module _ (w : List ℕ) (i b c : ℕ) where
   pub refused-lengths : planRefusal w ≡ 0 → wrongLengths w (planSize w) i b c ≡ true → encodeRefusal w i b c ≡ 5
   refused-lengths p h = at-lengths p ∙ ap (λ (x : Bool). cond x 5 0) h
 
-  pub not-refused-at : Accepted w i b c → encodeRefusal w i b c ≡ 0
+  pub not-refused-at : AcceptedEncoding w i b c → encodeRefusal w i b c ≡ 0
   not-refused-at a = at-lengths (a .plan) ∙ rw (
     eq-eqb i (infoCount w * planSize w) (a .information),
     eq-eqb b (planPlaces w * planSize w) (a .block),
@@ -53,7 +53,7 @@ module _ (w : List ℕ) (i b c : ℕ) where
   )
 
   -- no wrong length
-  pub right-lengths : planRefusal w ≡ 0 → wrongLengths w (planSize w) i b c ≡ false → Accepted w i b c
+  pub right-lengths : planRefusal w ≡ 0 → wrongLengths w (planSize w) i b c ≡ false → AcceptedEncoding w i b c
   right-lengths p h =
       let u = wrongLength i (infoCount w * planSize w) in let v = wrongLength b (planPlaces w * planSize w) in let x = wrongLength c (planGap w * planSize w) in
       let r = or-right u (v || x) h in
@@ -63,17 +63,17 @@ module _ (w : List ℕ) (i b c : ℕ) where
       same {x} {y} e = eqb-true x y (not-false (eqb x y) e)
 
   -- 0 says accepted
-  pub accepted : encodeRefusal w i b c ≡ 0 → Accepted w i b c
+  pub accepted : encodeRefusal w i b c ≡ 0 → AcceptedEncoding w i b c
   unfolding encodeRefusal
   accepted h = let r = none-refuses (planCauses w) refl own h in go (r .0) (none-holds own refl (r .1))
     where
-      go : planRefusal w ≡ 0 → NoneHolds own → Accepted w i b c
+      go : planRefusal w ≡ 0 → NoneHolds own → AcceptedEncoding w i b c
       go p (cons e n) = right-lengths p e
 
 -- ---- the answer and the buffers
 module _ (w information block scratch : List ℕ) (limit : ℕ) where
   abbrev cause : ℕ
-  cause = encodes w information block scratch limit
+  cause = encodingRefused w information block scratch limit
 
   -- refused: the buffers as they were, count 0
   pub refused-answer : (cause ≡ 0 → ⊥) → encodeAnswer w information block scratch limit ≡ record { refusal = cause; additions = 0 }
@@ -104,7 +104,7 @@ module _ (w information block scratch : List ℕ) (limit : ℕ) where
   count-within h = ap (λ (a : Answer). a .additions) (accepted-answer h)
 
 -- plan and limit alone decide it
-pub count-alike : (w : List ℕ) (limit : ℕ) (i b c i′ b′ c′ : List ℕ) → encodes w i b c limit ≡ 0 → encodes w i′ b′ c′ limit ≡ 0
+pub count-alike : (w : List ℕ) (limit : ℕ) (i b c i′ b′ c′ : List ℕ) → encodingRefused w i b c limit ≡ 0 → encodingRefused w i′ b′ c′ limit ≡ 0
     → encodeAnswer w i b c limit .additions ≡ encodeAnswer w i′ b′ c′ limit .additions
 count-alike w limit i b c i′ b′ c′ h k = count-within w i b c limit h ∙ sym (count-within w i′ b′ c′ limit k)
 

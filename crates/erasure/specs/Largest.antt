@@ -37,10 +37,10 @@ set-lost (x ∷ l) (suc q) zero h = h
 set-lost (x ∷ l) (suc q) (suc p) h = set-lost l q p h
 
 -- nor in the whole of repair
-pub restoring-within : (k s : ℕ) (cs : List (List ℕ)) (m : State) (p : ℕ) → isLost (restoring k s cs m .lost) p ≡ true → isLost (m .lost) p ≡ true
+pub restoring-within : (k s : ℕ) (cs : List (List ℕ)) (m : State) (p : ℕ) → isLost (restoring k s cs m .map) p ≡ true → isLost (m .map) p ≡ true
 restoring-within zero s cs m p h = h
-restoring-within (suc k) s cs m p h = byOpt (ready (m .lost) cs)
-    (λ c r. set-lost (m .lost) _ p (restoring-within k s cs _ p (rw (r, restoring) at h)))
+restoring-within (suc k) s cs m p h = byOpt (ready (m .map) cs)
+    (λ c r. set-lost (m .map) _ p (restoring-within k s cs _ p (rw (r, restoring) at h)))
     (λ r. rw (r, restoring) at h)
 
 -- where no check has exactly one lost place, the lost places are a stopping set
@@ -60,32 +60,32 @@ lost-most (x ∷ l) = let h = lost-most l in byBool (eqb x 1) (λ e. rw (e, lost
 
 module _ (n s : ℕ) (cs b : List (List ℕ)) (lost : List ℕ) (long : length lost ≡ n) where
   -- what stays lost is a stopping set ..
-  pub left-stopping : Stopping cs (isLost (repaired n s cs b lost .lost))
-  left-stopping = none-stopping (repaired n s cs b lost .lost) cs (stops n s cs _ (let h = lost-most lost in omega arith))
+  pub left-stopping : Stopping cs (isLost (repaired n s cs b lost .map))
+  left-stopping = none-stopping (repaired n s cs b lost .map) cs (stops n s cs _ (let h = lost-most lost in omega arith))
 
   -- .. within the lost places ..
-  pub left-within : (p : ℕ) → isLost (repaired n s cs b lost .lost) p ≡ true → isLost lost p ≡ true
+  pub left-within : (p : ℕ) → isLost (repaired n s cs b lost .map) p ≡ true → isLost lost p ≡ true
   left-within = restoring-within n s cs _
 
   -- .. and contains every stopping set within them
   pub left-largest : (S : ℕ → Bool) → Stopping cs S → ((p : ℕ) → S p ≡ true → isLost lost p ≡ true)
-      → (p : ℕ) → S p ≡ true → isLost (repaired n s cs b lost .lost) p ≡ true
+      → (p : ℕ) → S p ≡ true → isLost (repaired n s cs b lost .map) p ≡ true
   left-largest S st h = never n s cs S st _ h
 
 -- the same of a table: fuel is enough where it is the number of places
-left : (n : ℕ) (t : List ℕ) (b : List (List ℕ)) (map : List ℕ) → length map ≡ n → Largest t map (isLost (repaired n (size t) (checks t) b map .lost))
+left : (n : ℕ) (t : List ℕ) (b : List (List ℕ)) (map : List ℕ) → length map ≡ n → Largest t map (isLost (repaired n (size t) (checks t) b map .map))
 left n t b map l = record {
   among = record { stopping = left-stopping n (size t) (checks t) b map l; lost = left-within n (size t) (checks t) b map l };
   holds = λ S a. left-largest n (size t) (checks t) b map l S (a .stopping) (a .lost);
 }
 
 -- what stays lost, whatever was received
-pub stays-lost : (t b map : List ℕ) → length map ≡ places t → Largest t map (isLost (outcome t b map .lost))
+pub stays-lost : (t b map : List ℕ) → length map ≡ places t → Largest t map (isLost (outcome t b map .map))
 stays-lost t b map l = left (places t) t (packets (size t) (places t) b) map l
 
 -- there is one, for every table and every map
 pub largest-exists : (t map : List ℕ) → (L : ℕ → Bool) × Largest t map L
-largest-exists t map = (isLost (repaired (length map) (size t) (checks t) [] map .lost), left (length map) t [] map refl)
+largest-exists t map = (isLost (repaired (length map) (size t) (checks t) [] map .map), left (length map) t [] map refl)
 
 -- and only one
 pub largest-only : (t map : List ℕ) (L K : ℕ → Bool) → Largest t map L → Largest t map K → (p : ℕ) → L p ≡ K p

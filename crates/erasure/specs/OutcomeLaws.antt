@@ -59,17 +59,17 @@ module _ (t b map : List ℕ) (ok : refusal t ≡ 0) (fits : length b ≡ places
 
 -- ---- the counts
 -- no turn makes a place lost
-pub restoring-fewer : (k s : ℕ) (cs : List (List ℕ)) (m : State) → lostIn (restoring k s cs m .lost) ≤ lostIn (m .lost)
+pub restoring-fewer : (k s : ℕ) (cs : List (List ℕ)) (m : State) → lostIn (restoring k s cs m .map) ≤ lostIn (m .map)
 restoring-fewer zero s cs m = omega arith
-restoring-fewer (suc k) s cs m = byOpt (ready (m .lost) cs)
-    (λ c r. rw (r, restoring) (less _ _ _ (restore-one (m .lost) _ (ready-lost (m .lost) cs c r)) (restoring-fewer k s cs _)))
+restoring-fewer (suc k) s cs m = byOpt (ready (m .map) cs)
+    (λ c r. rw (r, restoring) (less _ _ _ (restore-one (m .map) _ (ready-lost (m .map) cs c r)) (restoring-fewer k s cs _)))
     (λ r. rw (r, restoring) (omega arith))
   where
     less : (a b c : ℕ) → suc b ≡ c → a ≤ b → a ≤ c
     less a b c e h = omega arith
 
-pub tally-fewer : (t b map : List ℕ) → tally 1 (outcome t b map .lost) ≤ tally 1 map
-tally-fewer t b map = rw (tally-lost (outcome t b map .lost), tally-lost map) (restoring-fewer (places t) (size t) (checks t) _)
+pub tally-fewer : (t b map : List ℕ) → tally 1 (outcome t b map .map) ≤ tally 1 map
+tally-fewer t b map = rw (tally-lost (outcome t b map .map), tally-lost map) (restoring-fewer (places t) (size t) (checks t) _)
 
 -- whether it agrees is told
 pub told : (v : Bool) (map : List ℕ) (m : State) → countsIf v map m .agrees ≡ v
@@ -79,13 +79,13 @@ told false map m = refl
 -- ---- the checks that passed
 -- a check without a lost place that passes the test
 pub sums-of : (s : ℕ) (m : State) (cs : List (List ℕ)) → consistent s cs m ≡ true
-    → All (λ c. length (lostPlaces (m .lost) c) ≡ 0 → packetSum s (m .block) c ≡ replicate s 0) cs
+    → All (λ c. length (lostPlaces (m .map) c) ≡ 0 → packetSum s (m .block) c ≡ replicate s 0) cs
 sums-of s m [] h = nil
-sums-of s m (c ∷ cs) h = byBool (eqb (length (lostPlaces (m .lost) c)) 0)
+sums-of s m (c ∷ cs) h = byBool (eqb (length (lostPlaces (m .map) c)) 0)
     (λ e. byBool (sameList (packetSum s (m .block) c) (replicate s 0))
     (λ z. cons (λ k. zero-sound s (m .block) c z) (sums-of s m cs (rw (e, z) at h)))
     (λ z. absurd (false≢true (rw (e, z) at h))))
-    (λ e. cons (λ k. absurd (eqb-false (length (lostPlaces (m .lost) c)) 0 e k)) (sums-of s m cs (rw e at h)))
+    (λ e. cons (λ k. absurd (eqb-false (length (lostPlaces (m .map) c)) 0 e k)) (sums-of s m cs (rw e at h)))
 
 -- no lost place among none
 pub none-lost : (lost c : List ℕ) → lostIn lost ≡ 0 → length (lostPlaces lost c) ≡ 0

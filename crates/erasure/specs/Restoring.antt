@@ -14,26 +14,26 @@ use Rattle.table.specs.Table.{places, size, checks}
 
 pub record State : Type 0 where
   pub block : List (List ℕ)
-  pub lost : List ℕ
+  pub map : List ℕ
   pub adds : ℕ
 
 -- the lost places of a check
 abbrev pub lostPlaces : List ℕ → List ℕ → List ℕ
-lostPlaces lost c = filter (λ p. eqb (getD lost p 0) 1) c
+lostPlaces map c = filter (λ p. eqb (getD map p 0) 1) c
 
 -- the lowest check with exactly one lost place
 abbrev pub ready : List ℕ → List (List ℕ) → Option (List ℕ)
-ready lost [] = none
-ready lost (c ∷ cs) = elim (eqb (length (lostPlaces lost c)) 1) [ true ↦ some c | false ↦ ready lost cs ]
+ready map [] = none
+ready map (c ∷ cs) = elim (eqb (length (lostPlaces map c)) 1) [ true ↦ some c | false ↦ ready map cs ]
 
 -- "While some check has exactly one lost place, the lowest such check restores it": its packet is the sum of the check's
 -- others, at weight − 1 additions. The first argument bounds the number of turns.
 abbrev pub restoring : ℕ → ℕ → List (List ℕ) → State → State
 restoring zero s cs m = m
-restoring (suc k) s cs m = elim (ready (m .lost) cs) [
+restoring (suc k) s cs m = elim (ready (m .map) cs) [
   | none ↦ m
-  | some c ↦ let p = getD (lostPlaces (m .lost) c) 0 0 in
-      restoring k s cs (record { block = set (m .block) p (packetSum s (m .block) (minus c (p ∷ []))); lost = set (m .lost) p 2; adds = m .adds + (length c - 1) })
+  | some c ↦ let p = getD (lostPlaces (m .map) c) 0 0 in
+      restoring k s cs (record { block = set (m .block) p (packetSum s (m .block) (minus c (p ∷ []))); map = set (m .map) p 2; adds = m .adds + (length c - 1) })
 ]
 
 -- "Old bytes at lost places never count": zero at every lost place
@@ -44,11 +44,11 @@ zeroLost s (l ∷ ls) (p ∷ b) = cond (eqb l 1) (replicate s 0) p ∷ zeroLost 
 
 -- each turn restores one of the n places, so n turns are all
 abbrev pub repaired : ℕ → ℕ → List (List ℕ) → List (List ℕ) → List ℕ → State
-repaired n s cs b lost = restoring n s cs (record { block = zeroLost s lost b; lost = lost; adds = 0 })
+repaired n s cs b map = restoring n s cs (record { block = zeroLost s map b; map = map; adds = 0 })
 
 -- "Afterwards every check without a lost place must sum to zero"
 abbrev pub consistent : ℕ → List (List ℕ) → State → Bool
-consistent s cs m = allPass (λ c. not (eqb (length (lostPlaces (m .lost) c)) 0) || sameList (packetSum s (m .block) c) (replicate s 0)) cs
+consistent s cs m = allPass (λ c. not (eqb (length (lostPlaces (m .map) c)) 0) || sameList (packetSum s (m .block) c) (replicate s 0)) cs
 
 -- how many map bytes are v
 abbrev pub tally : ℕ → List ℕ → ℕ
@@ -71,7 +71,7 @@ pub record Counts : Type 0 where
   pub additions : ℕ
 
 abbrev pub countsIf : Bool → List ℕ → State → Counts
-countsIf true map m = record { agrees = true; restored = tally 1 map - tally 1 (m .lost); lost = tally 1 (m .lost); additions = m .adds }
+countsIf true map m = record { agrees = true; restored = tally 1 map - tally 1 (m .map); lost = tally 1 (m .map); additions = m .adds }
 countsIf false map m = record { agrees = false; restored = 0; lost = 0; additions = 0 }
 
 -- the block afterwards: the outcome's; on contradiction lost places are zero
@@ -81,5 +81,5 @@ blockIf false t b map = joined (zeroLost (size t) map (packets (size t) (places 
 
 -- the map afterwards: restored places are marked 2; on contradiction as it was
 abbrev pub mapIf : Bool → List ℕ → List ℕ → List ℕ → List ℕ
-mapIf true t b map = outcome t b map .lost
+mapIf true t b map = outcome t b map .map
 mapIf false t b map = map

@@ -54,14 +54,14 @@ ready-all {P} lost (cons {x = x} {l = cs} p a) c e = byBool (eqb (length (lostPl
     inj : {u v : List ℕ} → _≡_ {A = Option (List ℕ)} (some u) (some v) → u ≡ v
     inj k = cc
 
-pub never : (k s : ℕ) (cs : List (List ℕ)) (S : ℕ → Bool) → Stopping cs S → (m : State) → ((p : ℕ) → S p ≡ true → isLost (m .lost) p ≡ true)
-    → (p : ℕ) → S p ≡ true → isLost (restoring k s cs m .lost) p ≡ true
+pub never : (k s : ℕ) (cs : List (List ℕ)) (S : ℕ → Bool) → Stopping cs S → (m : State) → ((p : ℕ) → S p ≡ true → isLost (m .map) p ≡ true)
+    → (p : ℕ) → S p ≡ true → isLost (restoring k s cs m .map) p ≡ true
 never zero s cs S st m h p e = h p e
-never (suc k) s cs S st m h p e = byOpt (ready (m .lost) cs)
-    (λ c r. let w = ready-all (m .lost) st c r in
-    let q = getD (lostPlaces (m .lost) c) 0 0 in
-    let out : S q ≡ false = byBool (S q) (λ t. absurd (w .0 (filter-first (isLost (m .lost)) S c (w .1) t h))) (λ t. t) in
-    rw (r, restoring) (never k s cs S st _ (λ x ex. ap (λ v. eqb v 1) (getD-set-other (m .lost) q x 2 0 (λ z. true≢false (sym ex ∙ ap S z ∙ out))) ∙ h x ex) p e))
+never (suc k) s cs S st m h p e = byOpt (ready (m .map) cs)
+    (λ c r. let w = ready-all (m .map) st c r in
+    let q = getD (lostPlaces (m .map) c) 0 0 in
+    let out : S q ≡ false = byBool (S q) (λ t. absurd (w .0 (filter-first (isLost (m .map)) S c (w .1) t h))) (λ t. t) in
+    rw (r, restoring) (never k s cs S st _ (λ x ex. ap (λ v. eqb v 1) (getD-set-other (m .map) q x 2 0 (λ z. true≢false (sym ex ∙ ap S z ∙ out))) ∙ h x ex) p e))
     (λ r. rw (r, restoring) (h p e))
 
 -- ---- fuel: every round restores one
@@ -83,17 +83,17 @@ no-lost [] h p = refl
 no-lost (x ∷ l) h zero = byBool (eqb x 1) (λ e. absurd (omega (arith, rw (e, lostIn) at h))) (λ e. e)
 no-lost (x ∷ l) h (suc p) = byBool (eqb x 1) (λ e. absurd (omega (arith, rw (e, lostIn) at h))) (λ e. no-lost l (rw (e, lostIn) at h) p)
 
-pub stops : (k s : ℕ) (cs : List (List ℕ)) (m : State) → lostIn (m .lost) ≤ k → ready (restoring k s cs m .lost) cs ≡ none
-stops zero s cs m h = byOpt (ready (m .lost) cs)
-    (λ c r. let w = ready-all (m .lost) (trivially cs) c r in absurd (true≢false (sym (first-lost (isLost (m .lost)) c (w .1)) ∙ no-lost (m .lost) (omega arith) _)))
+pub stops : (k s : ℕ) (cs : List (List ℕ)) (m : State) → lostIn (m .map) ≤ k → ready (restoring k s cs m .map) cs ≡ none
+stops zero s cs m h = byOpt (ready (m .map) cs)
+    (λ c r. let w = ready-all (m .map) (trivially cs) c r in absurd (true≢false (sym (first-lost (isLost (m .map)) c (w .1)) ∙ no-lost (m .map) (omega arith) _)))
     (λ r. r)
   where
     trivially : (l : List (List ℕ)) → All (λ c. Unit {0}) l
     trivially [] = nil
     trivially (x ∷ l) = cons tt (trivially l)
-stops (suc k) s cs m h = byOpt (ready (m .lost) cs)
-    (λ c r. let w = ready-all (m .lost) (trivially cs) c r in
-    let one = restore-one (m .lost) _ (first-lost (isLost (m .lost)) c (w .1)) in
+stops (suc k) s cs m h = byOpt (ready (m .map) cs)
+    (λ c r. let w = ready-all (m .map) (trivially cs) c r in
+    let one = restore-one (m .map) _ (first-lost (isLost (m .map)) c (w .1)) in
     rw (r, restoring) (stops k s cs _ (omega arith)))
     (λ r. rw (r, restoring) r)
   where

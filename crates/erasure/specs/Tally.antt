@@ -26,12 +26,12 @@ restore-two (x ∷ l) zero h = let f : eqb x 2 ≡ false = ap (λ y. eqb y 2) (e
 restore-two (x ∷ l) (suc p) h = let ih = restore-two l p h in byBool (eqb x 2) (λ e. rw (e, restoredIn) (omega arith)) (λ e. rw (e, restoredIn) ih)
 
 -- no turn changes the sum
-restoring-tally : (k s : ℕ) (cs : List (List ℕ)) (m : State) → restoredIn (restoring k s cs m .lost) + lostIn (restoring k s cs m .lost) ≡ restoredIn (m .lost) + lostIn (m .lost)
+restoring-tally : (k s : ℕ) (cs : List (List ℕ)) (m : State) → restoredIn (restoring k s cs m .map) + lostIn (restoring k s cs m .map) ≡ restoredIn (m .map) + lostIn (m .map)
 restoring-tally zero s cs m = refl
-restoring-tally (suc k) s cs m = byOpt (ready (m .lost) cs)
-    (λ c r. let w = ready-all (m .lost) (all-of {P = λ c. Unit {0}} (λ c. tt) cs) c r in
-    let lost = first-lost (isLost (m .lost)) c (w .1) in
-    let a = restore-one (m .lost) _ lost in let b = restore-two (m .lost) _ lost in
+restoring-tally (suc k) s cs m = byOpt (ready (m .map) cs)
+    (λ c r. let w = ready-all (m .map) (all-of {P = λ c. Unit {0}} (λ c. tt) cs) c r in
+    let lost = first-lost (isLost (m .map)) c (w .1) in
+    let a = restore-one (m .map) _ lost in let b = restore-two (m .map) _ lost in
     rw (r, restoring) (restoring-tally k s cs _ ∙ (omega arith)))
     (λ r. rw (r, restoring))
 
@@ -42,5 +42,5 @@ none-restored (cons {x = x} h a) = byBool (eqb x 2) (λ e. let q = eqb-true x 2 
 
 -- for a map of bytes 0 and 1
 pub restored-and-lost : (n s : ℕ) (cs b : List (List ℕ)) (lost : List ℕ) → All (λ x. x ≤ 1) lost
-    → restoredIn (repaired n s cs b lost .lost) + lostIn (repaired n s cs b lost .lost) ≡ lostIn lost
+    → restoredIn (repaired n s cs b lost .map) + lostIn (repaired n s cs b lost .map) ≡ lostIn lost
 restored-and-lost n s cs b lost h = restoring-tally n s cs _ ∙ let z = none-restored h in omega arith

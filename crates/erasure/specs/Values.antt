@@ -91,23 +91,23 @@ all-units [] = nil
 all-units (x ∷ l) = cons tt (all-units l)
 
 -- ---- what repair leaves alone: places that were received, and places that stay lost
-pub restoring-kept : (k s : ℕ) (cs : List (List ℕ)) (m : State) (p : ℕ) → isLost (m .lost) p ≡ false → getD (restoring k s cs m .block) p [] ≡ getD (m .block) p []
+pub restoring-kept : (k s : ℕ) (cs : List (List ℕ)) (m : State) (p : ℕ) → isLost (m .map) p ≡ false → getD (restoring k s cs m .block) p [] ≡ getD (m .block) p []
 restoring-kept zero s cs m p h = refl
-restoring-kept (suc k) s cs m p h = byOpt (ready (m .lost) cs)
-    (λ c r. let w = ready-all (m .lost) (all-units cs) c r in
-    let q = getD (lostPlaces (m .lost) c) 0 0 in
-    let ne : p ≢ q = λ e. true≢false (sym (first-lost (isLost (m .lost)) c (w .1)) ∙ ap (isLost (m .lost)) (sym e) ∙ h) in
-    rw (r, restoring) (restoring-kept k s cs _ p (ap (λ v. eqb v 1) (getD-set-other (m .lost) q p 2 0 ne) ∙ h) ∙ getD-set-other (m .block) q p _ [] ne))
+restoring-kept (suc k) s cs m p h = byOpt (ready (m .map) cs)
+    (λ c r. let w = ready-all (m .map) (all-units cs) c r in
+    let q = getD (lostPlaces (m .map) c) 0 0 in
+    let ne : p ≢ q = λ e. true≢false (sym (first-lost (isLost (m .map)) c (w .1)) ∙ ap (isLost (m .map)) (sym e) ∙ h) in
+    rw (r, restoring) (restoring-kept k s cs _ p (ap (λ v. eqb v 1) (getD-set-other (m .map) q p 2 0 ne) ∙ h) ∙ getD-set-other (m .block) q p _ [] ne))
     (λ r. rw (r, restoring))
 
 -- a place that stays lost is not written
-pub restoring-left : (k s : ℕ) (cs : List (List ℕ)) (m : State) (p : ℕ) → isLost (restoring k s cs m .lost) p ≡ true → getD (restoring k s cs m .block) p [] ≡ getD (m .block) p []
+pub restoring-left : (k s : ℕ) (cs : List (List ℕ)) (m : State) (p : ℕ) → isLost (restoring k s cs m .map) p ≡ true → getD (restoring k s cs m .block) p [] ≡ getD (m .block) p []
 restoring-left zero s cs m p h = refl
-restoring-left (suc k) s cs m p h = byOpt (ready (m .lost) cs)
-    (λ c r. let w = ready-all (m .lost) (all-units cs) c r in
-    let q = getD (lostPlaces (m .lost) c) 0 0 in
+restoring-left (suc k) s cs m p h = byOpt (ready (m .map) cs)
+    (λ c r. let w = ready-all (m .map) (all-units cs) c r in
+    let q = getD (lostPlaces (m .map) c) 0 0 in
     let h′ = rw (r, restoring) at h in
-    let ne : p ≢ q = λ e. true≢false (sym (restoring-within k s cs _ p h′) ∙ ap (isLost (set (m .lost) q 2)) e ∙ set-gone (m .lost) q (first-lost (isLost (m .lost)) c (w .1))) in
+    let ne : p ≢ q = λ e. true≢false (sym (restoring-within k s cs _ p h′) ∙ ap (isLost (set (m .map) q 2)) e ∙ set-gone (m .map) q (first-lost (isLost (m .map)) c (w .1))) in
     rw (r, restoring) (restoring-left k s cs _ p h′ ∙ getD-set-other (m .block) q p _ [] ne))
     (λ r. rw (r, restoring))
 
@@ -117,7 +117,7 @@ module _ (n s : ℕ) (cs b : List (List ℕ)) (lost : List ℕ) where
   received-kept p h = restoring-kept n s cs _ p h ∙ zeroLost-kept s lost b p h
 
   -- places that stay lost hold zero bytes
-  pub left-zero : (p : ℕ) → p < length b → isLost (repaired n s cs b lost .lost) p ≡ true → getD (repaired n s cs b lost .block) p [] ≡ replicate s 0
+  pub left-zero : (p : ℕ) → p < length b → isLost (repaired n s cs b lost .map) p ≡ true → getD (repaired n s cs b lost .block) p [] ≡ replicate s 0
   left-zero p l h = restoring-left n s cs _ p h ∙ zeroLost-zero s lost b p l (restoring-within n s cs _ p h)
 
 -- ---- with a codeword behind it
@@ -126,7 +126,7 @@ module _ (n s : ℕ) (cs : List (List ℕ)) (low : All (λ c. All (λ p. p < n) 
   -- n packets, and the word's wherever the map does not say lost
   record Agrees (m : State) : Type 0 where
     size : length (m .block) ≡ n
-    same : (p : ℕ) → p < n → isLost (m .lost) p ≡ false → getD (m .block) p [] ≡ getD word p []
+    same : (p : ℕ) → p < n → isLost (m .map) p ≡ false → getD (m .block) p [] ≡ getD word p []
 
   -- a place of a check is the sum of the others
   word-at : (c : List ℕ) (q : ℕ) → All (λ p. p < n) c → packetSum s word c ≡ replicate s 0 → par q c ≡ true → q < n → packetSum s word (minus c (q ∷ [])) ≡ getD word q []
@@ -140,10 +140,10 @@ module _ (n s : ℕ) (cs : List (List ℕ)) (low : All (λ c. All (λ p. p < n) 
   -- each restored packet is the codeword's
   restoring-agrees : (k : ℕ) (m : State) → Agrees m → Agrees (restoring k s cs m)
   restoring-agrees zero m g = g
-  restoring-agrees (suc k) m g = byOpt (ready (m .lost) cs)
-      (λ c r. let w = ready-all (m .lost) (all-zip low zeros) c r in
-      let q = getD (lostPlaces (m .lost) c) 0 0 in
-      let o = one-passes (isLost (m .lost)) c (w .1) in
+  restoring-agrees (suc k) m g = byOpt (ready (m .map) cs)
+      (λ c r. let w = ready-all (m .map) (all-zip low zeros) c r in
+      let q = getD (lostPlaces (m .map) c) 0 0 in
+      let o = one-passes (isLost (m .map)) c (w .1) in
       let l : q < n = all-in (λ p. p < n) q (par-has q c (o .0)) (w .0 .0) in
       let others : All (λ p. getD (m .block) p [] ≡ getD word p []) (minus c (q ∷ [])) =
       all-map (λ p t. g .same p (t .0 .0) (t .0 .1 (not-self p q (t .1)))) (filter-in (λ p. not (has p (q ∷ []))) (all-zip (w .0 .0) (o .1))) in
@@ -152,7 +152,7 @@ module _ (n s : ℕ) (cs : List (List ℕ)) (low : All (λ c. All (λ p. p < n) 
         same = λ p h u. byBool (eqb p q)
             (λ e. subst (λ x. getD (set (m .block) q (packetSum s (m .block) (minus c (q ∷ [])))) x [] ≡ getD word x []) (sym (eqb-true p q e))
             (getD-set-same (m .block) q _ [] (omega (arith, g .size)) ∙ sum-agree s (m .block) word others ∙ word-at c q (w .0 .0) (w .0 .1) (o .0) l))
-            (λ e. getD-set-other (m .block) q p _ [] (eqb-false p q e) ∙ g .same p h (ap (λ v. eqb v 1) (sym (getD-set-other (m .lost) q p 2 0 (eqb-false p q e))) ∙ u));
+            (λ e. getD-set-other (m .block) q p _ [] (eqb-false p q e) ∙ g .same p h (ap (λ v. eqb v 1) (sym (getD-set-other (m .map) q p 2 0 (eqb-false p q e))) ∙ u));
       })))
       (λ r. rw (r, restoring) g)
 
@@ -162,13 +162,13 @@ module _ (n s : ℕ) (cs : List (List ℕ)) (low : All (λ c. All (λ p. p < n) 
     end = restoring-agrees n _ (record { size = zeroLost-length s lost b ∙ size; same = λ p l h. zeroLost-kept s lost b p h ∙ agree p l h })
 
     -- every restored packet is the codeword's (and every received one)
-    pub restored : (p : ℕ) → p < n → isLost (repaired n s cs b lost .lost) p ≡ false → getD (repaired n s cs b lost .block) p [] ≡ getD word p []
+    pub restored : (p : ℕ) → p < n → isLost (repaired n s cs b lost .map) p ≡ false → getD (repaired n s cs b lost .block) p [] ≡ getD word p []
     restored = end .same
 
     -- every check without a lost place sums to zero ..
-    pub sums-zero : All (λ c. length (lostPlaces (repaired n s cs b lost .lost) c) ≡ 0 → packetSum s (repaired n s cs b lost .block) c ≡ replicate s 0) cs
+    pub sums-zero : All (λ c. length (lostPlaces (repaired n s cs b lost .map) c) ≡ 0 → packetSum s (repaired n s cs b lost .block) c ≡ replicate s 0) cs
     sums-zero = all-map (λ c r h. sum-agree s (repaired n s cs b lost .block) word
-        (all-map (λ p t. restored p (t .0) (t .1)) (all-zip (r .0) (none-passes (isLost (repaired n s cs b lost .lost)) c h))) ∙ r .1) (all-zip low zeros)
+        (all-map (λ p t. restored p (t .0) (t .1)) (all-zip (r .0) (none-passes (isLost (repaired n s cs b lost .map)) c h))) ∙ r .1) (all-zip low zeros)
 
     -- .. so nothing contradicts
     pub no-contradiction : consistent s cs (repaired n s cs b lost) ≡ true
@@ -177,12 +177,12 @@ module _ (n s : ℕ) (cs : List (List ℕ)) (low : All (λ c. All (λ p. p < n) 
         m : State
         m = repaired n s cs b lost
 
-        one : (c : List ℕ) → (length (lostPlaces (m .lost) c) ≡ 0 → packetSum s (m .block) c ≡ replicate s 0)
-            → (not (eqb (length (lostPlaces (m .lost) c)) 0) || sameList (packetSum s (m .block) c) (replicate s 0)) ≡ true
-        one c h = byBool (eqb (length (lostPlaces (m .lost) c)) 0)
+        one : (c : List ℕ) → (length (lostPlaces (m .map) c) ≡ 0 → packetSum s (m .block) c ≡ replicate s 0)
+            → (not (eqb (length (lostPlaces (m .map) c)) 0) || sameList (packetSum s (m .block) c) (replicate s 0)) ≡ true
+        one c h = byBool (eqb (length (lostPlaces (m .map) c)) 0)
             (λ e. rw e (ap (λ v. sameList v (replicate s 0)) (h (eqb-true _ 0 e)) ∙ same-self (replicate s 0)))
             (λ e. rw e)
 
-        go : {l : List (List ℕ)} → All (λ c. length (lostPlaces (m .lost) c) ≡ 0 → packetSum s (m .block) c ≡ replicate s 0) l → consistent s l m ≡ true
+        go : {l : List (List ℕ)} → All (λ c. length (lostPlaces (m .map) c) ≡ 0 → packetSum s (m .block) c ≡ replicate s 0) l → consistent s l m ≡ true
         go nil = refl
         go (cons {x = c} h a) = ap₂ _&&_ (one c h) (go a)

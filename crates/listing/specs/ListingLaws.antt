@@ -12,7 +12,7 @@ use Rattle.gf2.specs.Span.{byBool}
 use Rattle.table.specs.Table.{places, size, checks, refusal}
 use Rattle.table.specs.TableLaws.{accepted}
 use Rattle.plan.specs.Layout.{mostAside}
-use Rattle.rule.specs.Accepted.{kept-weight}
+use Rattle.rule.specs.WithinLimits.{kept-weight}
 use Rattle.planner.specs.Planning.{planOf, numbersOf, planningRefusal, leastPlan, workWords}
 use Rattle.planner.specs.PlanningLaws.{accepted-planning}
 use Rattle.theorems.specs.OwnPlan.{own-info, own-steps, own-accepted}

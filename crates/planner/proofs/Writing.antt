@@ -13,7 +13,7 @@ use Rattle.plan.specs.declared.Step.the-variants.{Clear, Add}
 use Rattle.plan.specs.Layout.{mostAside, leastPlan, leastNumbers}
 use Rattle.plan.specs.ReadBack.{numbers-length}
 use Rattle.plan.specs.Step.{addSteps}
-use Rattle.rule.specs.Accepted.{numbers-limit, kept-length, kept-weight}
+use Rattle.rule.specs.WithinLimits.{numbers-limit, kept-length, kept-weight}
 use Rattle.rule.specs.Buffers.{solved, Fitted}
 use Rattle.rule.specs.PlanOf.{planOf, numbersOf, withNumbers}
 use Rattle.rule.specs.Rule.{kept}

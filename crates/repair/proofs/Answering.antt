@@ -11,7 +11,7 @@ use Rattle.gf2.specs.Span.{anyOf}
 use Rattle.table.specs.Packets.{packets}
 use Rattle.table.specs.Table.{places, size, checks, refusal}
 use Rattle.table.specs.TableLaws.{refusal-small}
-use Rattle.table.specs.TableUse.{TableOf}
+use Rattle.table.specs.Accepted.{Accepted}
 use Rattle.erasure.specs.OutcomeLaws.{tally-lost, tally-restored, told}
 use Rattle.erasure.specs.Restoring.{tally, outcome, agreeing, Counts, countsIf, blockIf, mapIf}
 use Rattle.restore.specs.Mending.{countsOf, Mends}
@@ -27,10 +27,10 @@ module _ (t b l : List ℕ) (f : Fitting t b l) (d : Mended) (b₂ l₂ : List �
   agreed = ap (λ (x : Counts). x .agrees) (done .report) ∙ told (agreeing t b l) l (outcome t b l)
 
   -- lost before less lost after are those marked 2
-  marked : tally 1 l - tally 1 (outcome t b l .lost) ≡ tally 2 (outcome t b l .lost)
+  marked : tally 1 l - tally 1 (outcome t b l .map) ≡ tally 2 (outcome t b l .map)
   marked =
       let z = restored-and-lost (places t) (size t) (checks t) (packets (size t) (places t) b) l (bytes-all l (f .map-bytes)) in
-      rw (tally-lost l, tally-lost (outcome t b l .lost), tally-restored (outcome t b l .lost)) (omega (arith, z))
+      rw (tally-lost l, tally-lost (outcome t b l .map), tally-restored (outcome t b l .map)) (omega (arith, z))
 
   -- no contradiction
   pub answer-accepted : d .agrees ≡ true → (r : Repaired) → r .refusal ≡ 0 → r .restored ≡ d .restored → r .lost ≡ d .lost → r .additions ≡ d .additions → Answers t b l r b₂ l₂
@@ -38,8 +38,8 @@ module _ (t b l : List ℕ) (f : Fitting t b l) (d : Mended) (b₂ l₂ : List �
       let yes : agreeing t b l ≡ true = sym agreed ∙ pass in
       let ok : repairRefusal t b l ≡ 0 = fitting-refusal t b l f ∙ ap (λ v. cond v 0 8) yes in
       let told-all : countsOf d ≡ countsIf true l (outcome t b l) = done .report ∙ ap (λ v. countsIf v l (outcome t b l)) yes in
-      let d2 : d .restored ≡ tally 2 (outcome t b l .lost) = ap (λ (x : Counts). x .restored) told-all ∙ marked in
-      let d3 : d .lost ≡ tally 1 (outcome t b l .lost) = ap (λ (x : Counts). x .lost) told-all in
+      let d2 : d .restored ≡ tally 2 (outcome t b l .map) = ap (λ (x : Counts). x .restored) told-all ∙ marked in
+      let d3 : d .lost ≡ tally 1 (outcome t b l .map) = ap (λ (x : Counts). x .lost) told-all in
       let d4 : d .additions ≡ outcome t b l .adds = ap (λ (x : Counts). x .additions) told-all in
       record {
         report = rw (ok, e1, e2, e3, e4, d2, d3, d4);
@@ -89,8 +89,8 @@ pub fitting : (t b l : List ℕ) (c n s : ℕ) → c ≡ refusal t → c ≡ 0 �
 fitting t b l c n s look ok en es lb ll over e no-byte = record { table = sym look ∙ ok; block = lb ∙ ap₂ _*_ en es; map-length = ll ∙ en; map-bytes = sym e ∙ no-byte }
 
 -- what such a call has
-pub fit-bytes : (t : List ℕ) (m n s : ℕ) (b l : List ℕ) → TableOf t m n s → Fitting t b l → length b ≡ n * s
+pub fit-bytes : (t : List ℕ) (m n s : ℕ) (b l : List ℕ) → Accepted t m n s → Fitting t b l → length b ≡ n * s
 fit-bytes t m n s b l k f = f .block ∙ sym (ap₂ _*_ (k .places-are) (k .size-is))
 
-pub fit-places : (t : List ℕ) (m n s : ℕ) (b l : List ℕ) → TableOf t m n s → Fitting t b l → length l ≡ n
+pub fit-places : (t : List ℕ) (m n s : ℕ) (b l : List ℕ) → Accepted t m n s → Fitting t b l → length l ≡ n
 fit-places t m n s b l k f = f .map-length ∙ sym (k .places-are)

@@ -42,7 +42,7 @@ pub record Report : Type 0 where
 
 -- by the refusal's number, 0 for none
 abbrev pub reportAt : ℕ → State → Report
-reportAt zero m = record { refusal = 0; restored = tally 2 (m .lost); lost = tally 1 (m .lost); additions = m .adds }
+reportAt zero m = record { refusal = 0; restored = tally 2 (m .map); lost = tally 1 (m .map); additions = m .adds }
 reportAt (suc r) m = record { refusal = suc r; restored = 0; lost = 0; additions = 0 }
 
 abbrev pub repairReport : List ℕ → List ℕ → List ℕ → Report
@@ -59,7 +59,7 @@ repairBlock t b map =
 
 -- the map afterwards: restored places are marked 2; as it was on refusal
 abbrev pub repairMap : List ℕ → List ℕ → List ℕ → List ℕ
-repairMap t b map = elim (eqb (repairRefusal t b map) 0) [ true ↦ outcome t b map .lost | false ↦ map ]
+repairMap t b map = elim (eqb (repairRefusal t b map) 0) [ true ↦ outcome t b map .map | false ↦ map ]
 
 -- document 01's numbers of an answer
 abbrev pub reportOf : Repaired → Report

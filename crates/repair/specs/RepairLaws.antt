@@ -102,7 +102,7 @@ block-contradicted t b map h = rw (h, repairBlock, h)
 pub block-refused : (t b map : List ℕ) (r : ℕ) → repairRefusal t b map ≡ r → eqb r 0 ≡ false → eqb r 8 ≡ false → repairBlock t b map ≡ b
 block-refused t b map r h e0 e8 = rw (h, repairBlock, e0, h, e8)
 
-pub map-accepted : (t b map : List ℕ) → repairRefusal t b map ≡ 0 → repairMap t b map ≡ outcome t b map .lost
+pub map-accepted : (t b map : List ℕ) → repairRefusal t b map ≡ 0 → repairMap t b map ≡ outcome t b map .map
 map-accepted t b map h = rw (h, repairMap)
 
 pub map-refused : (t b map : List ℕ) (r : ℕ) → repairRefusal t b map ≡ r → eqb r 0 ≡ false → repairMap t b map ≡ map

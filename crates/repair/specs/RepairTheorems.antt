@@ -31,7 +31,7 @@ abbrev pub Agree : List ℕ → List ℕ → List ℕ → List ℕ → Type 0
 Agree t b map w = (p : ℕ) → p < places t → getD map p 0 ≡ 0 → partAt (size t) p b ≡ partAt (size t) p w
 
 -- an accepted repair, whatever was received
-pub record Accepted (t b map : List ℕ) : Type 0 where
+pub record AcceptedRepair (t b map : List ℕ) : Type 0 where
   -- "received packets are untouched", and so is their mark
   pub received : (p : ℕ) → p < places t → getD map p 0 ≡ 0 → (partAt (size t) p (repairBlock t b map) ≡ partAt (size t) p b) × (getD (repairMap t b map) p 0 ≡ 0)
   -- a lost place stays lost or is marked as restored
@@ -75,7 +75,7 @@ module _ (t b map : List ℕ) (ok : repairRefusal t b map ≡ 0) where
   fits : Fitting t b map
   fits = accepted-fits t b map ok .0
 
-  map-is : repairMap t b map ≡ outcome t b map .lost
+  map-is : repairMap t b map ≡ outcome t b map .map
   map-is = map-accepted t b map ok
 
   part-is : (p : ℕ) → p < places t → partAt (size t) p (repairBlock t b map) ≡ getD (outcome t b map .block) p []
@@ -86,31 +86,31 @@ module _ (t b map : List ℕ) (ok : repairRefusal t b map ≡ 0) where
       ∙ joined-packets (size t) (outcome-sized t b map (fits .table) (fits .block))
 
   -- the same of the outcome
-  mark-kept : (p : ℕ) → getD map p 0 ≡ 0 → getD (outcome t b map .lost) p 0 ≡ 0
+  mark-kept : (p : ℕ) → getD map p 0 ≡ 0 → getD (outcome t b map .map) p 0 ≡ 0
   mark-kept p e = restoring-same (places t) (size t) (checks t) _ p (not-lost map p e) ∙ e
 
-  mark-of : (p : ℕ) → getD map p 0 ≡ 1 → (getD (outcome t b map .lost) p 0 ≡ 1) ⊎ (getD (outcome t b map .lost) p 0 ≡ 2)
-  mark-of p e = byBool (isLost (outcome t b map .lost) p)
+  mark-of : (p : ℕ) → getD map p 0 ≡ 1 → (getD (outcome t b map .map) p 0 ≡ 1) ⊎ (getD (outcome t b map .map) p 0 ≡ 2)
+  mark-of p e = byBool (isLost (outcome t b map .map) p)
       (λ z. inl (eqb-true _ 1 z))
       (λ z. inr (restoring-mark (places t) (size t) (checks t) _ p (is-lost map p e) z))
 
-  counts-add : restoredIn (outcome t b map .lost) + lostIn (outcome t b map .lost) ≡ lostIn map
+  counts-add : restoredIn (outcome t b map .map) + lostIn (outcome t b map .map) ≡ lostIn map
   counts-add = restored-and-lost (places t) (size t) (checks t) (packets (size t) (places t) b) map (bytes-all map (fits .map-bytes))
 
-  sums-checked : All (λ c. length (lostPlaces (outcome t b map .lost) c) ≡ 0 → packetSum (size t) (outcome t b map .block) c ≡ replicate (size t) 0) (checks t)
+  sums-checked : All (λ c. length (lostPlaces (outcome t b map .map) c) ≡ 0 → packetSum (size t) (outcome t b map .block) c ≡ replicate (size t) 0) (checks t)
   sums-checked = sums-of (size t) (outcome t b map) (checks t) (accepted-fits t b map ok .1)
 
-  pub accepted-repair : Accepted t b map
+  pub accepted-repair : AcceptedRepair t b map
   accepted-repair = record {
     received = λ p h e. (part-is p h ∙ received-kept (places t) (size t) (checks t) _ map p (not-lost map p e) ∙ packet-at (size t) (places t) b p h, ap (λ l. getD l p 0) map-is ∙ mark-kept p e);
     lost = λ p e. rw map-is (mark-of p e);
-    zeroed = λ p h e. part-is p h ∙ left-zero (places t) (size t) (checks t) _ map p (subst (λ k. p < k) (sym (packets-length (size t) (places t) b)) h) (is-lost (outcome t b map .lost) p (ap (λ l. getD l p 0) (sym map-is) ∙ e));
+    zeroed = λ p h e. part-is p h ∙ left-zero (places t) (size t) (checks t) _ map p (subst (λ k. p < k) (sym (packets-length (size t) (places t) b)) h) (is-lost (outcome t b map .map) p (ap (λ l. getD l p 0) (sym map-is) ∙ e));
     stays = rw map-is (stays-lost t b map (fits .map-length));
     sums = rw (map-is, packets-are) sums-checked;
-    counts = rw ok (rw (tally-restored (outcome t b map .lost), tally-lost (outcome t b map .lost), tally-lost map) counts-add);
-    whole = λ h. let z : lostIn (outcome t b map .lost) ≡ 0 = sym (tally-lost (outcome t b map .lost)) ∙ (rw ok at h) in record {
+    counts = rw ok (rw (tally-restored (outcome t b map .map), tally-lost (outcome t b map .map), tally-lost map) counts-add);
+    whole = λ h. let z : lostIn (outcome t b map .map) ≡ 0 = sym (tally-lost (outcome t b map .map)) ∙ (rw ok at h) in record {
       size-fits = ap length (block-accepted t b map ok) ∙ joined-length (size t) (outcome-sized t b map (fits .table) (fits .block)) ∙ ap (λ k. k * size t) (outcome-length t b map (fits .table) (fits .block));
-      sums = rw packets-are (all-map (λ c k. k (none-lost (outcome t b map .lost) c z)) sums-checked);
+      sums = rw packets-are (all-map (λ c k. k (none-lost (outcome t b map .map) c z)) sums-checked);
     };
   }
 
@@ -124,7 +124,7 @@ module _ (t b map w : List ℕ) (f : Fitting t b map) (word : IsCodeword t w) (a
       (packets-length (size t) (places t) w) (packets-sized (size t) (places t) w (word .size-fits)) (word .sums)
       (packets (size t) (places t) b) map (packets-length (size t) (places t) b) packets-agree)
 
-  value : (p : ℕ) → p < places t → isLost (outcome t b map .lost) p ≡ false → getD (outcome t b map .block) p [] ≡ getD (packets (size t) (places t) w) p []
+  value : (p : ℕ) → p < places t → isLost (outcome t b map .map) p ≡ false → getD (outcome t b map .block) p [] ≡ getD (packets (size t) (places t) w) p []
   value = restored (places t) (size t) (checks t) (accepted t (f .table) .low) (packets (size t) (places t) w)
       (packets-length (size t) (places t) w) (packets-sized (size t) (places t) w (word .size-fits)) (word .sums)
       (packets (size t) (places t) b) map (packets-length (size t) (places t) b) packets-agree
@@ -132,7 +132,7 @@ module _ (t b map w : List ℕ) (f : Fitting t b map) (word : IsCodeword t w) (a
   pub repairing : Repairing t b map w
   repairing = record {
     not-refused = passes;
-    values = λ p h e. part-is t b map passes p h ∙ value p h (byBool (isLost (outcome t b map .lost) p)
+    values = λ p h e. part-is t b map passes p h ∙ value p h (byBool (isLost (outcome t b map .map) p)
         (λ z. absurd (e (ap (λ l. getD l p 0) (map-is t b map passes) ∙ eqb-true _ 1 z))) (λ z. z)) ∙ packet-at (size t) (places t) w p h;
   }
 

@@ -3,7 +3,7 @@ use table::wide;
 ghost use mathlib.Core.Path.{_≡_};
 ghost use lib.Dec.{ltb};
 ghost use Rattle.gf2.specs.Span.{anyOf};
-ghost use Rattle.table.specs.TableUse.{TableOf};
+ghost use Rattle.table.specs.Accepted.{Accepted};
 ghost use Rattle.repair.specs.Repair.{Answers};
 ghost use Rattle.repair.specs.RepairLaws.{Fitting};
 
@@ -50,7 +50,7 @@ fn repair_packets(
     block: &mut [u8],
     map: &mut [u8],
 ) -> Repaired
-    requires { ⌜ TableOf (now t) m n s × Fitting (now t) (now block) (now map) ⌝ }
+    requires { ⌜ Accepted (now t) m n s × Fitting (now t) (now block) (now map) ⌝ }
     ensures { λ r. ⌜ Answers (now (t .entry)) (now (block .entry)) (now (map .entry)) r (now (block .exit)) (now (map .exit)) ⌝ }
 {
     let done = restore::restore_packets(t, m, n, s, block, map);

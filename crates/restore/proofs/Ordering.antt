@@ -19,7 +19,7 @@ use Rattle.table.specs.TableLaws.{accepted}
 use Rattle.chains.specs.Linked.{Chain, Linked, Counted, Walk, Walked, LowestOne, holders}
 use Rattle.erasure.specs.Restoring.{lostPlaces}
 use Rattle.erasure.specs.Stopping.{isLost}
-use Rattle.table.specs.TableUse.{TableOf, check-count}
+use Rattle.table.specs.Accepted.{Accepted, check-count}
 use Rattle.chains.specs.LinkedLaws.{chain-unique, holders-has, holders-inside, holders-distinct}
 use Rattle.erasure.specs.LostLaws.{lost-less}
 use Rattle.restore.proofs.Turning.{readyNumber}
@@ -42,7 +42,7 @@ number-is lost (x ∷ cs) zero a b c = rw (eq-eqb _ _ (c (omega arith)), readyNu
 number-is lost (x ∷ cs) (suc r) a b c = rw (ne-eqb _ _ (b 0 (omega arith)), readyNumber)
     (ap suc (number-is lost cs r (omega arith) (λ j h. b (suc j) (omega arith)) (λ h. c (omega arith))))
 
-module _ (t : List ℕ) (m n s : ℕ) (k : TableOf t m n s) where
+module _ (t : List ℕ) (m n s : ℕ) (k : Accepted t m n s) where
   pub at-check : (j : ℕ) → j < m → getD (checks t) j [] ≡ check t m j
   at-check j h = checks-at t (k .accepted) j (subst (λ x. j < x) (k .number-is) h) ∙ ap (λ x. check t x j) (sym (k .number-is))
 

@@ -11,7 +11,7 @@ use Rattle.table.specs.BufferLaws.{written-bytes, written-whole, part-length, g
 use Rattle.table.specs.PacketLaws.{packets-length, joined-packets}
 use Rattle.table.specs.Packets.{packets, joined, written}
 use Rattle.table.specs.Table.{places, size, checks}
-use Rattle.table.specs.TableUse.{TableOf}
+use Rattle.table.specs.Accepted.{Accepted}
 use Rattle.erasure.specs.OutcomeLaws.{start-length, start-sized, outcome-length, outcome-sized, tally-fewer}
 use Rattle.erasure.specs.Restoring.{zeroLost, restoring, consistent, tally, outcome, agreeing}
 use Rattle.restore.specs.Mending.{Mends}
@@ -44,7 +44,7 @@ put-back z l l₂ sv l₃ n room ll l2 e g =
     getD-part sv 0 n i k ∙ ap (λ x. getD x (0 + i) 0) e ∙ w .inside i k ∙ getD-part l 0 n i k ∙ ap (λ (x : ℕ). getD l x 0) (omega arith))
 
 -- ---- the core
-module _ (t : List ℕ) (m n s : ℕ) (k : TableOf t m n s) (b l : List ℕ) (lb : length b ≡ n * s) (ll : length l ≡ n) (b₁ : List ℕ) (zeroed : b₁ ≡ joined (zeroLost s l (packets s n b)))
+module _ (t : List ℕ) (m n s : ℕ) (k : Accepted t m n s) (b l : List ℕ) (lb : length b ≡ n * s) (ll : length l ≡ n) (b₁ : List ℕ) (zeroed : b₁ ≡ joined (zeroLost s l (packets s n b)))
     (b₂ l₂ : List ℕ) (adds : ℕ) (done : Restored n s (checks t) b₁ l b₂ l₂ adds) where
   fits : length b ≡ places t * size t
   fits = lb ∙ ap₂ _*_ (k .places-are) (k .size-is)
@@ -59,21 +59,21 @@ module _ (t : List ℕ) (m n s : ℕ) (k : TableOf t m n s) (b l : List ℕ) (lb
 
   state-then : restoring n s (checks t) (stateOf s n b₁ l 0) ≡ outcome t b l
   state-then = ap₂ (λ x y. restoring x y (checks t) (stateOf y x b₁ l 0)) (k .places-are) (k .size-is)
-      ∙ ap (λ ps. restoring (places t) (size t) (checks t) (record { block = ps; lost = l; adds = 0 })) packets-then
+      ∙ ap (λ ps. restoring (places t) (size t) (checks t) (record { block = ps; map = l; adds = 0 })) packets-then
 
   -- what is there after all turns
   block-then : b₂ ≡ joined (outcome t b l .block)
   block-then = done .holds .block-is ∙ ap (λ st. joined (st .block)) state-then
 
-  map-then : l₂ ≡ outcome t b l .lost
-  map-then = done .holds .map-is ∙ ap (λ st. st .lost) state-then
+  map-then : l₂ ≡ outcome t b l .map
+  map-then = done .holds .map-is ∙ ap (λ st. st .map) state-then
 
   packets-after : packets s n b₂ ≡ outcome t b l .block
   packets-after = ap₂ (λ x y. packets y x b₂) (k .places-are) (k .size-is) ∙ ap (packets (size t) (places t)) block-then
       ∙ ap (λ x. packets (size t) x (joined (outcome t b l .block))) (sym (outcome-length t b l (k .accepted) fits)) ∙ joined-packets (size t) (outcome-sized t b l (k .accepted) fits)
 
   look-then : consistent s (checks t) (stateOf s n b₂ l₂ 0) ≡ agreeing t b l
-  look-then = ap₂ (λ ps x. consistent s (checks t) (record { block = ps; lost = x; adds = 0 })) packets-after map-then
+  look-then = ap₂ (λ ps x. consistent s (checks t) (record { block = ps; map = x; adds = 0 })) packets-after map-then
       ∙ ap (λ x. consistent x (checks t) (outcome t b l)) (k .size-is)
 
   -- the map has no more lost places than before

@@ -22,7 +22,7 @@ use Rattle.chains.specs.Linked.{Counted}
 use Rattle.restore.specs.Spent.{Spent}
 use Rattle.erasure.specs.Restoring.{State, lostPlaces, consistent}
 use Rattle.erasure.specs.Stopping.{isLost, first-lost}
-use Rattle.table.specs.TableUse.{TableOf}
+use Rattle.table.specs.Accepted.{Accepted}
 use Rattle.table.specs.Codewords.{zeroSum}
 use Rattle.erasure.specs.LostLaws.{lost-less}
 use Rattle.restore.proofs.Ordering.{distinct-check}
@@ -86,7 +86,7 @@ spent-start t m n s b l few = record {
   each = λ j h e. let z = getD-zeros 512 j in absurd (omega (arith, z, e));
 }
 
-module _ (t : List ℕ) (m n s : ℕ) (k : TableOf t m n s) (l b used : List ℕ) (sp : Spent t m n s b l used) (j : ℕ) (in-m : j < m) (c : List ℕ) (is : c ≡ check t m j)
+module _ (t : List ℕ) (m n s : ℕ) (k : Accepted t m n s) (l b used : List ℕ) (sp : Spent t m n s b l used) (j : ℕ) (in-m : j < m) (c : List ℕ) (is : c ≡ check t m j)
     (one : length (lostPlaces l c) ≡ 1) (in-n : getD (lostPlaces l c) 0 0 < n)
     (long : length (packetSum s (packets s n b) (minus c (getD (lostPlaces l c) 0 0 ∷ []))) ≡ s)
     (b′ l′ : List ℕ) (block : packets s n b′ ≡ set (packets s n b) (getD (lostPlaces l c) 0 0) (packetSum s (packets s n b) (minus c (getD (lostPlaces l c) 0 0 ∷ []))))
@@ -141,7 +141,7 @@ same-zeros s x e = rw e (subst (λ n. sameList (replicate s 0) (replicate n 0) �
 
 -- a check that needn't be summed passes
 pub agree-passed : (t : List ℕ) (m n s : ℕ) (b l count used : List ℕ) (cs : List (List ℕ)) (j : ℕ) → j < m → j < length cs → getD cs j [] ≡ check t m j
-    → Counted t m l count → Spent t m n s b l used → (getD count j 0 ≡ 0 → getD used j 0 ≡ 1) → (st : State) → st .block ≡ packets s n b → st .lost ≡ l
+    → Counted t m l count → Spent t m n s b l used → (getD count j 0 ≡ 0 → getD used j 0 ≡ 1) → (st : State) → st .block ≡ packets s n b → st .map ≡ l
     → consistent s (drop j cs) st ≡ consistent s (drop (j + 1) cs) st
 agree-passed t m n s b l count used cs j h i is co sp u st eb el = byBool (eqb (getD count j 0) 0)
     (λ e. let r = sp .each j h (u (eqb-true (getD count j 0) 0 e)) in

@@ -23,7 +23,7 @@ use Rattle.erasure.specs.Restoring.{State, lostPlaces, ready, restoring}
 use Rattle.erasure.specs.LostLaws.{filter-less}
 use Rattle.erasure.specs.RestoringLaws.{lost-inside, ready-one, ready-lost, restoring-enough}
 use Rattle.erasure.specs.Stopping.{isLost, first-lost, lostIn, restore-one}
-use Rattle.table.specs.TableUse.{TableOf, check-count, places-at, check-is, light}
+use Rattle.table.specs.Accepted.{Accepted, check-count, places-at, check-is, light}
 use Rattle.erasure.specs.Turns.{Holds, Restored, stateOf, turn}
 use Rattle.restore.proofs.BlockLaws.{packets-set, bytes-set}
 
@@ -64,11 +64,11 @@ number-none lost (c ∷ cs) h = byBool (eqb (length (lostPlaces lost c)) 1)
     (λ e. rw (e, ready) (number-none lost cs (let z = rw (e, readyNumber) at h in omega arith)))
 
 -- ---- the loop's start, turn and end
-pub turns-more : (s : ℕ) (cs : List (List ℕ)) (st : State) (c : List ℕ) → ready (st .lost) cs ≡ some c
-    → restoring (lostIn (st .lost)) s cs st ≡ restoring (lostIn (turn s c st .lost)) s cs (turn s c st)
-turns-more s cs st c r = let one = restore-one (st .lost) _ (ready-lost (st .lost) cs c r) in rw (← one) (rw (r, restoring))
+pub turns-more : (s : ℕ) (cs : List (List ℕ)) (st : State) (c : List ℕ) → ready (st .map) cs ≡ some c
+    → restoring (lostIn (st .map)) s cs st ≡ restoring (lostIn (turn s c st .map)) s cs (turn s c st)
+turns-more s cs st c r = let one = restore-one (st .map) _ (ready-lost (st .map) cs c r) in rw (← one) (rw (r, restoring))
 
-pub turns-end : (k s : ℕ) (cs : List (List ℕ)) (st : State) → ready (st .lost) cs ≡ none → restoring k s cs st ≡ st
+pub turns-end : (k s : ℕ) (cs : List (List ℕ)) (st : State) → ready (st .map) cs ≡ none → restoring k s cs st ≡ st
 turns-end zero s cs st r = refl
 turns-end (suc k) s cs st r = rw (r, restoring)
 
@@ -127,7 +127,7 @@ module _ (n s : ℕ) (cs : List (List ℕ)) (b₀ l₀ b l : List ℕ) (adds : �
   }
 
 -- ---- the ready check as the code has it
-module _ (t : List ℕ) (m n s : ℕ) (k : TableOf t m n s) (l : List ℕ) (j : ℕ) (number : j ≡ readyNumber l (checks t)) where
+module _ (t : List ℕ) (m n s : ℕ) (k : Accepted t m n s) (l : List ℕ) (j : ℕ) (number : j ≡ readyNumber l (checks t)) where
   pub none-next : j ≡ m → ready l (checks t) ≡ none
   none-next e = number-none l (checks t) (sym number ∙ e ∙ sym (check-count t m n s k))
 

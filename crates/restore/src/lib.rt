@@ -9,7 +9,7 @@ ghost use Rattle.gf2.specs.Places.{has};
 ghost use Rattle.table.specs.Checks.{check, Places, Starts};
 ghost use Rattle.table.specs.Packets.{packets, joined};
 ghost use Rattle.table.specs.Table.{checks};
-ghost use Rattle.table.specs.TableUse.{TableOf};
+ghost use Rattle.table.specs.Accepted.{Accepted};
 ghost use Rattle.chains.specs.Linked.{Linked, Counted};
 ghost use Rattle.erasure.specs.Restoring.{lostPlaces, tally, zeroLost, consistent, restoring};
 ghost use Rattle.restore.specs.Mending.{Mends};
@@ -98,7 +98,7 @@ fn agrees(
     used: &[u8],
 ) -> bool
     requires { ⌜
-        TableOf (now t) m n s
+        Accepted (now t) m n s
         × (length (now block) ≡ n * s)
         × (length (now map) ≡ n)
         × Counted (now t) m (now map) (now count)
@@ -166,7 +166,7 @@ fn restore_all(
     used: &mut [u8],
 ) -> usize
     requires { ⌜
-        TableOf (now t) m n s
+        Accepted (now t) m n s
         × Starts (now t) m (now starts)
         × Linked (now t) m n (now head) (now next) (now owner)
         × Counted (now t) m (now map) (now count)
@@ -211,7 +211,7 @@ pub fn restore_lost(
     block: &mut [u8],
     map: &mut [u8],
 ) -> Turned
-    requires { ⌜ TableOf (now t) m n s × Starts (now t) m (now starts) × (length (now block) ≡ n * s) × (length (now map) ≡ n) ⌝ }
+    requires { ⌜ Accepted (now t) m n s × Starts (now t) m (now starts) × (length (now block) ≡ n * s) × (length (now map) ≡ n) ⌝ }
     ensures { λ r. ⌜
         Restored n s (checks (now (t .entry))) (now (block .entry)) (now (map .entry)) (now (block .exit)) (now (map .exit)) (r .adds)
         × (r .agrees ≡ consistent s (checks (now (t .entry))) (stateOf s n (now (block .exit)) (now (map .exit)) 0))
@@ -277,7 +277,7 @@ pub fn restore_packets(
     block: &mut [u8],
     map: &mut [u8],
 ) -> Mended
-    requires { ⌜ TableOf (now t) m n s × (length (now block) ≡ n * s) × (length (now map) ≡ n) ⌝ }
+    requires { ⌜ Accepted (now t) m n s × (length (now block) ≡ n * s) × (length (now map) ≡ n) ⌝ }
     ensures { λ r. ⌜ Mends (now (t .entry)) (now (block .entry)) (now (map .entry)) r (now (block .exit)) (now (map .exit)) ⌝ }
 {
     let mut starts = [0u16; 512];

@@ -1,4 +1,3 @@
-pub mod Accepted
 pub mod AllChecksZero
 pub mod AsidesZero
 pub mod Bound
@@ -16,3 +15,4 @@ pub mod ScratchAndFitting
 pub mod Solved
 pub mod Solving
 pub mod WellFormed
+pub mod WithinLimits

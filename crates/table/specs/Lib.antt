@@ -1,3 +1,4 @@
+pub mod Accepted
 pub mod BufferLaws
 pub mod Checks
 pub mod ChecksLaws
@@ -11,4 +12,3 @@ pub mod Packets
 pub mod SumLaws
 pub mod Table
 pub mod TableLaws
-pub mod TableUse

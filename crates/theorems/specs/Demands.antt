@@ -28,7 +28,7 @@ use Rattle.rule.specs.Bound.{adds-most, kept-ones, adds-bound, fitted-number}
 use Rattle.rule.specs.WellFormed.{info-low}
 use Rattle.planner.specs.Planning.{planOf, numbersOf, planningRefused, planAnswer, planAfter, answerAt as planAnswerAt}
 use Rattle.planner.specs.PlanningLaws.{accepted-planning}
-use Rattle.encoder.specs.Encoding.{stepsWithin, slotsAfter, encodes, encodeAnswer, answerAt, blockAfter}
+use Rattle.encoder.specs.Encoding.{stepsWithin, slotsAfter, encodingRefused, encodeAnswer, answerAt, blockAfter}
 use Rattle.encoder.specs.EncodingLaws.{accepted as accepted-encoding, not-refused-at, count-within, limit-all}
 use Rattle.theorems.specs.OwnPlan.{own-info, own-steps, own-places, own-accepted, own-count}
 
@@ -52,7 +52,7 @@ pub record ToTheLastStep (t p information blockBuffer scratchBuffer : List ℕ) 
 
 -- the encoding by the plan p is accepted, its block is as it must be, and no other block is
 pub record TheOneBlock (t p information blockBuffer scratchBuffer : List ℕ) (limit : ℕ) : Type 0 where
-  pub not-refused : encodes p information blockBuffer scratchBuffer limit ≡ 0
+  pub not-refused : encodingRefused p information blockBuffer scratchBuffer limit ≡ 0
   pub carries : Carries t p information (blockAfter p information blockBuffer scratchBuffer limit)
   pub only : (b : List ℕ) → Carries t p information b → b ≡ blockAfter p information blockBuffer scratchBuffer limit
 
@@ -108,7 +108,7 @@ module _ (t : List ℕ) (ok : refusal t ≡ 0) where
     counted : (information b c : List ℕ) (limit : ℕ) → encodeAnswer (numbersOf t) information b c limit .additions ≤ addSteps (planOf t .steps)
     unfolding planOf numbersOf
     counted information b c limit =
-        let p = answered (encodes (numbersOf t) information b c limit) (addSteps (stepsWithin (numbersOf t) limit)) in
+        let p = answered (encodingRefused (numbersOf t) information b c limit) (addSteps (stepsWithin (numbersOf t) limit)) in
         let q : addSteps (stepsWithin (numbersOf t) limit) ≤ addSteps (planOf t .steps) =
         subst (λ l. addSteps (take limit l) ≤ addSteps (planOf t .steps)) (sym (own-steps t ok few)) (fewer limit (planOf t .steps)) in
         omega arith
@@ -137,7 +137,7 @@ module _ (t : List ℕ) (ok : refusal t ≡ 0) where
       abbrev ps : List (List ℕ)
       ps = packets s k information
 
-      fits : encodes (numbersOf t) information blockBuffer scratchBuffer limit ≡ 0
+      fits : encodingRefused (numbersOf t) information blockBuffer scratchBuffer limit ≡ 0
       unfolding planOf numbersOf
       fits = not-refused-at (numbersOf t) (length information) (length blockBuffer) (length scratchBuffer) (record {
         plan = own-accepted t ok few;

@@ -25,7 +25,7 @@ use Rattle.rule.specs.Rule.{plan, Plan}
 use Rattle.rule.specs.WellFormed.{well-formed, info-low}
 use Rattle.rule.specs.Info.{info-number, kept-few}
 use Rattle.gf2.specs.Ascending.{Up, Up.none as unone, Up.then as uthen}
-use Rattle.rule.specs.Accepted.{info-up, kept-length, aside-few, steps-limit}
+use Rattle.rule.specs.WithinLimits.{info-up, kept-length, aside-few, steps-limit}
 use Rattle.planner.specs.Planning.{planOf, numbersOf}
 
 -- ---- tests

@@ -10,7 +10,7 @@ use Rattle.table.specs.Table.{tableCauses, refusal}
 use Rattle.table.specs.PacketCall.{packetCauses, packetRefusal}
 use Rattle.plan.specs.Layout.{planCauses, planRefusal}
 use Rattle.planner.specs.Planning.{planningCauses, planningRefusal, planAnswer, answerAt as planAnswerAt, planningRefused}
-use Rattle.encoder.specs.Encoding.{encodeCauses, encodeRefusal, encodeAnswer, answerAt as encodeAnswerAt, encodes}
+use Rattle.encoder.specs.Encoding.{encodeCauses, encodeRefusal, encodeAnswer, answerAt as encodeAnswerAt, encodingRefused}
 use Rattle.repair.specs.Repair.{repairCauses, repairRefusal, repairReport, reportAt}
 use Rattle.erasure.specs.Restoring.{State, outcome}
 use Rattle.verify.specs.Verify.{verifyCauses, verifyRefusal, verification, verdictAt}
@@ -62,7 +62,7 @@ pub encode-refusals : (w information block scratch : List ℕ) (limit : ℕ)
     → RefusedBy (encodeAnswer w information block scratch limit .refusal) (encodeCauses w (length information) (length block) (length scratch))
 unfolding encodeRefusal
 encode-refusals w information block scratch limit =
-    subst (λ r. RefusedBy r (encodeCauses w (length information) (length block) (length scratch))) (sym (told (encodes w information block scratch limit) _))
+    subst (λ r. RefusedBy r (encodeCauses w (length information) (length block) (length scratch))) (sym (told (encodingRefused w information block scratch limit) _))
     (refused-by (encodeCauses w (length information) (length block) (length scratch)) refl)
   where
     told : (r a : ℕ) → encodeAnswerAt r a .refusal ≡ r

@@ -21,7 +21,7 @@ use Rattle.erasure.specs.Restoring.{outcome}
 use Rattle.erasure.specs.Stopping.{isLost, no-lost}
 use Rattle.repair.specs.Repair.{repairRefusal, repairReport, repairBlock, repairMap}
 use Rattle.repair.specs.RepairLaws.{Fitting, map-accepted}
-use Rattle.repair.specs.RepairTheorems.{Agree, Accepted, Repairing, accepted-repair, repairing}
+use Rattle.repair.specs.RepairTheorems.{Agree, AcceptedRepair, Repairing, accepted-repair, repairing}
 
 -- repair of what arrived of the block w, L being the largest stopping set among the lost places
 pub record Restores (t b map w : List ℕ) (L : ℕ → Bool) : Type 0 where
@@ -48,7 +48,7 @@ module _ (t b map w : List ℕ) (fits : Fitting t b map) (word : IsCodeword t w)
   r : Repairing t b map w
   r = repairing t b map w fits word agree
 
-  a : Accepted t b map
+  a : AcceptedRepair t b map
   a = accepted-repair t b map (r .not-refused)
 
   -- a place that is not lost afterwards
@@ -57,7 +57,7 @@ module _ (t b map w : List ℕ) (fits : Fitting t b map) (word : IsCodeword t w)
 
   -- where nothing stays lost
   all-found : repairReport t b map .lost ≡ 0 → (p : ℕ) → isLost (repairMap t b map) p ≡ false
-  all-found h = rw (map-accepted t b map (r .not-refused)) (no-lost (outcome t b map .lost) (sym (tally-lost (outcome t b map .lost)) ∙ (rw (r .not-refused) at h)))
+  all-found h = rw (map-accepted t b map (r .not-refused)) (no-lost (outcome t b map .map) (sym (tally-lost (outcome t b map .map)) ∙ (rw (r .not-refused) at h)))
 
   pub restores : (L : ℕ → Bool) → Largest t map L → Restores t b map w L
   restores L l = record {

@@ -7,7 +7,7 @@ use Prim.Native.Nat.{ℕ, _+_, _<_, _≤_}
 use native.Mathlib.Numerals.{add-one}
 use lib.ListN.{length, getD, drop, drop-of-length-le}
 use Rattle.table.specs.Codewords.{zeroSum}
-use Rattle.table.specs.TableUse.{drop-more}
+use Rattle.table.specs.Accepted.{drop-more}
 use Rattle.verify.specs.Verify.{failing}
 
 pub fail-hit : (s : ℕ) (b cs : List (List ℕ)) (j : ℕ) → j < length cs → zeroSum s b (getD cs j []) ≡ false → failing s b j (drop j cs) ≡ some j

@@ -5,7 +5,7 @@ ghost use Prim.Native.Nat.{_*_};
 ghost use lib.ListN.{length};
 ghost use Rattle.table.specs.Packets.{packets};
 ghost use Rattle.table.specs.Table.{checks};
-ghost use Rattle.table.specs.TableUse.{TableOf};
+ghost use Rattle.table.specs.Accepted.{Accepted};
 ghost use Rattle.verify.specs.Verify.{valuesOf, failing, verdict, verification};
 
 // What verification says: a refusal, a codeword, or the lowest check that fails.
@@ -17,7 +17,7 @@ pub enum Verified {
 
 // what the m checks say of the block
 fn look_at_checks(t: &[u16], m: usize, n: usize, s: usize, block: &[u8]) -> Verified
-    requires { ⌜ TableOf (now t) m n s × (length (now block) ≡ n * s) ⌝ }
+    requires { ⌜ Accepted (now t) m n s × (length (now block) ≡ n * s) ⌝ }
     ensures { λ r. ⌜ valuesOf r ≡ verdict (failing s (packets s n (now (block .entry))) 0 (checks (now (t .entry)))) ⌝ }
 {
     let mut at = 5 + m;

@@ -2,7 +2,7 @@
 use Rattle.table.specs.Checks.{check}
 use Rattle.erasure.specs.Restoring.{lostPlaces}
 use Rattle.chains.proofs.Counting.{counted-turn, counted-small}
-use Rattle.table.specs.TableUse.{has-weights, places-at}
+use Rattle.table.specs.Accepted.{has-weights, places-at}
 use Prim.Native.Nat.{ℕ, _-_, _≤_, _<_}
 use mathlib.Core.Path.{_≡_, refl, _∙_}
 use native.Mathlib.Omega.{arith}

@@ -2,7 +2,7 @@
 use Rattle.table.specs.Checks.{offset, check}
 use Rattle.chains.specs.Linked.{Links, holders}
 use Rattle.chains.proofs.Linking.{links-none, links-more, links-all}
-use Rattle.table.specs.TableUse.{has-weights, few-checks, places-wide, check-fits}
+use Rattle.table.specs.Accepted.{has-weights, few-checks, places-wide, check-fits}
 use Prim.Native.Nat.{_+_, _-_, _≤_}
 use mathlib.Core.Path.{_≡_, refl, _∙_}
 use native.Mathlib.Omega.{arith}

@@ -1,6 +1,6 @@
 -- `repair::repair` meets its contract.
 use Rattle.repair.proofs.Answering.{answer-table, answer-block, answer-map, answer-byte, fitting}
-use Rattle.table.specs.TableUse.{table-of, words, block-small}
+use Rattle.table.specs.Accepted.{looked-over, words, block-small}
 use Prim.Native.Nat.{_-_}
 use mathlib.Core.Path.{refl, sym, _∙_}
 use native.Mathlib.Omega.{arith}
@@ -34,7 +34,7 @@ wide-requires-2 c κs = search needs
 
 mul-if2 : tie.Need-mul-if2
 mul-if2 c =
-    let k = table-of (c .before .before .before .before .before .before .before .before .before .args .t .now) _ _ _ _ (c .before .before .before .before .before .look-over .ensures) (c .before .before .before .before .if1 .left) refl (c .before .before .wide .ensures) (c .wide2 .ensures) in
+    let k = looked-over (c .before .before .before .before .before .before .before .before .before .args .t .now) _ _ _ _ (c .before .before .before .before .before .look-over .ensures) (c .before .before .before .before .if1 .left) refl (c .before .before .wide .ensures) (c .wide2 .ensures) in
     omega (arith, block-small (c .before .before .before .before .before .before .before .before .before .args .t .now) _ _ _ k)
 
 refused-requires-2 : tie.Need-refused-requires-2
@@ -79,7 +79,7 @@ wide-requires-3 c κs = search needs
 repair-packets-requires : tie.Need-repair-packets-requires
 repair-packets-requires c κs =
     let a = c .before .before .before .before .before .before .before .before .before .before .before .before .before .before .before .before .before .before .args in (
-      table-of (a .t .now) _ _ _ _ (c .before .before .before .before .before .before .before .before .before .before .before .before .before .before .look-over .ensures) (c .before .before .before .before .before .before .before .before .before .before .before .before .before .if1 .left) (c .before .before .wide3 .ensures) (c .before .before .before .before .before .before .before .before .before .before .before .wide .ensures) (c .before .before .before .before .before .before .before .before .before .wide2 .ensures),
+      looked-over (a .t .now) _ _ _ _ (c .before .before .before .before .before .before .before .before .before .before .before .before .before .before .look-over .ensures) (c .before .before .before .before .before .before .before .before .before .before .before .before .before .if1 .left) (c .before .before .wide3 .ensures) (c .before .before .before .before .before .before .before .before .before .before .before .wide .ensures) (c .before .before .before .before .before .before .before .before .before .wide2 .ensures),
       fitting (a .t .now) (a .block .now) (a .map .now) _ _ _ (c .before .before .before .before .before .before .before .before .before .before .before .before .before .before .look-over .ensures) (c .before .before .before .before .before .before .before .before .before .before .before .before .before .if1 .left) (c .before .before .before .before .before .before .before .before .before .before .before .wide .ensures) (c .before .before .before .before .before .before .before .before .before .wide2 .ensures) (c .before .before .before .before .before .before .before .before .if2 .left) (c .before .before .before .before .before .before .before .if3 .left) _ (c .before .before .before .before .before .over-one .ensures) (c .before .before .before .before .if4 .left),
     )
 

@@ -4,7 +4,7 @@ use Rattle.erasure.specs.Stopping.{lostIn}
 use Rattle.restore.specs.Spent.{Spent}
 use Rattle.restore.proofs.Spending.{spent-turn}
 use Rattle.restore.proofs.Ordering.{at-check, Tracked, tracked-start, lowest-ready, walk-ready, tracked-turn}
-use Rattle.table.specs.TableUse.{few-places, has-weights, check-is}
+use Rattle.table.specs.Accepted.{few-places, has-weights, check-is}
 use Rattle.restore.proofs.Turning.{lost-place-in, lost-place, Going, going-start, going-end, going-small, none-next, next-in, next-places, next-one, next-some, next-light, next-turn, next-fewer, next-packets, next-long}
 use Prim.Native.Nat.{_-_}
 use mathlib.Core.Path.{_≡_, refl, sym, ap, _∙_}

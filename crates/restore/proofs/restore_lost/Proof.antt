@@ -3,7 +3,7 @@ use Rattle.gf2.specs.Lists.{getD-zeros}
 use mathlib.Core.Path.{_∙_}
 use Rattle.chains.specs.LinkedLaws.{linked-of}
 use Rattle.restore.proofs.Spending.{spent-start}
-use Rattle.table.specs.TableUse.{few-places, few-checks, few-words}
+use Rattle.table.specs.Accepted.{few-places, few-checks, few-words}
 use Prim.Native.Nat.{_-_}
 use native.Mathlib.Omega.{arith}
 use borrow.Author.Needs.{needs}

@@ -3,7 +3,7 @@ use Prim.Native.Nat.{_-_}
 use mathlib.Core.Path.{ap₂, _∙_}
 use native.Mathlib.Omega.{arith}
 use borrow.Author.Needs.{needs}
-use Rattle.table.specs.TableUse.{few-places, few-checks}
+use Rattle.table.specs.Accepted.{few-places, few-checks}
 use Rattle.restore.proofs.Settling.{saved-room, put-back, fewer, settled, unsettled}
 use Rattle.restore.proofs.restore_packets.Statement.{statement}
 use Rattle.restore.proofs.restore_packets.Tie as tie

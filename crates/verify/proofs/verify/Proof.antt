@@ -2,7 +2,7 @@
 use Rattle.verify.specs.Verify.{valuesOf}
 use Rattle.verify.specs.VerifyLaws.{verification-is, verification-refused, verification-short}
 use Rattle.verify.specs.declared.Verified.the-variants.{Refused}
-use Rattle.table.specs.TableUse.{table-of, words, block-small}
+use Rattle.table.specs.Accepted.{looked-over, words, block-small}
 use Prim.Native.Nat.{_-_, _*_}
 use mathlib.Core.Path.{refl, sym, ap, ap₂, _∙_}
 use native.Mathlib.Omega.{arith}
@@ -32,7 +32,7 @@ wide-requires-2 c κs = search needs
 
 mul-if2 : tie.Need-mul-if2
 mul-if2 c =
-    let k = table-of (c .before .before .before .before .before .before .before .before .args .t .now) _ _ _ _ (c .before .before .before .before .before .look-over .ensures) (c .before .before .before .before .if1 .left) refl (c .before .before .wide .ensures) (c .wide2 .ensures) in
+    let k = looked-over (c .before .before .before .before .before .before .before .before .args .t .now) _ _ _ _ (c .before .before .before .before .before .look-over .ensures) (c .before .before .before .before .if1 .left) refl (c .before .before .wide .ensures) (c .wide2 .ensures) in
     omega (arith, block-small (c .before .before .before .before .before .before .before .before .args .t .now) _ _ _ k)
 
 returns-2 : tie.Need-returns-2
@@ -49,7 +49,7 @@ wide-requires-3 : tie.Need-wide-requires-3
 wide-requires-3 c κs = search needs
 
 look-at-checks-requires : tie.Need-look-at-checks-requires
-look-at-checks-requires c κs = (table-of _ _ _ _ _ (c .before .before .before .before .before .before .before .before .look-over .ensures) (c .before .before .before .before .before .before .before .if1 .left) (c .wide3 .ensures) (c .before .before .before .before .before .wide .ensures) (c .before .before .before .wide2 .ensures), c .before .before .if2 .left)
+look-at-checks-requires c κs = (looked-over _ _ _ _ _ (c .before .before .before .before .before .before .before .before .look-over .ensures) (c .before .before .before .before .before .before .before .if1 .left) (c .wide3 .ensures) (c .before .before .before .before .before .wide .ensures) (c .before .before .before .wide2 .ensures), c .before .before .if2 .left)
 
 returns-3 : tie.Need-returns-3
 returns-3 c =

@@ -13,20 +13,20 @@ use Rattle.table.specs.SumLaws.{places-in}
 use Rattle.table.specs.Table.{places, size, number, onesCount, checks, refusal}
 
 -- an accepted table, with its number of checks, its places and its packet size
-pub record TableOf (t : List ℕ) (m n s : ℕ) : Type 0 where
+pub record Accepted (t : List ℕ) (m n s : ℕ) : Type 0 where
   pub accepted : refusal t ≡ 0
   pub number-is : m ≡ number t
   pub places-are : n ≡ places t
   pub size-is : s ≡ size t
 
 -- what a look at the table and its first words tell
-pub table-of : (t : List ℕ) (r m n s : ℕ) → r ≡ refusal t → r ≡ 0 → m ≡ number t → n ≡ places t → s ≡ size t → TableOf t m n s
-table-of t r m n s look ok em en es = record { accepted = sym look ∙ ok; number-is = em; places-are = en; size-is = es }
+pub looked-over : (t : List ℕ) (r m n s : ℕ) → r ≡ refusal t → r ≡ 0 → m ≡ number t → n ≡ places t → s ≡ size t → Accepted t m n s
+looked-over t r m n s look ok em en es = record { accepted = sym look ∙ ok; number-is = em; places-are = en; size-is = es }
 
 pub words : (t : List ℕ) (r : ℕ) → r ≡ refusal t → r ≡ 0 → 5 ≤ length t
 words t r look ok = let h = each-check t (sym look ∙ ok) .weights in omega arith
 
-module _ (t : List ℕ) (m n s : ℕ) (k : TableOf t m n s) where
+module _ (t : List ℕ) (m n s : ℕ) (k : Accepted t m n s) where
   pub few-places : n ≤ 1024
   few-places = rw (k .places-are) (limits t (k .accepted) .few-places)
 
@@ -72,7 +72,7 @@ module _ (t : List ℕ) (m n s : ℕ) (k : TableOf t m n s) where
     check-in b e = places-in t a w b n s (places-at n refl) e
 
 -- the last check ends where the table does
-pub offset-last : (t : List ℕ) (m n s : ℕ) → TableOf t m n s → 5 + m + offset t m ≡ length t
+pub offset-last : (t : List ℕ) (m n s : ℕ) → Accepted t m n s → 5 + m + offset t m ≡ length t
 offset-last t m n s k =
     let e = k .number-is in
     let z : offset t m ≡ onesCount t = ap (offset t) e ∙ offset-all t (k .accepted) in
