@@ -11,9 +11,9 @@ use lib.Dec.{ltb}
 use lib.ListN.{getD}
 use lib.Pow.{pow-pos, pow-mono}
 use borrow.Author.Tests.{ltb-true, ltb-false}
-use Rattle.gf2.specs.Bit.{bit, odd, bit-is, bit-zero, bit-high, bits-zero}
-use Rattle.gf2.specs.Echelon.{Short, Bits}
-use Rattle.gf2.specs.Span.{byBool}
+use Rattle.gf2.specs.Gf2.{bit, odd, Short, Bits}
+use Rattle.gf2.specs.Bit.{bit-is, bit-zero, bit-high, bits-zero}
+use Rattle.lists.specs.Tests.{byBool}
 use Rattle.bits.specs.Row.{num, row, RowPut}
 use Rattle.bits.specs.RowLaws.{bit-low, row-bit, put-is}
 use Rattle.bits.proofs.Words.{num-low, num-xor, Wrote, wrote-row, both}

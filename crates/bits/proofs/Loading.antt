@@ -7,8 +7,8 @@ use native.Mathlib.Omega.{arith}
 use lib.Bits.{bitXor, xor-zero-r}
 use lib.ListN.{length, getD, take, drop, length-drop}
 use lib.Seq.{take-suc, getD-drop}
-use Rattle.gf2.specs.Group.{XorGroup, sumOver-append}
-use Rattle.gf2.specs.Places.{rowOf}
+use Rattle.gf2.specs.Gf2.{XorGroup, rowOf}
+use Rattle.gf2.specs.Group.{sumOver-append}
 use Rattle.bits.specs.Row.{row, RowPut}
 use Rattle.bits.specs.RowLaws.{put-put, put-is}
 

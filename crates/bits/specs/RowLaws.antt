@@ -7,7 +7,8 @@ use native.Mathlib.Omega.{arith}
 use lib.Arith.{digits-lt}
 use lib.ListN.{getD}
 use lib.Pow.{pow-pos, pow-add, shr-shr, high, low, field, mod-mod-pow}
-use Rattle.gf2.specs.Bit.{bit, odd, bit-is}
+use Rattle.gf2.specs.Gf2.{bit, odd}
+use Rattle.gf2.specs.Bit.{bit-is}
 use Rattle.bits.specs.Row.{num, row, RowPut}
 
 -- ---- digits of a number cut in two

@@ -3,8 +3,7 @@ ghost use mathlib.Core.Path.{_≡_};
 ghost use Prim.Native.Nat.{ℕ, _+_, _*_, _≤_, _<_, _^_};
 ghost use lib.ListN.{length, getD, take, drop, replicate};
 ghost use lib.Bits.{bitXor};
-ghost use Rattle.gf2.specs.Echelon.{Short, Bits};
-ghost use Rattle.gf2.specs.Places.{rowOf};
+ghost use Rattle.gf2.specs.Gf2.{Short, Bits, rowOf};
 ghost use Rattle.bits.specs.Row.{row, RowPut};
 
 pub fn wide(x: u16) -> usize

@@ -1,17 +1,15 @@
 -- The number of lost places of each check.
-use mathlib.Core.Path.{_≡_, refl, sym, ap, ap₂, _∙_, subst}
-use mathlib.Core.Bool.{Bool, true, false}
-use mathlib.Core.List.{List, [], _∷_}
-use mathlib.Core.Logic.{_≢_, ⊎-elim}
-use Prim.Native.Nat.{ℕ, zero, suc, _+_, _-_, _*_, _<_, _≤_}
+use mathlib.Core.Path.{_≡_, refl, ap, _∙_}
+use mathlib.Core.List.{List}
+use mathlib.Core.Logic.{⊎-elim}
+use Prim.Native.Nat.{ℕ, _+_, _-_, _<_, _≤_}
 use native.Mathlib.Omega.{arith}
-use lib.ListN.{length, getD, set, take, drop, length-set}
+use lib.ListN.{length, getD, set, take, drop}
 use lib.Seq.{getD-set-same, getD-set-other}
-use Rattle.table.specs.BufferLaws.{side, part-length}
-use Rattle.table.specs.Checks.{offset, check, Places}
-use Rattle.chains.specs.Linked.{Counted}
-use Rattle.erasure.specs.Restoring.{lostPlaces}
-use Rattle.erasure.specs.Stopping.{isLost}
+use Rattle.lists.specs.Tests.{side}
+use Rattle.lists.specs.Buffers.{part-length}
+use Rattle.table.specs.Checks.{offset, check}
+use Rattle.erasure.specs.Restoring.{lostPlaces, isLost}
 use Rattle.table.specs.Accepted.{Accepted, light, places-at}
 use Rattle.erasure.specs.LostLaws.{filter-less}
 

@@ -1,24 +1,18 @@
 -- Chains of checks: made place by place, walked from the top.
-use mathlib.Core.Path.{_≡_, refl, sym, ap, ap₂, _∙_, subst}
-use mathlib.Core.Bool.{Bool, true, false, cond, _||_, true≢false, false≢true}
-use mathlib.Core.List.{List, [], _∷_, _++_, append-assoc}
+use mathlib.Core.Path.{_≡_, refl, sym, ap, _∙_, subst}
+use mathlib.Core.Bool.{Bool, true, false, cond, _||_}
+use mathlib.Core.List.{List, [], _∷_, _++_}
 use mathlib.Core.Logic.{_≢_}
-use Prim.Native.Nat.{ℕ, zero, suc, _+_, _-_, _<_, _≤_}
+use Prim.Native.Nat.{ℕ, suc, _+_, _-_, _<_, _≤_}
 use native.Mathlib.Numerals.{add-one}
 use native.Mathlib.Omega.{arith}
-use borrow.Author.Tests.{ne-eqb}
 use lib.Dec.{eqb}
 use lib.ListN.{length, getD, set, take, drop, length-set, length-take, length-drop}
 use lib.Seq.{take-suc, getD-take, getD-drop, getD-set-same, getD-set-other}
-use Rattle.gf2.specs.Bit.{eqb-true, eqb-false, eqb-self}
-use Rattle.gf2.specs.Lists.{Distinct, Distinct.dnil, Distinct.dnew}
-use Rattle.gf2.specs.Places.{has, filter, or-false-l, or-false-r}
-use Rattle.gf2.specs.Span.{byBool}
+use Rattle.lists.specs.Tests.{eqb-true, eqb-false, eqb-self, byBool}
+use Rattle.lists.specs.Lists.{has}
 use Rattle.table.specs.Checks.{offset, check, Places}
-use Rattle.chains.specs.Linked.{Chain, Chain.end, Chain.link, Links, Linked, holders}
-use Rattle.erasure.specs.Restoring.{lostPlaces}
-use Rattle.erasure.specs.RestoringLaws.{lost-inside}
-use Rattle.erasure.specs.Stopping.{isLost}
+use Rattle.chains.specs.Linked.{Chain, Chain.end, Chain.link, Links, holders}
 use Rattle.table.specs.Accepted.{Accepted, offset-more, offset-last}
 use Rattle.chains.proofs.Counting.{run-is}
 

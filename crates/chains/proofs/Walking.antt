@@ -1,17 +1,15 @@
 -- The walk along a chain.
-use mathlib.Core.Path.{_≡_, refl, sym, ap, ap₂, _∙_, subst}
+use mathlib.Core.Path.{_≡_, refl, sym, ap, _∙_, subst}
 use mathlib.Core.Bool.{Bool, true, false, cond, _||_, true≢false, false≢true}
 use mathlib.Core.List.{List, [], _∷_}
 use mathlib.Core.Logic.{_≢_}
-use Prim.Native.Nat.{ℕ, zero, suc, _+_, _-_, _<_, _≤_}
+use Prim.Native.Nat.{ℕ, suc, _-_, _<_, _≤_}
 use native.Mathlib.Omega.{arith}
 use lib.Dec.{eqb}
 use lib.ListN.{length, getD, set, length-set}
 use lib.Seq.{getD-set-same, getD-set-other}
-use Rattle.gf2.specs.Bit.{eqb-true, eqb-false, eqb-self}
-use Rattle.gf2.specs.Lists.{Distinct, Distinct.dnil, Distinct.dnew}
-use Rattle.gf2.specs.Places.{has}
-use Rattle.gf2.specs.Span.{byBool, or-l, or-r}
+use Rattle.lists.specs.Tests.{eqb-true, eqb-false, eqb-self, byBool, or-r}
+use Rattle.lists.specs.Lists.{Distinct, Distinct.dnew, has}
 use Rattle.chains.specs.Linked.{Chain, Chain.end, Chain.link, Walk, Walked}
 
 -- where the walk stands: the checks of the chain, those passed and those left

@@ -1,15 +1,12 @@
 -- How the loop over turns finds the lowest ready check: for each check the number of its lost places, and for each place the
 -- chain of its checks.
 use mathlib.Core.Path.{_≡_}
-use mathlib.Core.Bool.{Bool, true, false, cond}
-use mathlib.Core.List.{List, [], _∷_, _++_}
-use Prim.Native.Nat.{ℕ, zero, suc, _+_, _-_, _<_, _≤_}
-use lib.Dec.{eqb}
-use lib.ListN.{length, getD, take, drop, replicate}
-use Rattle.gf2.specs.Lists.{Distinct}
-use Rattle.gf2.specs.Places.{has}
+use mathlib.Core.Bool.{true, cond}
+use mathlib.Core.List.{List, [], _∷_}
+use Prim.Native.Nat.{ℕ, zero, suc, _-_, _<_, _≤_}
+use lib.ListN.{length, getD}
+use Rattle.lists.specs.Lists.{Distinct, has}
 use Rattle.table.specs.Checks.{check}
-use Rattle.table.specs.Packets.{packets, packetSum}
 use Rattle.erasure.specs.Restoring.{lostPlaces}
 
 -- a chain: 0 ends it; i + 1 names the check at i and goes on at next i, which is lower. All lie below x.

@@ -7,10 +7,8 @@ use native.Mathlib.Omega.{arith}
 use borrow.Author.Tests.{ne-eqb}
 use lib.Dec.{eqb}
 use lib.ListN.{length, getD}
-use Rattle.gf2.specs.Bit.{eqb-true, eqb-false}
-use Rattle.gf2.specs.Lists.{Distinct, Distinct.dnil, Distinct.dnew}
-use Rattle.gf2.specs.Places.{has}
-use Rattle.gf2.specs.Span.{byBool}
+use Rattle.lists.specs.Tests.{eqb-true, eqb-false, byBool}
+use Rattle.lists.specs.Lists.{Distinct, Distinct.dnil, Distinct.dnew, has}
 use Rattle.table.specs.Checks.{check}
 use Rattle.chains.specs.Linked.{Chain, Chain.end, Chain.link, Links, Linked, holders}
 

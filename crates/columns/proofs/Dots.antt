@@ -9,11 +9,13 @@ use lib.Bits.{bitAnd, bitXor, and-shr, and-mod, and-comm, and-zero-l, and-mask, 
 use lib.Count.{ones, ones-step, ones-le}
 use lib.Dec.{eqb, eqb·zero-suc}
 use lib.ListN.{length}
-use Rattle.gf2.specs.Group.{XorGroup, bxor, two-pos}
-use Rattle.gf2.specs.Bit.{odd, bit, bit-pow}
-use Rattle.gf2.specs.Fit.{pair}
-use Rattle.gf2.specs.Span.{byBool}
-use Rattle.gf2.specs.Width.{Hom, hom-o}
+use Rattle.gf2.specs.Gf2.{XorGroup, odd, bit}
+use Rattle.lists.specs.Lists.{bxor}
+use Rattle.gf2.specs.Xor.{two-pos}
+use Rattle.gf2.specs.Bit.{bit-pow}
+use Rattle.gf2.specs.Columns.{pair}
+use Rattle.lists.specs.Tests.{byBool}
+use Rattle.gf2.specs.Rank.{Hom, hom-o}
 use Rattle.rule.specs.Buffers.{maskBits}
 use Rattle.columns.specs.Dot.{dot}
 use Rattle.columns.proofs.Dual.{bxor4}

@@ -5,10 +5,13 @@ use mathlib.Core.Bool.{Bool, true, false, cond, true≢false}
 use mathlib.Core.List.{List, [], _∷_, map}
 use Prim.Native.Nat.{ℕ, _^_, _<_}
 use lib.Bits.{bitXor, xor-lt}
-use Rattle.gf2.specs.Group.{XorGroup, bxor, cancel-r, cancel-mid}
-use Rattle.gf2.specs.Fit.{isZero, isZero-sound}
-use Rattle.gf2.specs.Span.{byBool, Span, span-zero, span-add, span-head, span-tail, isSum, isSum-sound, isSum-complete}
-use Rattle.gf2.specs.Width.{All, All.nil, All.cons, Hom, Zero, zero-span}
+use Rattle.gf2.specs.Gf2.{XorGroup, isZero, isSum}
+use Rattle.lists.specs.Lists.{bxor, All, All.nil, All.cons}
+use Rattle.gf2.specs.Group.{cancel-r, cancel-mid}
+use Rattle.gf2.specs.Columns.{isZero-sound}
+use Rattle.lists.specs.Tests.{byBool}
+use Rattle.gf2.specs.Span.{Span, span-zero, span-add, span-head, span-tail, isSum-sound, isSum-complete}
+use Rattle.gf2.specs.Rank.{Hom, Zero, zero-span}
 
 -- a linear test and the column it belongs to
 pub record Dual : Type 0 where

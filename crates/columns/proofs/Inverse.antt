@@ -7,21 +7,20 @@ use native.Mathlib.Omega.{arith}
 use lib.Dec.{eqb}
 use lib.ListN.{length, getD, take, replicate, length-map}
 use lib.Seq.{slice, slice-empty, length-slice, length-take-le, getD-take}
-use Rattle.gf2.specs.Group.{XorGroup}
-use Rattle.gf2.specs.Bit.{bit, bits-zero, bit-pow, num, eqb-true, eqb-self}
-use Rattle.gf2.specs.Fit.{isZero, isZero-sound, column, column-lt, below, pair-column}
-use Rattle.gf2.specs.Greedy.{choose}
-use Rattle.gf2.specs.Lists.{Distinct, rev, all-in, getD-zeros}
-use Rattle.gf2.specs.Places.{has, rowOf, filter}
-use Rattle.gf2.specs.Span.{byBool, comb, span-zero, isSum, isSum-complete}
+use Rattle.gf2.specs.Gf2.{XorGroup, bit, num, isZero, column, choose, rowOf, comb, isSum}
+use Rattle.gf2.specs.Bit.{bits-zero, bit-pow}
+use Rattle.lists.specs.Tests.{eqb-true, eqb-self, byBool}
+use Rattle.gf2.specs.Columns.{isZero-sound, column-lt, pair-column}
+use Rattle.lists.specs.Lists.{below, Distinct, rev, has, filter, All, All.nil, All.cons}
+use Rattle.lists.specs.ListLaws.{all-in, getD-zeros, getD-has, append-nil, length-rev}
+use Rattle.gf2.specs.Span.{span-zero, isSum-complete}
 use Rattle.gf2.specs.Unique.{mask-unique}
-use Rattle.gf2.specs.Width.{All, All.nil, All.cons, Zero}
+use Rattle.gf2.specs.Rank.{Zero}
 use Rattle.table.specs.Checks.{check, offset, Places}
 use Rattle.table.specs.Table.{number, places, checks}
 use Rattle.table.specs.TableLaws.{accepted}
 use Rattle.rule.specs.Rule.{Solved, putInAll, reduced, owns, restricted, inverse}
 use Rattle.rule.specs.Buffers.{solved, maskBits, Fitted}
-use Rattle.gf2.specs.ListLaws.{getD-has, append-nil, length-rev}
 use Rattle.rule.specs.Inverse.{pow, res-bit-in}
 use Rattle.rule.specs.AllChecksZero.{ts, az, E, C, F, same, own-zero, dF, ind, good, lens}
 use Rattle.gf2.specs.Linear.{lin-comb}

@@ -11,14 +11,14 @@ use lib.Seq.{getD-drop, getD-take, take-suc, length-take-le}
 use lib.Pow.{shl-exact}
 use lib.Bits.{bitXor, xor-block, xor-zero-r}
 use lib.Dec.{eqb}
-use Rattle.gf2.specs.Group.{bxor}
+use Rattle.lists.specs.Lists.{bxor, has, par}
 use Rattle.rule.specs.Buffers.{solved}
 use Rattle.table.specs.Checks.{check, offset, Places}
-use Rattle.gf2.specs.Bit.{bit, num, bit-adds, eqb-true}
-use Rattle.gf2.specs.Fit.{column}
+use Rattle.gf2.specs.Gf2.{bit, num, column, rowOf}
+use Rattle.gf2.specs.Bit.{bit-adds}
+use Rattle.lists.specs.Tests.{eqb-true, byBool}
 use Rattle.rule.specs.Rule.{Solved, putIn, putInAll}
-use Rattle.gf2.specs.Places.{has, par, rowOf, bit-row}
-use Rattle.gf2.specs.Span.{byBool}
+use Rattle.gf2.specs.Places.{bit-row}
 use Rattle.live.specs.Live.{Upd}
 use Rattle.columns.specs.Cols.{Columns}
 

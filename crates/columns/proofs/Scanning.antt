@@ -9,13 +9,9 @@ use borrow.Author.Tests.{ltb-true, ltb-false}
 use lib.Dec.{eqb, ltb}
 use lib.ListN.{length, getD, set, take, drop, length-set}
 use lib.Seq.{slice, slice-empty, slice-cons, getD-set-same, getD-set-other, take-set-lt, drop-set-lt}
-use Rattle.gf2.specs.Group.{XorGroup, bxor}
-use Rattle.gf2.specs.Bit.{eqb-true, eqb-false, eqb-comm}
-use Rattle.gf2.specs.Fit.{isZero, below}
-use Rattle.gf2.specs.Greedy.{choose}
-use Rattle.gf2.specs.Lists.{rev, eqb-lt}
-use Rattle.gf2.specs.Span.{byBool, isSum}
-use Rattle.gf2.specs.Width.{All, All.nil, All.cons}
+use Rattle.gf2.specs.Gf2.{XorGroup, isZero, choose, isSum}
+use Rattle.lists.specs.Lists.{bxor, below, rev, All, All.nil, All.cons}
+use Rattle.lists.specs.Tests.{eqb-true, eqb-false, eqb-comm, eqb-lt, byBool}
 use Rattle.columns.specs.Dot.{dot}
 use Rattle.columns.specs.Fitting.{mended, Tied, Scan}
 use Rattle.columns.proofs.Dots.{dot-hom, dot-mend}

@@ -3,7 +3,7 @@ use mathlib.Core.Path.{_≡_}
 use mathlib.Core.List.{List}
 use Prim.Native.Nat.{ℕ, _+_, _<_, _≤_}
 use lib.ListN.{length, getD}
-use Rattle.gf2.specs.Fit.{column}
+use Rattle.gf2.specs.Gf2.{column}
 use Rattle.table.specs.Checks.{offset, Places}
 
 -- col holds the columns of the rows E

@@ -7,10 +7,8 @@ use lib.Bits.{bitXor}
 use lib.Dec.{eqb}
 use lib.ListN.{length, getD}
 use lib.Seq.{slice}
-use Rattle.gf2.specs.Group.{XorGroup}
-use Rattle.gf2.specs.Fit.{isZero, below}
-use Rattle.gf2.specs.Greedy.{choose}
-use Rattle.gf2.specs.Lists.{rev}
+use Rattle.gf2.specs.Gf2.{XorGroup, isZero, choose}
+use Rattle.lists.specs.Lists.{below, rev}
 use Rattle.table.specs.Checks.{Checks, Starts}
 use Rattle.table.specs.Table.{number, places, refusal}
 use Rattle.rule.specs.Buffers.{Chosen}

@@ -1,7 +1,7 @@
 // Step 5 of the rule: the columns of the set-aside checks, the fitted places and the rows of the inverse.
 ghost use mathlib.Core.Path.{_≡_};
 ghost use mathlib.Core.List.{List, [], map};
-ghost use Prim.Native.Nat.{ℕ, _+_, _*_, _^_, _≤_, _<_};
+ghost use Prim.Native.Nat.{ℕ, _+_, _^_, _≤_, _<_};
 ghost use lib.ListN.{length, getD, take, drop};
 ghost use lib.Bits.{bitXor};
 ghost use Rattle.rule.specs.Rule.{putInAll};
@@ -11,7 +11,7 @@ ghost use Rattle.live.specs.Live.{Upd};
 ghost use Rattle.columns.specs.Dot.{dot};
 ghost use Rattle.columns.specs.Cols.{Columns, Taken};
 ghost use Rattle.columns.specs.Fitting.{Aside, Units, Lowest, mended, Mended, Tied, Scan, Ready};
-ghost use Rattle.gf2.specs.Places.{rowOf};
+ghost use Rattle.gf2.specs.Gf2.{rowOf};
 
 // c added into the columns of a check's places
 fn spread(col: &mut [u32], t: &[u16], at: usize, weight: usize, c: u32)

@@ -4,8 +4,8 @@ use mathlib.Core.List.{List, [], _∷_}
 use Prim.Native.Nat.{ℕ, zero, suc, _+_, _*_}
 use native.Mathlib.Omega.{arith}
 use lib.ListN.{length}
-use Rattle.gf2.specs.ListLaws.{length-rev}
-use Rattle.gf2.specs.Lists.{rev}
+use Rattle.lists.specs.ListLaws.{length-rev}
+use Rattle.lists.specs.Lists.{rev}
 use Rattle.plan.specs.Step.{addSteps}
 use Rattle.rule.specs.WithinLimits.{length-steps}
 use Rattle.rule.specs.Bound.{count-steps}

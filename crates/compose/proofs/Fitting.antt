@@ -6,11 +6,10 @@ use Prim.Native.Nat.{ℕ, zero, suc, _+_, _<_, _≤_}
 use native.Mathlib.Omega.{arith}
 use lib.ListN.{length, getD, take, drop}
 use lib.Seq.{getD-take, drop-cons, length-take-le}
-use Rattle.gf2.specs.Fit.{column}
+use Rattle.gf2.specs.Gf2.{column}
 use Rattle.gf2.specs.GreedyLaws.{all-choose}
-use Rattle.gf2.specs.ListLaws.{all-rev}
-use Rattle.gf2.specs.Lists.{below-of, all-filter}
-use Rattle.gf2.specs.Width.{All, All.nil, All.cons}
+use Rattle.lists.specs.ListLaws.{all-rev, below-of, all-filter}
+use Rattle.lists.specs.Lists.{All, All.nil, All.cons}
 use Rattle.rule.specs.Buffers.{maskBits, Fitted}
 use Rattle.rule.specs.Rule.{Solved, clearAndAdd, slotsNamed, fittingSteps, fittedPlaces, reduced}
 use Rattle.emit.specs.Emit.{fittingRows, Below}

@@ -6,9 +6,7 @@ use native.Mathlib.Numerals.{add-one}
 use native.Mathlib.Omega.{arith}
 use borrow.Author.Tests.{eq-eqb, ne-eqb}
 use lib.ListN.{getD}
-use Rattle.gf2.specs.Fit.{below}
-use Rattle.gf2.specs.Lists.{rev}
-use Rattle.gf2.specs.Places.{minus}
+use Rattle.lists.specs.Lists.{below, rev, minus}
 use Rattle.table.specs.Checks.{from}
 use Rattle.emit.specs.Emit.{marked}
 use Rattle.emit.specs.MarkLaws.{has-marked, minus-in, minus-out}

@@ -6,11 +6,9 @@ use Prim.Native.Nat.{ℕ, _+_, _<_, _≤_}
 use native.Mathlib.Omega.{arith}
 use lib.ListN.{length, take, replicate, length-replicate, length-map}
 use lib.Seq.{length-take-le}
-use Rattle.gf2.specs.Fit.{below, length-below}
-use Rattle.gf2.specs.ListLaws.{length-rev, append-nil}
-use Rattle.gf2.specs.Lists.{rev}
-use Rattle.gf2.specs.Places.{has, filter, minus}
-use Rattle.gf2.specs.Span.{byBool}
+use Rattle.lists.specs.Lists.{below, rev, has, filter, minus}
+use Rattle.lists.specs.ListLaws.{length-below, length-rev, append-nil}
+use Rattle.lists.specs.Tests.{byBool}
 use Rattle.table.specs.Checks.{check}
 use Rattle.table.specs.Table.{mostPlaces, places, number}
 use Rattle.plan.specs.declared.Step.{Step}

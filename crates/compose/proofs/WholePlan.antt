@@ -7,7 +7,7 @@ use lib.ListN.{length, getD, take, drop, length-append}
 use lib.Seq.{take-suc, length-take-le}
 use Rattle.table.specs.Checks.{check}
 use Rattle.table.specs.ChecksLaws.{each-check}
-use Rattle.table.specs.Packets.{written}
+use Rattle.lists.specs.Lists.{written}
 use Rattle.table.specs.Table.{mostChecks, places, size, number, checks}
 use Rattle.table.specs.TableLaws.{accepted}
 use Rattle.plan.specs.declared.Step.{Step}

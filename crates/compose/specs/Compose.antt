@@ -3,9 +3,7 @@ use mathlib.Core.Path.{_≡_}
 use mathlib.Core.List.{List, _++_}
 use Prim.Native.Nat.{ℕ, zero, suc, _+_, _*_, _≤_}
 use lib.ListN.{length, take}
-use Rattle.gf2.specs.Fit.{below}
-use Rattle.gf2.specs.Lists.{rev}
-use Rattle.gf2.specs.Places.{minus}
+use Rattle.lists.specs.Lists.{below, rev, minus}
 use Rattle.table.specs.Checks.{Checks, Starts}
 use Rattle.table.specs.Table.{places, number, refusal}
 use Rattle.plan.specs.declared.Step.{Step}

@@ -6,9 +6,8 @@ use native.Mathlib.Numerals.{add-one}
 use native.Mathlib.Omega.{arith}
 use lib.ListN.{length, getD, take, drop, drop-of-length-le, replicate}
 use lib.Seq.{drop-cons, getD-take, length-take-le}
-use Rattle.gf2.specs.Lists.{rev, eqb-lt}
-use Rattle.gf2.specs.Places.{has, minus}
-use Rattle.gf2.specs.Span.{byBool}
+use Rattle.lists.specs.Lists.{rev, has, minus}
+use Rattle.lists.specs.Tests.{eqb-lt, byBool}
 use Rattle.table.specs.Checks.{check, offset, Places, Checks}
 use Rattle.table.specs.Table.{mostPlaces, places, number}
 use Rattle.plan.specs.Step.{pack}

@@ -8,8 +8,8 @@ use native.Mathlib.Numerals.{add-one}
 use native.Mathlib.Omega.{arith}
 use lib.Bits.{bitAnd, and-mask}
 use lib.Dec.{eqb}
-use Rattle.gf2.specs.Bit.{bit, odd, eqb-true, eqb-false}
-use Rattle.gf2.specs.Span.{byBool}
+use Rattle.gf2.specs.Gf2.{bit, odd}
+use Rattle.lists.specs.Tests.{eqb-true, eqb-false, byBool}
 use Rattle.plan.specs.declared.Step.the-variants.{Add}
 use Rattle.plan.specs.Step.{pack}
 use Rattle.rule.specs.Buffers.{maskBits}

@@ -7,7 +7,7 @@ use native.Mathlib.Omega.{arith}
 use borrow.Author.Tests.{eq-eqb, ne-eqb}
 use lib.ListN.{length, getD, take, drop, length-drop, length-map}
 use lib.Seq.{drop-cons, getD-take, getD-drop, length-take-le}
-use Rattle.gf2.specs.Places.{minus}
+use Rattle.lists.specs.Lists.{minus}
 use Rattle.plan.specs.declared.Step.the-variants.{Add}
 use Rattle.plan.specs.Step.{pack}
 use Rattle.emit.specs.Emit.{marked}

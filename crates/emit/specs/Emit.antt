@@ -5,10 +5,8 @@ use mathlib.Core.List.{List, [], _∷_, _++_, map}
 use Prim.Native.Nat.{ℕ, zero, suc, _+_, _<_, _≤_}
 use lib.Dec.{eqb}
 use lib.ListN.{length, getD, set, take}
-use Rattle.gf2.specs.Lists.{rev}
-use Rattle.gf2.specs.Places.{filter, minus}
+use Rattle.lists.specs.Lists.{rev, filter, minus, written}
 use Rattle.table.specs.Checks.{check, from, Checks, Starts}
-use Rattle.table.specs.Packets.{written}
 use Rattle.table.specs.Table.{mostPlaces, places, number}
 use Rattle.plan.specs.declared.Step.{Step}
 use Rattle.plan.specs.Step.{pack}

@@ -8,11 +8,9 @@ use borrow.Author.Tests.{eq-eqb, ne-eqb, ltb-true, ltb-false}
 use lib.Dec.{eqb, ltb}
 use lib.ListN.{length, getD, set, take, replicate, length-set, List·getD-eq-default}
 use lib.Seq.{getD-set-same, getD-set-other, getD-take, length-take-le}
-use Rattle.gf2.specs.Bit.{eqb-true, eqb-false}
-use Rattle.gf2.specs.ListLaws.{has-kept}
-use Rattle.gf2.specs.Lists.{getD-zeros}
-use Rattle.gf2.specs.Places.{has, minus, has-filter}
-use Rattle.gf2.specs.Span.{byBool}
+use Rattle.lists.specs.Tests.{eqb-true, eqb-false, byBool}
+use Rattle.lists.specs.ListLaws.{has-kept, getD-zeros, has-filter}
+use Rattle.lists.specs.Lists.{has, minus}
 use Rattle.table.specs.Checks.{from}
 use Rattle.rule.specs.Rule.{Solved, clearAndAdd, solvingSteps, scratchSteps}
 use Rattle.emit.specs.Emit.{marked, marking, Below}

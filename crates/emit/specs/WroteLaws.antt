@@ -6,8 +6,8 @@ use native.Mathlib.Numerals.{add-one}
 use native.Mathlib.Omega.{arith}
 use lib.ListN.{length, getD, set, take, drop, length-take, length-append, length-map, take-append-drop}
 use lib.Seq.{drop-cons, set-at, take-at, drop-at, drop-drop, take-suc, length-take-le}
-use Rattle.table.specs.BufferLaws.{written-length}
-use Rattle.table.specs.Packets.{written}
+use Rattle.lists.specs.Buffers.{written-length}
+use Rattle.lists.specs.Lists.{written}
 use Rattle.plan.specs.declared.Step.{Step}
 use Rattle.plan.specs.Step.{pack}
 use Rattle.emit.specs.Emit.{Wrote}

@@ -10,14 +10,12 @@ use borrow.Author.Tests.{eqb-true, eqb-false, eq-eqb, ne-eqb}
 use lib.Dec.{eqb}
 use lib.ListN.{length, getD, set, take, drop, replicate, length-set, length-append, length-drop, length-replicate, getD-replicate, List·getD-append, List·getD-eq-default, drop-of-length-le, replicate-append-replicate}
 use lib.Seq.{ext-getD, getD-take, getD-drop, getD-append-add, getD-set-same, getD-set-other, take-all, length-take-le, take-append-add, drop-append-add}
-use Rattle.gf2.specs.Group.{XorGroup}
-use Rattle.gf2.specs.Lists.{getD-zeros}
-use Rattle.gf2.specs.Span.{byBool}
-use Rattle.gf2.specs.Vectors.{add}
-use Rattle.gf2.specs.Width.{All.nil, All.cons}
-use Rattle.table.specs.BufferLaws.{side}
+use Rattle.gf2.specs.Gf2.{XorGroup, add}
+use Rattle.lists.specs.ListLaws.{getD-zeros}
+use Rattle.lists.specs.Tests.{byBool, side}
+use Rattle.lists.specs.Lists.{All.nil, All.cons, written}
 use Rattle.table.specs.PacketLaws.{packets-length, packets-sized}
-use Rattle.table.specs.Packets.{Packets, packets, joined, written}
+use Rattle.table.specs.Packets.{Packets, packets, joined}
 use Rattle.plan.specs.declared.Step.{Step}
 use Rattle.plan.specs.declared.Step.the-variants.{Clear, Add}
 use Rattle.plan.specs.LookOver.{isMarked}

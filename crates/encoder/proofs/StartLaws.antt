@@ -8,11 +8,11 @@ use native.Mathlib.Numerals.{add-one}
 use native.Mathlib.Omega.{arith}
 use lib.ListN.{length, getD, set, take, drop, replicate, length-set, length-append, length-replicate, getD-replicate, List·getD-eq-default}
 use lib.Seq.{drop-cons, take-at, drop-at, set-append-left}
-use Rattle.gf2.specs.Lists.{all-getD, all-set}
-use Rattle.gf2.specs.Span.{byBool}
-use Rattle.gf2.specs.Width.{All.cons}
-use Rattle.table.specs.BufferLaws.{side, set-copied}
-use Rattle.table.specs.Packets.{Packets, packets, joined, written}
+use Rattle.lists.specs.ListLaws.{all-getD, all-set}
+use Rattle.lists.specs.Tests.{byBool, side}
+use Rattle.lists.specs.Lists.{All.cons, written}
+use Rattle.table.specs.BufferLaws.{set-copied}
+use Rattle.table.specs.Packets.{Packets, packets, joined}
 use Rattle.table.specs.PacketLaws.{packets-length, packets-sized, packets-joined, joined-packets}
 use Rattle.plan.specs.declared.Step.{Step}
 use Rattle.plan.specs.Layout.{planPlaces, planGap, infoCount, infoIn, slots}

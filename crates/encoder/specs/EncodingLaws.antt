@@ -10,14 +10,14 @@ use borrow.Author.Tests.{eq-eqb, ne-eqb, eqb-true, not-false}
 use lib.Dec.{eqb}
 use lib.ListN.{take, drop}
 use lib.Seq.{take-all}
-use Rattle.gf2.specs.Width.{All.cons}
-use Rattle.table.specs.BufferLaws.{side}
-use Rattle.table.specs.FirstCause.{firstCause, wrongLength, NoneHolds, none-holds, none-refuses, first-decides, rest-decides}
-use Rattle.table.specs.Packets.{packets, joined}
-use Rattle.plan.specs.Layout.{planPlaces, planSize, planGap, infoCount, infoIn, slots, stepCount, stepsOf, planCauses, planRefusal}
+use Rattle.lists.specs.Lists.{All.cons}
+use Rattle.lists.specs.Tests.{side}
+use Rattle.table.specs.FirstCause.{firstCause, wrongLength, NoneHolds}
+use Rattle.table.specs.FirstCauseLaws.{none-holds, none-refuses, first-decides, rest-decides}
+use Rattle.table.specs.Packets.{joined}
+use Rattle.plan.specs.Layout.{planPlaces, planSize, planGap, infoCount, stepCount, stepsOf, planCauses, planRefusal}
 use Rattle.plan.specs.LayoutLaws.{formed, not-refused, steps-length, or-left, or-right}
 use Rattle.plan.specs.Step.{addSteps}
-use Rattle.plan.specs.Steps.{carryOutAll, atStart}
 use Rattle.encoder.specs.Encoding.{stepsWithin, slotsAfter, wrongLengths, encodeRefusal, Answer, answerAt, encodingRefused, encodeAnswer, blockAfter, scratchAfter}
 
 -- ---- the refusal
@@ -111,12 +111,6 @@ count-alike w limit i b c i′ b′ c′ h k = count-within w i b c limit h ∙ 
 -- a limit at or above the plan's count means all
 pub limit-all : (w : List ℕ) (limit : ℕ) → planRefusal w ≡ 0 → stepCount w ≤ limit → stepsWithin w limit ≡ stepsOf w
 limit-all w limit h l = take-all limit (stepsOf w) (let e = steps-length w (formed w (not-refused w h)) in omega arith)
-
-pub limit-above : (w information : List ℕ) (limit : ℕ) → planRefusal w ≡ 0 → stepCount w ≤ limit
-    → slotsAfter w information limit ≡ slotsAfter w information (stepCount w)
-limit-above w information limit h l =
-    ap (carryOutAll (planSize w) (atStart (slots w) (planSize w) (infoIn w) (packets (planSize w) (infoCount w) information)))
-    (limit-all w limit h l ∙ sym (limit-all w (stepCount w) h (omega arith)))
 
 -- the smaller of limit and count says as much as the limit
 pub limit-least : (w : List ℕ) (limit : ℕ) → planRefusal w ≡ 0 → take (min limit (stepCount w)) (stepsOf w) ≡ stepsWithin w limit

@@ -1,32 +1,19 @@
 -- The largest stopping set among the lost places: there is one and only one, and it is what stays lost.
-use mathlib.Core.Path.{_≡_, refl, sym, ap, _∙_, subst}
-use mathlib.Core.Bool.{Bool, true, false, true≢false, false≢true}
+use mathlib.Core.Path.{_≡_, refl, sym, _∙_}
+use mathlib.Core.Bool.{Bool, true, true≢false, false≢true}
 use mathlib.Core.List.{List, [], _∷_}
 use mathlib.Core.Logic.{_≢_}
 use mathlib.Core.Option.{Option, none, some}
-use Prim.Native.Nat.{ℕ, zero, suc, _+_, _<_, _≤_}
+use Prim.Native.Nat.{ℕ, zero, suc, _≤_}
 use native.Mathlib.Omega.{arith}
 use lib.Dec.{eqb}
-use lib.ListN.{length, getD, set}
-use Rattle.gf2.specs.Bit.{eqb-false}
-use Rattle.gf2.specs.Lists.{byOpt}
+use lib.ListN.{length, set}
+use Rattle.erasure.specs.Restoring.{State, lostPlaces, ready, restoring, repaired, outcome, isLost, Stopping, Largest}
+use Rattle.erasure.specs.Stopping.{never, stops, lostIn}
+use Rattle.lists.specs.Lists.{All.nil, All.cons}
+use Rattle.lists.specs.Tests.{eqb-false, byOpt, byBool}
 use Rattle.table.specs.Packets.{packets}
 use Rattle.table.specs.Table.{places, size, checks}
-use Rattle.erasure.specs.Restoring.{State, lostPlaces, ready, restoring, repaired, outcome}
-use Rattle.gf2.specs.Places.{filter}
-use Rattle.gf2.specs.Span.{byBool}
-use Rattle.erasure.specs.Stopping.{isLost, Stopping, never, stops, lostIn}
-use Rattle.gf2.specs.Width.{All, All.nil, All.cons}
-
--- a stopping set among the lost places of the map
-pub record AmongLost (t map : List ℕ) (S : ℕ → Bool) : Type 0 where
-  pub stopping : Stopping (checks t) S
-  pub lost : (p : ℕ) → S p ≡ true → isLost map p ≡ true
-
--- L is the largest of them: every other lies within it
-pub record Largest (t map : List ℕ) (L : ℕ → Bool) : Type 0 where
-  pub among : AmongLost t map L
-  pub holds : (S : ℕ → Bool) → AmongLost t map S → (p : ℕ) → S p ≡ true → L p ≡ true
 
 -- nothing becomes lost
 pub set-lost : (l : List ℕ) (q p : ℕ) → isLost (set l q 2) p ≡ true → isLost l p ≡ true

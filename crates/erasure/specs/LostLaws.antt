@@ -10,14 +10,11 @@ use borrow.Author.Tests.{ne-eqb}
 use lib.Dec.{eqb}
 use lib.ListN.{length, getD, set, take, drop}
 use lib.Seq.{drop-cons, getD-set-same, getD-set-other}
-use Rattle.gf2.specs.Bit.{eqb-true, eqb-self}
-use Rattle.gf2.specs.Lists.{Distinct, Distinct.dnil, Distinct.dnew}
-use Rattle.gf2.specs.Places.{has, filter, or-false-l, or-false-r}
-use Rattle.gf2.specs.Span.{byBool}
+use Rattle.lists.specs.Tests.{eqb-true, eqb-self, or-false-l, or-false-r, byBool}
+use Rattle.lists.specs.Lists.{Distinct, Distinct.dnil, Distinct.dnew, has, filter}
 use Rattle.table.specs.Checks.{Places}
-use Rattle.erasure.specs.Restoring.{lostPlaces}
+use Rattle.erasure.specs.Restoring.{lostPlaces, isLost}
 use Rattle.erasure.specs.RestoringLaws.{lost-inside}
-use Rattle.erasure.specs.Stopping.{isLost}
 
 -- no more pass than there are
 pub filter-less : (f : ℕ → Bool) (c : List ℕ) → length (filter f c) ≤ length c

@@ -6,12 +6,9 @@ use Prim.Native.Nat.{ℕ, zero, suc, _*_, _<_, _≤_}
 use native.Mathlib.Omega.{arith}
 use lib.Dec.{eqb}
 use lib.ListN.{length, getD, replicate, length-replicate}
-use Rattle.gf2.specs.Bit.{eqb-false, eqb-comm}
-use Rattle.gf2.specs.Lists.{sameList, byOpt}
-use Rattle.gf2.specs.Places.{filter}
-use Rattle.gf2.specs.Span.{byBool}
-use Rattle.gf2.specs.Width.{All, All.nil, All.cons}
-use Rattle.table.specs.Codewords.{zero-sound}
+use Rattle.lists.specs.Tests.{eqb-false, eqb-comm, byOpt, byBool}
+use Rattle.lists.specs.Lists.{sameList, filter, All, All.nil, All.cons}
+use Rattle.table.specs.CodewordLaws.{zero-sound}
 use Rattle.table.specs.PacketCall.{partAt}
 use Rattle.table.specs.PacketLaws.{packets-length, packets-sized, joined-packets, packet-at}
 use Rattle.table.specs.Packets.{Packets, packets, joined, packetSum}

@@ -1,25 +1,30 @@
 -- Restoring (document 01, "Repair and the other calls"). A block is its n packets; the lost map has a byte a place: 1 is lost, any
 -- other byte is known; a restored place is marked 2.
-use mathlib.Core.Path.{_≡_}
 use mathlib.Core.Bool.{Bool, true, false, cond, not, _||_}
 use mathlib.Core.List.{List, [], _∷_}
 use mathlib.Core.Option.{Option, none, some}
 use Prim.Native.Nat.{ℕ, zero, suc, _+_, _-_}
 use lib.Dec.{eqb}
 use lib.ListN.{length, getD, set, replicate}
-use Rattle.gf2.specs.Lists.{allPass, sameList}
-use Rattle.gf2.specs.Places.{filter, minus}
+use mathlib.Core.Logic.{_≢_}
+use mathlib.Core.Path.{_≡_}
+use Rattle.lists.specs.Lists.{allPass, sameList, filter, minus, All}
 use Rattle.table.specs.Packets.{packets, joined, packetSum}
 use Rattle.table.specs.Table.{places, size, checks}
 
+-- the packets, the map, and the additions made so far
 pub record State : Type 0 where
   pub block : List (List ℕ)
   pub map : List ℕ
   pub adds : ℕ
 
+-- place p is lost
+abbrev pub isLost : List ℕ → ℕ → Bool
+isLost map p = eqb (getD map p 0) 1
+
 -- the lost places of a check
 abbrev pub lostPlaces : List ℕ → List ℕ → List ℕ
-lostPlaces map c = filter (λ p. eqb (getD map p 0) 1) c
+lostPlaces map c = filter (isLost map) c
 
 -- the lowest check with exactly one lost place
 abbrev pub ready : List ℕ → List (List ℕ) → Option (List ℕ)
@@ -83,3 +88,18 @@ blockIf false t b map = joined (zeroLost (size t) map (packets (size t) (places 
 abbrev pub mapIf : Bool → List ℕ → List ℕ → List ℕ → List ℕ
 mapIf true t b map = outcome t b map .map
 mapIf false t b map = map
+
+-- ---- what cannot be restored
+-- a stopping set: every check meets it in none of its places or in at least two
+abbrev pub Stopping : List (List ℕ) → (ℕ → Bool) → Type 0
+Stopping cs S = All (λ c. length (filter S c) ≢ 1) cs
+
+-- a stopping set among the lost places of the map
+pub record AmongLost (t map : List ℕ) (S : ℕ → Bool) : Type 0 where
+  pub stopping : Stopping (checks t) S
+  pub lost : (p : ℕ) → S p ≡ true → isLost map p ≡ true
+
+-- L is the largest of them: every other lies within it
+pub record Largest (t map : List ℕ) (L : ℕ → Bool) : Type 0 where
+  pub among : AmongLost t map L
+  pub holds : (S : ℕ → Bool) → AmongLost t map S → (p : ℕ) → S p ≡ true → L p ≡ true

@@ -1,23 +1,21 @@
 -- Restoring keeps the shape of block and map, writes no received place and marks what it restores.
-use mathlib.Core.Path.{_≡_, refl, sym, ap, ap₂, _∙_, subst}
-use mathlib.Core.Bool.{Bool, true, false, not, true≢false, false≢true}
+use mathlib.Core.Path.{_≡_, refl, sym, ap, _∙_, subst}
+use mathlib.Core.Bool.{true, false, not, true≢false, false≢true}
 use mathlib.Core.List.{List, [], _∷_}
 use mathlib.Core.Logic.{_≢_}
-use mathlib.Core.Option.{Option, none, some}
-use Prim.Native.Nat.{ℕ, zero, suc, _+_, _-_, _<_, _≤_}
+use mathlib.Core.Option.{some}
+use Prim.Native.Nat.{ℕ, zero, suc, _-_, _<_, _≤_}
 use native.Mathlib.Omega.{arith}
 use lib.Dec.{eqb}
-use lib.ListN.{length, getD, set, replicate, length-set, length-replicate}
+use lib.ListN.{length, getD, set, length-set}
 use lib.Seq.{getD-set-same, getD-set-other}
-use Rattle.gf2.specs.Bit.{eqb-true, eqb-false}
-use Rattle.gf2.specs.Lists.{byOpt, all-filter, all-set, all-zip}
-use Rattle.gf2.specs.Places.{has, filter, minus}
-use Rattle.gf2.specs.Span.{byBool}
-use Rattle.gf2.specs.Width.{All, All.nil, All.cons, all-map, all-of}
-use Rattle.table.specs.Packets.{Packets, packetSum}
+use Rattle.lists.specs.Tests.{eqb-true, eqb-false, byOpt, byBool}
+use Rattle.lists.specs.ListLaws.{all-filter, all-set, all-map, all-of}
+use Rattle.lists.specs.Lists.{has, minus, All}
+use Rattle.table.specs.Packets.{Packets}
 use Rattle.table.specs.PacketLaws.{sum-view}
-use Rattle.erasure.specs.Restoring.{State, lostPlaces, ready, restoring, repaired, zeroLost}
-use Rattle.erasure.specs.Stopping.{isLost, ready-all, first-lost, lostIn, restore-one}
+use Rattle.erasure.specs.Restoring.{State, lostPlaces, ready, restoring, isLost}
+use Rattle.erasure.specs.Stopping.{ready-all, first-lost, lostIn, restore-one}
 
 -- a ready check has one lost place ..
 pub ready-one : (lost : List ℕ) (cs : List (List ℕ)) (c : List ℕ) → ready lost cs ≡ some c → length (lostPlaces lost c) ≡ 1

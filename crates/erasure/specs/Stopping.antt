@@ -1,28 +1,17 @@
 -- Repair never restores a place of a stopping set, and stops only at one.
-use mathlib.Core.Path.{_≡_, refl, sym, ap, ap₂, _∙_, subst}
-use mathlib.Core.Bool.{Bool, true, false, cond, not, _||_, true≢false, false≢true}
-use mathlib.Core.List.{List, [], _∷_, _++_, map}
+use mathlib.Core.Path.{_≡_, refl, sym, ap, _∙_, subst}
+use mathlib.Core.Bool.{Bool, true, false, true≢false, false≢true}
+use mathlib.Core.List.{List, [], _∷_}
 use mathlib.Core.Logic.{_≢_}
 use mathlib.Core.Option.{Option, none, some}
-use Prim.Native.Nat.{ℕ, zero, suc, _+_, _-_, _<_, _≤_}
+use Prim.Native.Nat.{ℕ, zero, suc, _-_, _≤_}
 use native.Mathlib.Omega.{arith}
 use lib.Dec.{eqb}
 use lib.ListN.{length, getD, set}
-use lib.Seq.{getD-set-same, getD-set-other}
-use Rattle.gf2.specs.Bit.{eqb-true, eqb-false, eqb-self}
-use Rattle.table.specs.Packets.{packetSum}
-use Rattle.gf2.specs.Lists.{byOpt}
-use Rattle.erasure.specs.Restoring.{State, lostPlaces, ready, restoring}
-use Rattle.gf2.specs.Places.{has, filter, minus}
-use Rattle.gf2.specs.Span.{byBool}
-use Rattle.gf2.specs.Width.{All, All.nil, All.cons, all-map}
-
-abbrev pub isLost : List ℕ → ℕ → Bool
-isLost lost p = eqb (getD lost p 0) 1
-
--- a set of places that every check meets in none or in at least two
-abbrev pub Stopping : List (List ℕ) → (ℕ → Bool) → Type 0
-Stopping cs S = All (λ c. length (filter S c) ≢ 1) cs
+use lib.Seq.{getD-set-other}
+use Rattle.erasure.specs.Restoring.{State, lostPlaces, ready, restoring, isLost, Stopping}
+use Rattle.lists.specs.Lists.{filter, All, All.nil, All.cons}
+use Rattle.lists.specs.Tests.{eqb-true, byOpt, byBool}
 
 pub filter-mono : (f g : ℕ → Bool) → ((p : ℕ) → f p ≡ true → g p ≡ true) → (c : List ℕ) → length (filter f c) ≤ length (filter g c)
 filter-mono f g h [] = omega arith

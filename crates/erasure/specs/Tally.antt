@@ -1,18 +1,16 @@
 -- Repair's counts: what is restored and what stays lost together is what was lost.
-use mathlib.Core.Path.{_≡_, refl, sym, ap, _∙_, subst}
-use mathlib.Core.Bool.{Bool, true, false, true≢false, false≢true}
+use mathlib.Core.Path.{_≡_, refl, ap, _∙_}
+use mathlib.Core.Bool.{true, false, false≢true}
 use mathlib.Core.List.{List, [], _∷_}
-use mathlib.Core.Option.{Option, none, some}
 use Prim.Native.Nat.{ℕ, zero, suc, _+_, _≤_}
 use native.Mathlib.Omega.{arith}
 use lib.Dec.{eqb}
-use lib.ListN.{length, getD, set}
-use Rattle.gf2.specs.Bit.{eqb-true, eqb-false}
-use Rattle.gf2.specs.Lists.{byOpt}
-use Rattle.erasure.specs.Restoring.{State, lostPlaces, ready, restoring, repaired}
-use Rattle.gf2.specs.Span.{byBool}
-use Rattle.erasure.specs.Stopping.{isLost, lostIn, ready-all, first-lost, restore-one}
-use Rattle.gf2.specs.Width.{All, All.nil, All.cons, all-of}
+use lib.ListN.{set}
+use Rattle.lists.specs.Tests.{eqb-true, byOpt, byBool}
+use Rattle.erasure.specs.Restoring.{State, ready, restoring, repaired, isLost}
+use Rattle.erasure.specs.Stopping.{lostIn, ready-all, first-lost, restore-one}
+use Rattle.lists.specs.Lists.{All, All.nil, All.cons}
+use Rattle.lists.specs.ListLaws.{all-of}
 
 -- places whose map byte is 2
 abbrev pub restoredIn : List ℕ → ℕ

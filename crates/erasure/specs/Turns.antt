@@ -3,7 +3,7 @@ use mathlib.Core.Path.{_≡_}
 use mathlib.Core.List.{List, [], _∷_}
 use Prim.Native.Nat.{ℕ, _+_, _-_, _≤_}
 use lib.ListN.{length, getD, set}
-use Rattle.gf2.specs.Places.{minus}
+use Rattle.lists.specs.Lists.{minus}
 use Rattle.table.specs.Packets.{packets, joined, packetSum}
 use Rattle.erasure.specs.Restoring.{State, lostPlaces, restoring}
 

@@ -1,29 +1,26 @@
 -- Repair restores the packets of the codeword, and then nothing contradicts.
 use mathlib.Core.Path.{_≡_, refl, sym, ap, ap₂, _∙_, subst}
 use mathlib.Core.Bool.{Bool, true, false, cond, not, _||_, _&&_, true≢false, false≢true}
-use mathlib.Core.List.{List, [], _∷_, _++_, map}
+use mathlib.Core.List.{List, [], _∷_, map}
 use mathlib.Core.Logic.{_≢_}
-use mathlib.Core.Option.{Option, none, some}
-use Prim.Native.Nat.{ℕ, zero, suc, _+_, _-_, _<_, _≤_}
+use Prim.Native.Nat.{ℕ, zero, suc, _-_, _<_}
 use native.Mathlib.Nat.{suc-inj}
 use native.Mathlib.Omega.{arith}
 use lib.Dec.{eqb}
 use lib.Bits.{bitXor}
-use lib.ListN.{length, getD, set, replicate, length-replicate, length-set}
+use lib.ListN.{length, getD, set, replicate, length-set}
 use lib.Seq.{ext-getD, getD-set-same, getD-set-other}
-use Rattle.gf2.specs.Group.{Group2, XorGroup, bxor, sumOver, eq-zero}
-use Rattle.table.specs.Codewords.{same-self}
+use Rattle.gf2.specs.Gf2.{XorGroup, sumOver, add}
+use Rattle.lists.specs.Lists.{bxor, sameList, has, par, filter, minus, All, All.nil, All.cons}
+use Rattle.gf2.specs.Group.{eq-zero}
+use Rattle.lists.specs.ListLaws.{same-self, all-filter, all-zip, filter-in, all-in, all-getD, getD-zeros, par-has, all-map}
 use Rattle.table.specs.PacketLaws.{view, sum-view}
-use Rattle.gf2.specs.Bit.{eqb-true, eqb-false, eqb-self, eqb-comm}
+use Rattle.lists.specs.Tests.{eqb-true, eqb-false, eqb-self, byOpt, byBool}
 use Rattle.table.specs.Packets.{packetSum, Packets}
-use Rattle.erasure.specs.Largest.{set-lost, restoring-within}
-use Rattle.gf2.specs.Lists.{all-filter, all-zip, filter-in, all-in, allPass, sameList, all-getD, getD-zeros, byOpt, par-has}
-use Rattle.erasure.specs.Restoring.{State, lostPlaces, ready, restoring, repaired, zeroLost, consistent}
-use Rattle.gf2.specs.Vectors.{add}
-use Rattle.gf2.specs.Places.{has, par, has-par, filter, minus, sum-apart, or-false-l}
-use Rattle.gf2.specs.Span.{byBool}
-use Rattle.erasure.specs.Stopping.{isLost, ready-all, first-lost}
-use Rattle.gf2.specs.Width.{All, All.nil, All.cons, all-map}
+use Rattle.erasure.specs.Largest.{restoring-within}
+use Rattle.erasure.specs.Restoring.{State, lostPlaces, ready, restoring, repaired, zeroLost, consistent, isLost}
+use Rattle.gf2.specs.Places.{sum-apart}
+use Rattle.erasure.specs.Stopping.{ready-all, first-lost}
 
 -- ---- a check with no lost place, or with one
 none-passes : (f : ℕ → Bool) (c : List ℕ) → length (filter f c) ≡ 0 → All (λ p. f p ≡ false) c

@@ -1,43 +1,17 @@
 -- The binary digits of a number, and exclusive-or.
-use mathlib.Core.Path.{_≡_, refl, sym, ap, ap₂, _∙_, subst}
-use mathlib.Core.Bool.{Bool, true, false, cond, false≢true, true≢false}
-use mathlib.Core.List.{List, [], _∷_, _++_, map}
-use Prim.Native.Nat.{ℕ, zero, suc, _+_, _*_, _/_, _%_, _^_, _≤_, _<_}
-use native.Mathlib.Nat.{mod-lt, pow-suc, mul-mod-left, mul-div-cancel, div-add-mod', div-one, div-div-eq-div-mul, div-eq-of-lt, mul-comm}
+use mathlib.Core.Path.{_≡_, refl, sym, ap, _∙_}
+use mathlib.Core.Bool.{Bool, true, false, true≢false}
+use Prim.Native.Nat.{ℕ, zero, suc, _+_, _*_, _/_, _%_, _^_, _<_}
+use native.Mathlib.Nat.{mod-lt, pow-suc, mul-mod-left, mul-div-cancel, div-one, div-div-eq-div-mul, div-eq-of-lt, mul-comm}
 use native.Mathlib.Omega.{arith}
-use lib.Arith.{digits-div, digits-mod}
+use lib.Arith.{digits-mod}
 use lib.Bits.{bitXor, differ}
 use mathlib.Core.Logic.{_≢_}
-use lib.Dec.{T, eqb→eq, eqb-refl, eqb, eqb·zero-suc, eqb·suc-zero, eqb·suc-suc}
-use Rattle.gf2.specs.Group.{Group2, XorGroup, BoolGroup, bxor, bxor-self, xor-half, xor-low, two-pos, sumOver}
-use Rattle.gf2.specs.Span.{byBool}
-use Rattle.gf2.specs.Width.{All, All.nil, All.cons, Hom, hom-o}
-
-pub T-true : (b : Bool) → T b → b ≡ true
-T-true true t = refl
-T-true false t = absurd t
-
-pub eqb-true : (m n : ℕ) → eqb m n ≡ true → m ≡ n
-eqb-true m n e = eqb→eq m n (subst T (sym e) tt)
-
-pub eqb-self : (n : ℕ) → eqb n n ≡ true
-eqb-self n = T-true (eqb n n) (eqb-refl n)
-
-pub eqb-false : (m n : ℕ) → eqb m n ≡ false → m ≢ n
-eqb-false m n e q = false≢true (sym e ∙ ap (eqb m) (sym q) ∙ T-true (eqb m m) (eqb-refl m))
-
-pub eqb-comm : (m n : ℕ) → eqb m n ≡ eqb n m
-eqb-comm m n = byBool (eqb m n)
-    (λ e. e ∙ sym (ap (eqb n) (eqb-true m n e) ∙ eqb-self n))
-    (λ e. byBool (eqb n m) (λ f. absurd (eqb-false m n e (sym (eqb-true n m f)))) (λ f. e ∙ sym f))
-
-abbrev pub odd : ℕ → Bool
-odd zero = false
-odd (suc n) = true
-
-abbrev pub bit : ℕ → ℕ → Bool
-bit zero r = odd (r % 2)
-bit (suc p) r = bit p (r / 2)
+use lib.Dec.{eqb, eqb·zero-suc, eqb·suc-zero, eqb·suc-suc}
+use Rattle.gf2.specs.Gf2.{XorGroup, odd, bit, num}
+use Rattle.gf2.specs.Rank.{Hom, hom-o}
+use Rattle.gf2.specs.Xor.{xor-half, xor-low, two-pos}
+use Rattle.lists.specs.Lists.{bxor}
 
 odd-differ : (x y : ℕ) → x < 2 → y < 2 → odd (differ x y) ≡ bxor (odd x) (odd y)
 odd-differ zero y hx hy = refl
@@ -65,18 +39,9 @@ bits-zero (suc k) x h z =
     let r : x % 2 ≡ 0 = odd-false (x % 2) (z zero (omega arith)) in
     omega arith
 
--- a digit put in front
-abbrev pub num : Bool → ℕ
-num true = 1
-num false = 0
-
 pub bit-push-zero : (b : Bool) (c : ℕ) → bit zero (c * 2 + num b) ≡ b
 bit-push-zero true c = rw (digits-mod c {m = 2} {r = 1} (omega arith))
 bit-push-zero false c = rw (digits-mod c {m = 2} {r = 0} (omega arith))
-
-pub bit-push-suc : (b : Bool) (p c : ℕ) → bit (suc p) (c * 2 + num b) ≡ bit p c
-bit-push-suc true p c = rw (digits-div c {m = 2} {r = 1} (omega arith))
-bit-push-suc false p c = rw (digits-div c {m = 2} {r = 0} (omega arith))
 
 pub bit-zero : (p : ℕ) → bit p 0 ≡ false
 bit-zero p = hom-o XorGroup (bit-hom p)

@@ -10,14 +10,14 @@ use lib.ListN.{length, getD, take, drop, length-take}
 use lib.Pow.{pow-lt, pow-pos, pow-mono}
 use lib.Seq.{getD-drop, getD-take}
 use borrow.Author.Tests.{ltb-true, ltb-false}
-use Rattle.gf2.specs.Bit.{bit, bit-adds, bit-zero, bit-high, eqb-true, eqb-false}
-use Rattle.gf2.specs.Echelon.{Short, Bits, Lead, rowsOf, sums, down, path}
-use Rattle.gf2.specs.Fit.{isZero, isZero-sound}
-use Rattle.gf2.specs.Group.{XorGroup, bxor, sumOver, zr, cancel-mid, cancel-r, left-comm}
-use Rattle.gf2.specs.Lists.{below-of, map-all}
-use Rattle.gf2.specs.Places.{rowOf}
-use Rattle.gf2.specs.Span.{byBool, Span, span-zero, span-add, span-head, span-tail, isSum-sound, isSum-complete}
-use Rattle.gf2.specs.Width.{All, All.nil, All.cons, all-map}
+use Rattle.gf2.specs.Bit.{bit-adds, bit-zero, bit-high}
+use Rattle.gf2.specs.Columns.{isZero-sound}
+use Rattle.gf2.specs.Gf2.{bit, Short, Bits, Lead, rowsOf, sums, down, path, isZero, XorGroup, sumOver, rowOf}
+use Rattle.gf2.specs.Group.{zr, cancel-mid, cancel-r, left-comm}
+use Rattle.gf2.specs.Span.{Span, span-zero, span-add, span-head, span-tail, isSum-sound, isSum-complete}
+use Rattle.lists.specs.ListLaws.{below-of, map-all, all-map}
+use Rattle.lists.specs.Lists.{bxor, All, All.nil, All.cons}
+use Rattle.lists.specs.Tests.{eqb-true, eqb-false, byBool}
 
 -- ---- a row that has no place from l on
 pub short-more : {l k x : ℕ} → Short l x → l ≤ k → Short k x

@@ -1,18 +1,49 @@
--- What the greedy choice keeps: what holds of all members, being without repeats, and rows that are independent in their own order.
-use mathlib.Core.Path.{_≡_, refl, ap₂}
-use mathlib.Core.Bool.{false, _||_}
+-- What the greedy choice comes to: independent rows of which every row is a sum; and what it keeps: what holds of all members, being without repeats, rows that are independent in their own order.
+use mathlib.Core.Path.{_≡_, sym, _∙_, refl, ap₂}
+use mathlib.Core.Bool.{Bool, true, false, false≢true, _||_}
 use mathlib.Core.List.{List, [], _∷_, _++_, map}
-use Prim.Native.Nat.{ℕ}
+use Prim.Native.Nat.{_+_, ℕ}
+use native.Mathlib.Omega.{arith}
+use lib.ListN.{length}
 use lib.Dec.{eqb}
-use Rattle.gf2.specs.Fit.{isZero}
-use Rattle.gf2.specs.Greedy.{choose, onto}
-use Rattle.gf2.specs.Group.{XorGroup}
-use Rattle.gf2.specs.Independent.{Indep}
+use Rattle.gf2.specs.Gf2.{Group2, isSum, choose, onto, isZero, XorGroup}
+use Rattle.gf2.specs.Independent.{Indep, Indep.free}
 use Rattle.gf2.specs.IndependentOrder.{indep-pull}
-use Rattle.gf2.specs.Lists.{Distinct, Distinct.dnil, Distinct.dnew}
-use Rattle.gf2.specs.Places.{has, or-false-l, or-false-r}
-use Rattle.gf2.specs.Span.{byBool, isSum}
-use Rattle.gf2.specs.Width.{All, All.nil, All.cons}
+use Rattle.gf2.specs.Span.{Span, span-head, Within, Within.more, within-self, span-within, isSum-sound, isSum-complete}
+use Rattle.lists.specs.Lists.{All, All.nil, All.cons, Distinct, Distinct.dnil, Distinct.dnew, has}
+use Rattle.lists.specs.Tests.{byBool, or-false-l, or-false-r}
+
+module _ {A : Type 0} (G : Group2 A) (isZero : A → Bool) {X : Type 0} (f : X → A) where
+  pub onto-length : (K : List A) (xs : List X) → length (onto G isZero f K xs) ≡ length K + length xs
+  onto-length K [] = omega arith
+  onto-length K (x ∷ xs) = let h = onto-length (f x ∷ K) xs in omega arith
+
+  pub onto-in : (K : List A) (xs : List X) → Within G (onto G isZero f K xs) K
+  onto-in K [] = within-self G K
+  onto-in K (x ∷ xs) = tl (onto-in (f x ∷ K) xs)
+    where
+      tl : {S : List A} → Within G S (f x ∷ K) → Within G S K
+      tl (more p w) = w
+
+  pub onto-has : (K : List A) (xs : List X) → All (λ x. Span G (onto G isZero f K xs) (f x)) xs
+  onto-has K [] = nil
+  onto-has K (x ∷ xs) = cons (hd (onto-in (f x ∷ K) xs)) (onto-has (f x ∷ K) xs)
+    where
+      hd : {S : List A} → Within G S (f x ∷ K) → Span G S (f x)
+      hd (more p w) = p
+
+  module _ (isZero-sound : (x : A) → isZero x ≡ true → x ≡ G .o) (isZero-o : isZero (G .o) ≡ true) where
+    pub choose-indep : (K : List A) (xs : List X) → Indep G K → Indep G (onto G isZero f K (choose G isZero f K xs))
+    choose-indep K [] i = i
+    choose-indep K (x ∷ xs) i = byBool (isSum G isZero K (f x))
+        (λ e. rw (e, choose) (choose-indep K xs i))
+        (λ e. rw (e, choose) (choose-indep (f x ∷ K) xs (free (λ p. false≢true (sym e ∙ isSum-complete G isZero isZero-sound isZero-o K (f x) p)) i)))
+
+    pub choose-spans : (K : List A) (xs : List X) → All (λ x. Span G (onto G isZero f K (choose G isZero f K xs)) (f x)) xs
+    choose-spans K [] = nil
+    choose-spans K (x ∷ xs) = byBool (isSum G isZero K (f x))
+        (λ e. rw (e, choose) (cons (span-within G (onto-in K (choose G isZero f K xs)) (isSum-sound G isZero isZero-sound isZero-o K (f x) e)) (choose-spans K xs)))
+        (λ e. rw (e, choose) (cons (span-within G (onto-in (f x ∷ K) (choose G isZero f (f x ∷ K) xs)) (span-head G)) (choose-spans (f x ∷ K) xs)))
 
 -- what holds of all holds of the chosen
 pub all-choose : {X : Type 0} {P : X → Type 0} (f : X → ℕ) (K : List ℕ) {xs : List X} → All P xs → All P (choose XorGroup isZero f K xs)

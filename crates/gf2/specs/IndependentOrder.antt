@@ -3,7 +3,8 @@ use mathlib.Core.Path.{subst}
 use mathlib.Core.List.{List, [], _∷_, _++_}
 use mathlib.Core.Logic.{⊎-elim}
 use Prim.Native.Nat.{ℕ}
-use Rattle.gf2.specs.Group.{Group2, XorGroup, cancel-r}
+use Rattle.gf2.specs.Gf2.{Group2, XorGroup}
+use Rattle.gf2.specs.Group.{cancel-r}
 use Rattle.gf2.specs.Independent.{Indep, Indep.free, split}
 use Rattle.gf2.specs.Span.{Span, span-add, span-head, span-tail, span-within, Within, Within.more, within-tail, within-self}
 

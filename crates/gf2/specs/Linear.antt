@@ -5,10 +5,11 @@ use mathlib.Core.List.{List, [], _∷_, map}
 use Prim.Native.Nat.{ℕ}
 use native.Mathlib.Omega.{arith}
 use lib.ListN.{length}
-use Rattle.gf2.specs.Group.{Group2, XorGroup, sumOver, cancel, eq-zero}
+use Rattle.gf2.specs.Gf2.{Group2, XorGroup, sumOver, comb}
+use Rattle.gf2.specs.Group.{cancel, eq-zero}
 use Rattle.gf2.specs.Independent.{Indep, Indep.empty, Indep.free}
-use Rattle.gf2.specs.Span.{comb, madd, comb-add}
-use Rattle.gf2.specs.Width.{All, All.nil, All.cons}
+use Rattle.gf2.specs.Span.{madd, comb-add}
+use Rattle.lists.specs.Lists.{All, All.nil, All.cons}
 
 -- f of a sum is the sum of both f
 pub record Lin {A B : Type 0} (G : Group2 A) (K : Group2 B) (f : A → B) : Type 0 where
@@ -38,8 +39,8 @@ lin-zero G h (cons p a) [] = lin-o XorGroup G h
 lin-zero G h (cons {x = r} {l = R} p a) (true ∷ m) = h .adds r (comb XorGroup m R) ∙ ap₂ (G ._⊕_) p (lin-zero G h a m) ∙ G .zl (G .o)
 lin-zero G h (cons p a) (false ∷ m) = lin-zero G h a m
 
--- ---- a sum of independent rows says which rows: so it can be carried over to other rows
 module _ {A B : Type 0} (G : Group2 A) (K : Group2 B) where
+  -- ---- a sum of independent rows says which rows: so it can be carried over to other rows
   carry-zero : {R : List A} → Indep G R → (S : List B) → length R ≡ length S → (m : List Bool) → comb G m R ≡ G .o → comb K m S ≡ K .o
   carry-zero empty [] l m e = refl
   carry-zero empty (s ∷ S) l m e = absurd (omega arith)

@@ -8,13 +8,13 @@ use native.Mathlib.Omega.{arith}
 use lib.Bits.{bitXor, xor-lt}
 use lib.Dec.{eqb}
 use lib.Pow.{pow-pos}
-use Rattle.gf2.specs.Bit.{bit, bit-adds, bit-pow, eqb-true, eqb-false}
-use Rattle.gf2.specs.Fit.{below}
-use Rattle.gf2.specs.Group.{Group2, XorGroup, bxor, sumOver, sumOver-add, zr, two-pos}
+use Rattle.gf2.specs.Bit.{bit-adds, bit-pow}
+use Rattle.gf2.specs.Gf2.{bit, Group2, XorGroup, sumOver, rowOf}
+use Rattle.gf2.specs.Group.{sumOver-add, zr}
 use Rattle.gf2.specs.Linear.{Lin, lin-o}
-use Rattle.gf2.specs.Places.{rowOf}
-use Rattle.gf2.specs.Span.{byBool}
-use Rattle.gf2.specs.Width.{All, All.nil, All.cons}
+use Rattle.gf2.specs.Xor.{two-pos}
+use Rattle.lists.specs.Lists.{below, bxor, All, All.nil, All.cons}
+use Rattle.lists.specs.Tests.{eqb-true, eqb-false, byBool}
 
 -- the row of places below n is below 2 ^ n
 pub row-lt : (n : ℕ) {c : List ℕ} → All (λ p. p < n) c → rowOf c < 2 ^ n

@@ -1,14 +1,14 @@
 -- The mask of a sum of independent rows is the only one.
-use mathlib.Core.Path.{_≡_, refl, sym, _∙_, ap, ap₂}
-use mathlib.Core.Bool.{Bool, true, false, _||_, cond, true≢false, false≢true}
-use mathlib.Core.List.{List, [], _∷_, _++_, map}
-use Prim.Native.Nat.{ℕ, zero, suc, _+_, _/_, _<_}
+use mathlib.Core.Path.{_≡_, refl, sym, _∙_, ap}
+use mathlib.Core.Bool.{Bool, true, false}
+use mathlib.Core.List.{List, [], _∷_}
 use native.Mathlib.Omega.{arith}
 use native.Mathlib.Nat.{suc-inj}
 use lib.ListN.{length}
-use Rattle.gf2.specs.Group.{Group2, XorGroup, ring, zr, cancel, cancel-r, left-comm, eq-zero, swap4, sumOver}
+use Rattle.gf2.specs.Gf2.{Group2, comb}
+use Rattle.gf2.specs.Group.{zr, cancel, cancel-r, left-comm}
 use Rattle.gf2.specs.Independent.{Indep, Indep.empty, Indep.free}
-use Rattle.gf2.specs.Span.{comb, comb-nil, Span, span-zero, span-add, span-head, span-tail, span-within, Within, Within.none, Within.more, within-tail, within-self, madd, comb-add}
+use Rattle.gf2.specs.Span.{madd, comb-add}
 
 module _ {A : Type 0} (G : Group2 A) where
   open Group2 G using (_⊕_, o, assoc, comm, self, zl)

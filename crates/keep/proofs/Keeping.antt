@@ -8,12 +8,8 @@ use native.Mathlib.Omega.{arith}
 use lib.Bits.{bitXor}
 use lib.ListN.{length, getD, set, take, drop}
 use Rattle.gf2.specs.Bit.{bits-zero}
-use Rattle.gf2.specs.Echelon.{Bits, rowsOf, sums, down}
+use Rattle.gf2.specs.Gf2.{Bits, rowsOf, sums, down, isZero, choose, onto, XorGroup, rowOf}
 use Rattle.gf2.specs.EchelonLaws.{bit-nonzero, down-test, down-in, one-more, sums-shift, sums-none}
-use Rattle.gf2.specs.Fit.{isZero}
-use Rattle.gf2.specs.Greedy.{choose, onto}
-use Rattle.gf2.specs.Group.{XorGroup}
-use Rattle.gf2.specs.Places.{rowOf}
 use Rattle.table.specs.Checks.{offset, check, from}
 use Rattle.bits.specs.Front.{Front, front-none, front-more}
 use Rattle.bits.specs.Row.{row}

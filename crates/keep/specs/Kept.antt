@@ -1,10 +1,7 @@
 -- Step 1 of the rule on the numbers of the checks: which are kept.
 use mathlib.Core.List.{List, []}
 use Prim.Native.Nat.{ℕ}
-use Rattle.gf2.specs.Fit.{isZero}
-use Rattle.gf2.specs.Greedy.{choose}
-use Rattle.gf2.specs.Group.{XorGroup}
-use Rattle.gf2.specs.Places.{rowOf}
+use Rattle.gf2.specs.Gf2.{isZero, choose, XorGroup, rowOf}
 use Rattle.table.specs.Checks.{check, from}
 
 -- "Go through the checks in number order. Keep one unless it is the sum of some already kept"

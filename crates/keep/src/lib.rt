@@ -2,7 +2,7 @@
 ghost use mathlib.Core.Path.{_≡_};
 ghost use Prim.Native.Nat.{ℕ, _+_, _*_, _≤_, _<_};
 ghost use lib.ListN.{length, getD, take, drop, replicate};
-ghost use Rattle.gf2.specs.Places.{rowOf};
+ghost use Rattle.gf2.specs.Gf2.{rowOf};
 ghost use Rattle.table.specs.Checks.{Valid};
 ghost use Rattle.bits.specs.Front.{Front};
 ghost use Rattle.rows.specs.Leads.{Owners, Lowered};

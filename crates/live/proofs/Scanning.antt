@@ -3,7 +3,7 @@ use mathlib.Core.Path.{_≡_, refl, sym, ap}
 use mathlib.Core.Bool.{Bool, true, false}
 use Prim.Native.Nat.{ℕ, zero, suc, _-_, _<_}
 use native.Mathlib.Omega.{arith}
-use Rattle.gf2.specs.Lists.{highest}
+use Rattle.lists.specs.Lists.{highest}
 use Rattle.live.specs.Live.{found}
 use Rattle.live.specs.declared.Found.the-variants.{At, Nothing}
 

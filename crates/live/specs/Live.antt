@@ -6,8 +6,8 @@ use mathlib.Core.Option.{Option, none, some}
 use Prim.Native.Nat.{ℕ, _+_, _-_, _<_, _≤_}
 use lib.Bits.{bitXor}
 use lib.ListN.{length, getD}
-use Rattle.gf2.specs.Group.{XorGroup, sumOver}
-use Rattle.gf2.specs.Places.{has}
+use Rattle.gf2.specs.Gf2.{XorGroup, sumOver}
+use Rattle.lists.specs.Lists.{has}
 use Rattle.rule.specs.Rule.{count}
 use Rattle.live.specs.declared.Found.{Found}
 use Rattle.live.specs.declared.Found.the-variants.{At, Nothing}

@@ -9,9 +9,8 @@ use lib.Bits.{bitXor}
 use lib.Dec.{eqb}
 use lib.ListN.{length, getD, set, take, drop, length-set, length-drop, length-take}
 use lib.Seq.{take-suc, getD-drop, getD-take, getD-set-same, getD-set-other}
-use Rattle.gf2.specs.Bit.{eqb-true, eqb-false, eqb-self}
-use Rattle.gf2.specs.Places.{has}
-use Rattle.gf2.specs.Span.{byBool}
+use Rattle.lists.specs.Tests.{eqb-true, eqb-false, eqb-self, byBool}
+use Rattle.lists.specs.Lists.{has}
 use Rattle.table.specs.Checks.{Places}
 use Rattle.live.specs.Live.{Upd, Marked}
 

@@ -8,10 +8,11 @@ use native.Mathlib.Omega.{arith}
 use lib.Bits.{bitXor, xor-zero-l, xor-comm}
 use lib.Dec.{eqb}
 use lib.ListN.{getD}
-use Rattle.gf2.specs.Group.{XorGroup, sumOver, cancel-r, left-comm}
-use Rattle.gf2.specs.Lists.{highest, highest-same}
-use Rattle.gf2.specs.Places.{has}
-use Rattle.gf2.specs.Span.{byBool}
+use Rattle.gf2.specs.Gf2.{XorGroup, sumOver}
+use Rattle.gf2.specs.Group.{cancel-r, left-comm}
+use Rattle.lists.specs.Lists.{highest, has}
+use Rattle.lists.specs.ListLaws.{highest-same}
+use Rattle.lists.specs.Tests.{byBool}
 use Rattle.rule.specs.Rule.{count, inOneOnly}
 use Rattle.live.specs.Live.{Noted, Forgot, Tally}
 

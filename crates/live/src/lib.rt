@@ -3,7 +3,7 @@ ghost use mathlib.Core.Path.{_≡_};
 ghost use Prim.Native.Nat.{ℕ, _+_, _≤_, _<_};
 ghost use lib.Dec.{eqb};
 ghost use lib.ListN.{length, getD, take, drop};
-ghost use Rattle.gf2.specs.Lists.{highest};
+ghost use Rattle.lists.specs.Lists.{highest};
 ghost use Rattle.table.specs.Checks.{Places};
 ghost use Rattle.live.specs.Live.{Noted, Forgot, Raised, found};
 

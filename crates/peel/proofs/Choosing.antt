@@ -5,7 +5,7 @@ use Prim.Native.Nat.{ℕ, _+_, _<_, _≤_}
 use native.Mathlib.Omega.{arith}
 use lib.ListN.{length, getD, take, drop, length-map}
 use lib.Seq.{take-append-seam, length-take-le}
-use Rattle.gf2.specs.Width.{All, All.nil, All.cons}
+use Rattle.lists.specs.Lists.{All, All.nil, All.cons}
 use Rattle.table.specs.Checks.{check, Valid, Checks}
 use Rattle.table.specs.ChecksLaws.{checks-are, check-length, valid, each-check}
 use Rattle.table.specs.Table.{number, places, checks, ones, total, refusal}

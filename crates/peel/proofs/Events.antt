@@ -8,13 +8,12 @@ use native.Mathlib.Omega.{arith}
 use lib.ListN.{length, getD, set, take}
 use lib.Seq.{getD-set-same, getD-set-other, take-suc-set}
 use lib.Dec.{eqb}
-use Rattle.gf2.specs.Bit.{eqb-true, eqb-false}
-use Rattle.gf2.specs.Lists.{highest, highest-lt}
-use Rattle.gf2.specs.Span.{byBool}
+use Rattle.lists.specs.Tests.{eqb-true, eqb-false, byBool}
+use Rattle.lists.specs.Lists.{highest, has}
+use Rattle.lists.specs.ListLaws.{highest-lt}
 use Rattle.rule.specs.Buffers.{solved}
-use Rattle.table.specs.Checks.{check, Checks}
+use Rattle.table.specs.Checks.{check}
 use Rattle.rule.specs.Rule.{Solved, inOneOnly, heaviest, peel, solvedOf, setAsideOf, PeelEvent, took, aside}
-use Rattle.gf2.specs.Places.{has}
 use Rattle.peel.specs.declared.Event.{Event}
 use Rattle.peel.specs.declared.Event.the-variants.{Took, Aside}
 use Rattle.peel.specs.Turn.{lives, less, In, Located, Pick, Picked, Picked.by-place, Picked.by-weight, Ready, Removed, Low, Peeled}

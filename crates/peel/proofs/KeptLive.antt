@@ -8,14 +8,10 @@ use lib.ListN.{length, getD, take, drop, length-take, length-drop, length-map, r
 use lib.Seq.{getD-set-same, getD-set-other, getD-take, drop-cons, drop-length, length-take-le}
 use lib.Dec.{eqb}
 use borrow.Author.Tests.{ne-eqb}
-use Rattle.gf2.specs.Bit.{eqb-true, eqb-false, eqb-self}
-use Rattle.gf2.specs.Fit.{isZero}
-use Rattle.gf2.specs.Greedy.{choose}
-use Rattle.gf2.specs.Group.{XorGroup}
-use Rattle.gf2.specs.Lists.{getD-zeros}
-use Rattle.gf2.specs.Places.{has, rowOf}
-use Rattle.gf2.specs.Span.{byBool, isSum}
-use Rattle.gf2.specs.Width.{All, All.nil, All.cons, all-map}
+use Rattle.lists.specs.Tests.{eqb-true, eqb-false, eqb-self, byBool}
+use Rattle.gf2.specs.Gf2.{isZero, choose, XorGroup, rowOf, isSum}
+use Rattle.lists.specs.ListLaws.{getD-zeros, all-map}
+use Rattle.lists.specs.Lists.{has, All, All.nil, All.cons}
 use Rattle.table.specs.Checks.{check, from, offset}
 use Rattle.table.specs.Table.{total}
 use Rattle.rule.specs.Rule.{count}

@@ -2,13 +2,10 @@
 use mathlib.Core.Path.{_≡_, refl, ap}
 use mathlib.Core.List.{List, [], _∷_, map}
 use Prim.Native.Nat.{ℕ}
-use Rattle.gf2.specs.Group.{XorGroup}
+use Rattle.gf2.specs.Gf2.{XorGroup, isZero, choose, rowOf, isSum}
 use Rattle.table.specs.Checks.{check, from}
-use Rattle.gf2.specs.Fit.{isZero}
-use Rattle.gf2.specs.Greedy.{choose}
 use Rattle.rule.specs.Rule.{kept}
-use Rattle.gf2.specs.Places.{rowOf}
-use Rattle.gf2.specs.Span.{byBool, isSum}
+use Rattle.lists.specs.Tests.{byBool}
 use Rattle.keep.specs.Kept.{keptOf}
 
 choose-map : (g : ℕ → List ℕ) (K : List ℕ) (l : List ℕ) → choose XorGroup isZero rowOf K (map g l) ≡ map g (choose XorGroup isZero (λ j. rowOf (g j)) K l)

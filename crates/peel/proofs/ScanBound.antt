@@ -9,10 +9,9 @@ use lib.ListN.{length, getD, take, drop, length-take, List·getD-eq-default}
 use lib.Seq.{getD-take, getD-drop}
 use lib.Dec.{eqb, ltb}
 use borrow.Author.Tests.{eq-eqb, ltb-true, ltb-false}
-use Rattle.gf2.specs.Bit.{eqb-true}
-use Rattle.gf2.specs.Lists.{highest, highest-none, highest-upto, highest-over}
-use Rattle.gf2.specs.Places.{has}
-use Rattle.gf2.specs.Span.{byBool}
+use Rattle.lists.specs.Tests.{eqb-true, byBool}
+use Rattle.lists.specs.Lists.{highest, has}
+use Rattle.lists.specs.ListLaws.{highest-none, highest-upto, highest-over}
 use Rattle.rule.specs.Rule.{inOneOnly}
 use Rattle.live.specs.Live.{Tally, Forgot, Calm, Raised}
 use Rattle.live.specs.TallyLaws.{single-is}

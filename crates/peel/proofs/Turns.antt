@@ -12,14 +12,12 @@ use lib.Seq.{getD-drop, getD-take, getD-set-same, getD-set-other}
 use lib.Bits.{bitXor, xor-zero-r, xor-zero-l}
 use lib.Dec.{eqb, leb}
 use borrow.Author.Tests.{leb-true, leb-false, le-leb, lt-leb, eq-eqb, ne-eqb}
-use Rattle.gf2.specs.Group.{XorGroup, sumOver}
+use Rattle.gf2.specs.Gf2.{XorGroup, sumOver}
 use Rattle.table.specs.Checks.{check, offset, Checks}
-use Rattle.gf2.specs.Bit.{eqb-true, eqb-false, eqb-self}
-use Rattle.gf2.specs.Lists.{highest, highest-is}
+use Rattle.lists.specs.Tests.{eqb-true, eqb-false, eqb-self, byBool}
+use Rattle.lists.specs.Lists.{highest, has, All, All.nil, All.cons}
+use Rattle.lists.specs.ListLaws.{highest-is}
 use Rattle.rule.specs.Rule.{count, first, without, heaviest, greatest}
-use Rattle.gf2.specs.Places.{has}
-use Rattle.gf2.specs.Span.{byBool}
-use Rattle.gf2.specs.Width.{All, All.nil, All.cons}
 use Rattle.live.specs.Live.{Tally, Forgot, found}
 use Rattle.live.specs.declared.Found.the-variants.{At, Nothing}
 use Rattle.peel.specs.declared.Event.the-variants.{Took, Aside}

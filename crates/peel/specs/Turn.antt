@@ -6,11 +6,10 @@ use mathlib.Core.Option.{none, some}
 use Prim.Native.Nat.{ℕ, zero, suc, _+_, _<_, _≤_}
 use lib.ListN.{length, getD, set, take}
 use lib.Dec.{eqb, leb}
-use Rattle.gf2.specs.Lists.{highest}
+use Rattle.lists.specs.Lists.{highest, has}
 use Rattle.rule.specs.Buffers.{solved}
 use Rattle.table.specs.Checks.{check, Checks, Starts}
 use Rattle.rule.specs.Rule.{count, inOneOnly, first, without, heaviest, peel, solvedOf, setAsideOf}
-use Rattle.gf2.specs.Places.{has}
 use Rattle.live.specs.Live.{Tally, Noted}
 use Rattle.keep.specs.Kept.{keptOf}
 use Rattle.peel.specs.declared.Event.{Event}

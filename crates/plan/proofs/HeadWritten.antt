@@ -4,7 +4,7 @@ use mathlib.Core.List.{List, [], _∷_}
 use Prim.Native.Nat.{ℕ, _≤_}
 use native.Mathlib.Omega.{arith}
 use lib.ListN.{length, set}
-use Rattle.table.specs.Packets.{written}
+use Rattle.lists.specs.Lists.{written}
 
 pub set-five : (l : List ℕ) (a b c d e : ℕ) → 5 ≤ length l → set (set (set (set (set l 0 a) 1 b) 2 c) 3 d) 4 e ≡ written l 0 (a ∷ b ∷ c ∷ d ∷ e ∷ [])
 set-five [] a b c d e h = absurd (omega arith)

@@ -9,9 +9,9 @@ use borrow.Author.Tests.{eqb-true, eqb-false, le-leb, lt-leb, lt-ltb, le-ltb}
 use lib.Dec.{eqb}
 use lib.ListN.{length, getD, set, take, drop, replicate, length-set}
 use lib.Seq.{drop-cons, take-suc, getD-set-same, getD-set-other}
-use Rattle.gf2.specs.Lists.{getD-zeros}
-use Rattle.gf2.specs.Places.{has}
-use Rattle.gf2.specs.Span.{byBool}
+use Rattle.lists.specs.ListLaws.{getD-zeros}
+use Rattle.lists.specs.Lists.{has}
+use Rattle.lists.specs.Tests.{byBool}
 use Rattle.table.specs.Table.{rising}
 use Rattle.plan.specs.LookOver.{Marks}
 

@@ -10,9 +10,8 @@ use borrow.Author.Tests.{eq-eqb, ne-eqb, ltb-true, lt-ltb, le-ltb}
 use lib.Dec.{eqb, ltb}
 use lib.ListN.{length, getD, drop}
 use lib.Seq.{drop-cons}
-use Rattle.gf2.specs.Lists.{allPass}
-use Rattle.gf2.specs.Places.{has}
-use Rattle.gf2.specs.Span.{byBool}
+use Rattle.lists.specs.Lists.{allPass, has}
+use Rattle.lists.specs.Tests.{byBool}
 use Rattle.table.specs.Table.{rising}
 use Rattle.plan.specs.declared.Decoded.the-variants.{Valid, Invalid}
 use Rattle.plan.specs.declared.Step.{Step}

@@ -7,10 +7,9 @@ use native.Mathlib.Omega.{arith}
 use lib.Dec.{eqb}
 use lib.ListN.{length, getD, set, length-set}
 use lib.Seq.{getD-set-same, getD-set-other}
-use Rattle.gf2.specs.Bit.{eqb-false}
-use Rattle.gf2.specs.Lists.{Distinct, Distinct.dnil, Distinct.dnew, all-set}
-use Rattle.gf2.specs.Places.{has, or-false-l, or-false-r}
-use Rattle.gf2.specs.Width.{All, All.nil, All.cons, all-map}
+use Rattle.lists.specs.Tests.{eqb-false, or-false-l, or-false-r}
+use Rattle.lists.specs.Lists.{Distinct, Distinct.dnil, Distinct.dnew, has, All, All.nil, All.cons}
+use Rattle.lists.specs.ListLaws.{all-set, all-map}
 use Rattle.table.specs.Packets.{Packets}
 use Rattle.plan.specs.declared.Step.{Step}
 use Rattle.plan.specs.declared.Step.the-variants.{Clear, Add}

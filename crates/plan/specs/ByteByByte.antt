@@ -5,12 +5,11 @@ use Prim.Native.Nat.{ℕ, _<_}
 use lib.Dec.{eqb}
 use lib.ListN.{length, getD, set, replicate, length-replicate, length-set}
 use lib.Seq.{getD-set-same, getD-set-other}
-use Rattle.gf2.specs.Bit.{eqb-true, eqb-false}
-use Rattle.gf2.specs.Group.{XorGroup}
-use Rattle.gf2.specs.Lists.{all-getD, getD-zeros, all-set}
-use Rattle.gf2.specs.Span.{byBool}
+use Rattle.lists.specs.Tests.{eqb-true, eqb-false, byBool}
+use Rattle.gf2.specs.Gf2.{XorGroup}
+use Rattle.lists.specs.ListLaws.{all-getD, getD-zeros, all-set}
 use Rattle.gf2.specs.Vectors.{getD-add, length-add}
-use Rattle.gf2.specs.Width.{All, All.nil, All.cons}
+use Rattle.lists.specs.Lists.{All, All.nil, All.cons}
 use Rattle.table.specs.PacketLaws.{view}
 use Rattle.table.specs.Packets.{Packets}
 use Rattle.plan.specs.declared.Step.{Step}

@@ -1,13 +1,12 @@
 -- The plan as numbers (document 01, "The plan" and cause 9): 4, n, s, g, M; the count n − M and the information places; the
 -- count of steps and the steps.
-use mathlib.Core.Bool.{Bool, true, false, not, _||_, _&&_}
+use mathlib.Core.Bool.{Bool, false, not, _||_, _&&_}
 use mathlib.Core.List.{List, [], _∷_, _++_, map}
 use mathlib.Core.Option.{Option, none, some}
-use Prim.Native.Nat.{ℕ, zero, suc, _+_, _-_}
+use Prim.Native.Nat.{ℕ, _+_, _-_}
 use lib.Dec.{eqb, ltb}
 use lib.ListN.{length, getD, take, drop}
-use Rattle.gf2.specs.Lists.{allPass}
-use Rattle.gf2.specs.Places.{has}
+use Rattle.lists.specs.Lists.{allPass, has}
 use Rattle.table.specs.FirstCause.{firstCause}
 use Rattle.table.specs.Table.{mostPlaces, mostBytes, mostChecks, outside, rising}
 use Rattle.plan.specs.declared.Step.{Step}

@@ -9,9 +9,8 @@ use borrow.Author.Tests.{ltb-true, ltb-false, leb-true, eqb-true, eqb-false, not
 use lib.Dec.{eqb, ltb, leb}
 use lib.ListN.{length, getD, drop, length-drop}
 use lib.Seq.{length-take-le, getD-drop}
-use Rattle.gf2.specs.Lists.{allPass}
-use Rattle.gf2.specs.Places.{has}
-use Rattle.gf2.specs.Span.{byBool}
+use Rattle.lists.specs.Lists.{allPass, has}
+use Rattle.lists.specs.Tests.{byBool}
 use Rattle.table.specs.Table.{mostPlaces, mostBytes, mostChecks, outside, rising}
 use Rattle.plan.specs.declared.Step.{Step}
 use Rattle.plan.specs.declared.Step.the-variants.{Clear, Add}

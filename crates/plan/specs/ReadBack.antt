@@ -7,7 +7,7 @@ use Prim.Native.Nat.{ℕ, _+_, _≤_}
 use native.Mathlib.Omega.{arith}
 use lib.ListN.{length, drop, length-append, length-map}
 use lib.Seq.{take-at, drop-at, getD-at}
-use Rattle.gf2.specs.Width.{All, All.nil, All.cons}
+use Rattle.lists.specs.Lists.{All, All.nil, All.cons}
 use Rattle.plan.specs.declared.Step.{Step}
 use Rattle.plan.specs.Layout.{leastNumbers, planHead, infoNumbers, stepNumbers, planNumbers, infoAt, infoIn, stepCount, stepsIn, goodStep}
 use Rattle.plan.specs.LayoutLaws.{Sound, sound-good, sound-slots, allGood}

@@ -4,10 +4,10 @@ use mathlib.Core.Bool.{false, cond}
 use mathlib.Core.List.{List, [], _∷_, _++_, map}
 use Prim.Native.Nat.{ℕ}
 use lib.Dec.{eqb}
-use Rattle.gf2.specs.Bit.{eqb-true, eqb-self, eqb-comm}
-use Rattle.gf2.specs.Group.{Group2, sumOver, zr}
-use Rattle.gf2.specs.Places.{has, or-false-l, or-false-r}
-use Rattle.gf2.specs.Span.{byBool}
+use Rattle.lists.specs.Tests.{eqb-true, eqb-self, eqb-comm, or-false-l, or-false-r, byBool}
+use Rattle.gf2.specs.Gf2.{Group2, sumOver}
+use Rattle.gf2.specs.Group.{zr}
+use Rattle.lists.specs.Lists.{has}
 use Rattle.plan.specs.declared.Step.{Step}
 use Rattle.plan.specs.declared.Step.the-variants.{Clear, Add}
 

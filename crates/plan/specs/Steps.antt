@@ -2,8 +2,7 @@
 use mathlib.Core.List.{List, [], _∷_}
 use Prim.Native.Nat.{ℕ}
 use lib.ListN.{getD, set, replicate}
-use Rattle.gf2.specs.Group.{XorGroup}
-use Rattle.gf2.specs.Vectors.{add}
+use Rattle.gf2.specs.Gf2.{XorGroup, add}
 use Rattle.plan.specs.declared.Step.{Step}
 use Rattle.plan.specs.declared.Step.the-variants.{Clear, Add}
 

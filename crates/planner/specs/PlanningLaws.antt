@@ -1,15 +1,14 @@
 -- The causes of the planner in their order, and what an accepted planning tells.
-use mathlib.Core.Path.{_≡_, refl, sym, ap, _∙_}
-use mathlib.Core.Bool.{Bool, true, false, cond}
+use mathlib.Core.Path.{_≡_, refl, ap, _∙_}
+use mathlib.Core.Bool.{Bool, cond}
 use mathlib.Core.List.{List, [], _∷_}
 use Prim.Native.Nat.{ℕ, _≤_, _<_}
 use borrow.Author.Tests.{eq-eqb, ne-eqb, ltb-false, le-ltb, lt-ltb}
-use lib.Dec.{ltb}
-use Rattle.gf2.specs.Width.{All.cons}
-use Rattle.table.specs.FirstCause.{firstCause, NoneHolds, none-holds, none-refuses, first-decides, rest-decides}
+use Rattle.lists.specs.Lists.{All.cons}
+use Rattle.table.specs.FirstCause.{firstCause, NoneHolds}
+use Rattle.table.specs.FirstCauseLaws.{none-holds, none-refuses, first-decides, rest-decides}
 use Rattle.table.specs.Table.{tableCauses, refusal}
 use Rattle.plan.specs.Layout.{mostAside}
-use Rattle.rule.specs.Rule.{Plan}
 use Rattle.planner.specs.Planning.{leastPlan, workWords, planOf, wrongLengths, tooManyAside, planningRefusal}
 
 module _ (t : List ℕ) (planLength workLength : ℕ) where

@@ -7,7 +7,7 @@ use native.Mathlib.Omega.{arith}
 use borrow.Author.Tests.{ne-eqb}
 use lib.Dec.{eqb, ltb}
 use lib.ListN.{length}
-use Rattle.gf2.specs.Span.{anyOf}
+use Rattle.lists.specs.Lists.{anyOf}
 use Rattle.table.specs.Packets.{packets}
 use Rattle.table.specs.Table.{places, size, checks, refusal}
 use Rattle.table.specs.TableLaws.{refusal-small}
@@ -17,8 +17,8 @@ use Rattle.erasure.specs.Restoring.{tally, outcome, agreeing, Counts, countsIf,
 use Rattle.restore.specs.Mending.{countsOf, Mends}
 use Rattle.erasure.specs.Tally.{restored-and-lost}
 use Rattle.restore.specs.declared.Mended.{Mended}
-use Rattle.repair.specs.Repair.{repairRefusal, Answers}
-use Rattle.repair.specs.RepairLaws.{Fitting, fitting-refusal, table-refused, block-short, map-short, byte-over, bytes-all, block-accepted, block-contradicted, block-refused, map-accepted, map-refused}
+use Rattle.repair.specs.Repair.{repairRefusal, Answers, Fitting}
+use Rattle.repair.specs.RepairLaws.{fitting-refusal, table-refused, block-short, map-short, byte-over, bytes-all, block-accepted, block-contradicted, block-refused, map-accepted, map-refused}
 use Rattle.repair.specs.declared.Repaired.{Repaired}
 
 -- ---- the call, from what the core tells and leaves

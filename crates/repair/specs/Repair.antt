@@ -3,15 +3,16 @@
 use mathlib.Core.Path.{_≡_}
 use mathlib.Core.Bool.{Bool, true, false, not, _||_}
 use mathlib.Core.List.{List, [], _∷_, _++_}
-use Prim.Native.Nat.{ℕ, zero, suc, _*_}
+use Prim.Native.Nat.{ℕ, zero, suc, _*_, _<_}
 use lib.Dec.{eqb, ltb}
-use lib.ListN.{length}
-use Rattle.gf2.specs.Span.{anyOf}
-use Rattle.table.specs.FirstCause.{firstCause, wrongLength}
-use Rattle.table.specs.Packets.{packets, joined}
-use Rattle.table.specs.Table.{places, size, tableCauses}
+use lib.ListN.{length, getD}
 use Rattle.erasure.specs.Restoring.{State, zeroLost, tally, outcome, agreeing}
+use Rattle.lists.specs.Lists.{anyOf}
 use Rattle.repair.specs.declared.Repaired.{Repaired}
+use Rattle.table.specs.FirstCause.{firstCause, wrongLength}
+use Rattle.table.specs.PacketCall.{partAt}
+use Rattle.table.specs.Packets.{packets, joined}
+use Rattle.table.specs.Table.{places, size, tableCauses, refusal}
 
 -- ---- the call: table t, block b and map of any length and content
 -- 5: block or map of wrong length
@@ -70,3 +71,14 @@ pub record Answers (t b map : List ℕ) (r : Repaired) (b′ map′ : List ℕ) 
   pub report : reportOf r ≡ repairReport t b map
   pub block-is : b′ ≡ repairBlock t b map
   pub map-is : map′ ≡ repairMap t b map
+
+-- a call that none of 1 to 7 refuses
+pub record Fitting (t b map : List ℕ) : Type 0 where
+  pub table : refusal t ≡ 0
+  pub block : length b ≡ places t * size t
+  pub map-length : length map ≡ places t
+  pub map-bytes : anyOf (ltb 1) map ≡ false
+
+-- the same packet in b and w wherever the map says received
+abbrev pub Agree : List ℕ → List ℕ → List ℕ → List ℕ → Type 0
+Agree t b map w = (p : ℕ) → p < places t → getD map p 0 ≡ 0 → partAt (size t) p b ≡ partAt (size t) p w

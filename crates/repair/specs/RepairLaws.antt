@@ -1,32 +1,24 @@
 -- The call of repair by cases: what is offered, when it is refused, and what block and map are afterwards.
-use mathlib.Core.Path.{_≡_, refl, sym, ap, _∙_}
+use mathlib.Core.Path.{_≡_, refl, _∙_}
 use mathlib.Core.Bool.{Bool, true, false, cond, not}
 use mathlib.Core.List.{List, [], _∷_, _++_}
 use mathlib.Core.Logic.{_≢_}
-use Prim.Native.Nat.{ℕ, zero, suc, _*_, _<_, _≤_}
+use Prim.Native.Nat.{ℕ, zero, suc, _*_, _≤_}
 use native.Mathlib.Omega.{arith}
 use borrow.Author.Tests.{eq-eqb, ne-eqb, ltb-false, not-true, not-false}
 use lib.Dec.{eqb, ltb}
 use lib.ListN.{length, getD}
-use Rattle.gf2.specs.Bit.{eqb-true}
-use Rattle.gf2.specs.Places.{or-false-l, or-false-r}
-use Rattle.gf2.specs.Span.{anyOf}
-use Rattle.gf2.specs.Width.{All, All.nil, All.cons}
-use Rattle.table.specs.FirstCause.{firstCause, wrongLength, NoneHolds, none-holds, none-refuses, first-decides, rest-decides, quiet, refused-by}
+use Rattle.erasure.specs.Restoring.{zeroLost, outcome, agreeing}
+use Rattle.lists.specs.Lists.{anyOf, All, All.nil, All.cons}
+use Rattle.lists.specs.Tests.{eqb-true, or-false-l, or-false-r}
+use Rattle.repair.specs.Repair.{wrongLengths, byteOver, contradicts, repairCauses, repairRefusal, repairBlock, repairMap, Fitting}
+use Rattle.table.specs.FirstCause.{firstCause, wrongLength, NoneHolds}
+use Rattle.table.specs.FirstCauseLaws.{none-holds, none-refuses, first-decides, rest-decides, quiet, refused-by}
 use Rattle.table.specs.Packets.{packets, joined}
 use Rattle.table.specs.Table.{places, size, tableCauses, refusal}
-use Rattle.erasure.specs.Restoring.{zeroLost, outcome, agreeing}
-use Rattle.repair.specs.Repair.{wrongLengths, byteOver, contradicts, repairCauses, repairRefusal, repairBlock, repairMap}
 
--- a call that none of 1 to 7 refuses
-pub record Fitting (t b map : List ℕ) : Type 0 where
-  pub table : refusal t ≡ 0
-  pub block : length b ≡ places t * size t
-  pub map-length : length map ≡ places t
-  pub map-bytes : anyOf (ltb 1) map ≡ false
-
--- ---- the causes in their order
 module _ (t b map : List ℕ) where
+  -- ---- the causes in their order
   -- those beyond the table's
   abbrev own : List (Bool × ℕ)
   own = (wrongLengths t b map, 5) ∷ (byteOver map, 7) ∷ (contradicts t b map, 8) ∷ []

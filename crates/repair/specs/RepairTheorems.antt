@@ -1,34 +1,30 @@
 -- Demand 2 on repair, over the definitions of the call, for every table that is accepted, every block and every pattern of loss.
 use mathlib.Core.Path.{_≡_, refl, sym, ap, _∙_, subst}
-use mathlib.Core.Bool.{Bool, true, false, cond}
+use mathlib.Core.Bool.{true, false, cond}
 use mathlib.Core.List.{List, []}
 use mathlib.Core.Logic.{_≢_, _⊎_, inl, inr}
 use Prim.Native.Nat.{ℕ, _+_, _*_, _<_, _≤_}
 use native.Mathlib.Omega.{arith}
 use lib.Dec.{eqb}
 use lib.ListN.{length, getD, replicate}
-use Rattle.gf2.specs.Bit.{eqb-true, eqb-false}
-use Rattle.gf2.specs.Span.{byBool}
-use Rattle.gf2.specs.Width.{All, All.nil, All.cons, all-map}
+use Rattle.erasure.specs.Largest.{stays-lost}
+use Rattle.erasure.specs.OutcomeLaws.{tally-lost, tally-restored, start-length, start-sized, outcome-length, outcome-sized, sums-of, none-lost, part-joined}
+use Rattle.erasure.specs.Restoring.{Largest, lostPlaces, zeroLost, tally, outcome, isLost}
+use Rattle.erasure.specs.RestoringLaws.{restoring-same, restoring-mark}
+use Rattle.erasure.specs.Stopping.{lostIn}
+use Rattle.erasure.specs.Tally.{restoredIn, restored-and-lost}
+use Rattle.erasure.specs.Values.{received-kept, left-zero, restored, no-contradiction, zeroLost-kept, zeroLost-zero}
+use Rattle.lists.specs.ListLaws.{all-map}
+use Rattle.lists.specs.Lists.{All}
+use Rattle.lists.specs.Tests.{eqb-true, eqb-false, byBool}
+use Rattle.repair.specs.Repair.{repairRefusal, repairReport, repairBlock, repairMap, Fitting, Agree}
+use Rattle.repair.specs.RepairLaws.{fitting-refusal, accepted-fits, contradicted-fits, bytes-all, byte-at, block-accepted, block-contradicted, map-accepted, map-refused}
 use Rattle.table.specs.Codewords.{IsCodeword}
 use Rattle.table.specs.PacketCall.{partAt}
 use Rattle.table.specs.PacketLaws.{packets-length, packets-sized, joined-packets, joined-length, packet-at}
 use Rattle.table.specs.Packets.{packets, joined, packetSum}
 use Rattle.table.specs.Table.{places, size, checks}
 use Rattle.table.specs.TableLaws.{accepted}
-use Rattle.erasure.specs.Largest.{Largest, stays-lost}
-use Rattle.erasure.specs.Restoring.{lostPlaces, zeroLost, tally, outcome}
-use Rattle.erasure.specs.OutcomeLaws.{tally-lost, tally-restored, start-length, start-sized, outcome-length, outcome-sized, sums-of, none-lost, part-joined}
-use Rattle.repair.specs.Repair.{repairRefusal, repairReport, repairBlock, repairMap}
-use Rattle.repair.specs.RepairLaws.{Fitting, fitting-refusal, accepted-fits, contradicted-fits, bytes-all, byte-at, block-accepted, block-contradicted, map-accepted, map-refused}
-use Rattle.erasure.specs.RestoringLaws.{restoring-same, restoring-mark}
-use Rattle.erasure.specs.Stopping.{isLost, lostIn}
-use Rattle.erasure.specs.Tally.{restoredIn, restored-and-lost}
-use Rattle.erasure.specs.Values.{received-kept, left-zero, restored, no-contradiction, zeroLost-kept, zeroLost-zero}
-
--- the same packet in b and w wherever the map says received
-abbrev pub Agree : List ℕ → List ℕ → List ℕ → List ℕ → Type 0
-Agree t b map w = (p : ℕ) → p < places t → getD map p 0 ≡ 0 → partAt (size t) p b ≡ partAt (size t) p w
 
 -- an accepted repair, whatever was received
 pub record AcceptedRepair (t b map : List ℕ) : Type 0 where
@@ -114,8 +110,8 @@ module _ (t b map : List ℕ) (ok : repairRefusal t b map ≡ 0) where
     };
   }
 
--- ---- with a codeword behind it
 module _ (t b map w : List ℕ) (f : Fitting t b map) (word : IsCodeword t w) (agree : Agree t b map w) where
+  -- ---- with a codeword behind it
   packets-agree : (p : ℕ) → p < places t → isLost map p ≡ false → getD (packets (size t) (places t) b) p [] ≡ getD (packets (size t) (places t) w) p []
   packets-agree p h e = packet-at (size t) (places t) b p h ∙ agree p h (lost-byte (bytes-all map (f .map-bytes)) p e) ∙ sym (packet-at (size t) (places t) w p h)
 

@@ -2,10 +2,9 @@
 use table::wide;
 ghost use mathlib.Core.Path.{_≡_};
 ghost use lib.Dec.{ltb};
-ghost use Rattle.gf2.specs.Span.{anyOf};
+ghost use Rattle.lists.specs.Lists.{anyOf};
 ghost use Rattle.table.specs.Accepted.{Accepted};
-ghost use Rattle.repair.specs.Repair.{Answers};
-ghost use Rattle.repair.specs.RepairLaws.{Fitting};
+ghost use Rattle.repair.specs.Repair.{Answers, Fitting};
 
 // What repair reports: the refusal, 0 for none, and the counts.
 pub struct Repaired {

@@ -1,18 +1,19 @@
 -- Zeroing lost places, one place at a time; a block's packets after one is written.
-use mathlib.Core.Path.{_≡_, refl, sym, ap, ap₂, _∙_, subst}
-use mathlib.Core.Bool.{Bool, true, false, cond}
+use mathlib.Core.Path.{_≡_, refl, sym, ap, _∙_, subst}
+use mathlib.Core.Bool.{cond}
 use mathlib.Core.List.{List, [], _∷_, _++_, append-assoc, append-nil}
-use Prim.Native.Nat.{ℕ, zero, suc, _+_, _-_, _*_, _<_, _≤_}
+use Prim.Native.Nat.{ℕ, _+_, _-_, _*_, _<_, _≤_}
 use native.Mathlib.Numerals.{add-one}
 use native.Mathlib.Omega.{arith}
-use borrow.Author.Tests.{ne-eqb, eq-eqb}
+use borrow.Author.Tests.{ne-eqb}
 use lib.Dec.{eqb}
 use lib.ListN.{length, getD, set, take, drop, replicate, length-set, length-replicate, drop-of-length-le}
 use lib.Seq.{drop-cons, take-suc-set, drop-set-lt, set-getD, take-all}
-use Rattle.gf2.specs.Lists.{all-set}
-use Rattle.table.specs.BufferLaws.{set-written, set-cleared}
+use Rattle.lists.specs.ListLaws.{all-set}
+use Rattle.table.specs.BufferLaws.{set-written}
 use Rattle.table.specs.PacketLaws.{packets-length, packets-sized, packets-joined, joined-packets, joined-length}
-use Rattle.table.specs.Packets.{Packets, packets, joined, written}
+use Rattle.table.specs.Packets.{Packets, packets, joined}
+use Rattle.lists.specs.Lists.{written}
 use Rattle.erasure.specs.Restoring.{zeroLost}
 
 -- ---- one packet written

@@ -6,7 +6,7 @@ use Prim.Native.Nat.{ℕ, suc, _+_, _<_, _≤_}
 use borrow.Author.Tests.{ne-eqb}
 use lib.Dec.{eqb}
 use lib.ListN.{length, getD, drop, drop-of-length-le}
-use Rattle.gf2.specs.Bit.{eqb-self, eqb-comm}
+use Rattle.lists.specs.Tests.{eqb-self, eqb-comm}
 use Rattle.erasure.specs.LostLaws.{drop-next}
 use Rattle.erasure.specs.Restoring.{tally}
 

@@ -1,24 +1,21 @@
 -- The lowest ready check, from counts and chains.
-use mathlib.Core.Path.{_≡_, refl, sym, ap, ap₂, _∙_, subst}
-use mathlib.Core.Bool.{Bool, true, false, cond, true≢false, false≢true}
+use mathlib.Core.Path.{_≡_, sym, ap, _∙_, subst}
+use mathlib.Core.Bool.{true, cond}
 use mathlib.Core.List.{List, [], _∷_}
-use mathlib.Core.Logic.{_≢_, ⊎-elim}
-use Prim.Native.Nat.{ℕ, zero, suc, _+_, _-_, _*_, _<_, _≤_}
+use mathlib.Core.Logic.{⊎-elim}
+use Prim.Native.Nat.{ℕ, zero, suc, _-_, _<_, _≤_}
 use native.Mathlib.Omega.{arith}
 use borrow.Author.Tests.{ne-eqb, eq-eqb}
-use lib.Dec.{eqb}
-use lib.ListN.{length, getD, set, take, drop}
-use Rattle.gf2.specs.Lists.{Distinct, all-getD}
-use Rattle.gf2.specs.Places.{has}
-use Rattle.gf2.specs.Span.{byBool}
-use Rattle.table.specs.BufferLaws.{side}
+use lib.ListN.{length, getD, set}
+use Rattle.lists.specs.Lists.{Distinct, has}
+use Rattle.lists.specs.ListLaws.{all-getD}
+use Rattle.lists.specs.Tests.{byBool, side}
 use Rattle.table.specs.Checks.{check}
 use Rattle.table.specs.ChecksLaws.{checks-at}
-use Rattle.table.specs.Table.{checks, number}
+use Rattle.table.specs.Table.{checks}
 use Rattle.table.specs.TableLaws.{accepted}
 use Rattle.chains.specs.Linked.{Chain, Linked, Counted, Walk, Walked, LowestOne, holders}
-use Rattle.erasure.specs.Restoring.{lostPlaces}
-use Rattle.erasure.specs.Stopping.{isLost}
+use Rattle.erasure.specs.Restoring.{lostPlaces, isLost}
 use Rattle.table.specs.Accepted.{Accepted, check-count}
 use Rattle.chains.specs.LinkedLaws.{chain-unique, holders-has, holders-inside, holders-distinct}
 use Rattle.erasure.specs.LostLaws.{lost-less}

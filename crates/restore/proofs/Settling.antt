@@ -6,16 +6,16 @@ use Prim.Native.Nat.{ℕ, _+_, _-_, _*_, _<_, _≤_}
 use native.Mathlib.Omega.{arith}
 use lib.ListN.{length, getD, take, drop}
 use lib.Seq.{ext-getD}
-use Rattle.gf2.specs.Span.{byBool}
-use Rattle.table.specs.BufferLaws.{written-bytes, written-whole, part-length, getD-part}
+use Rattle.lists.specs.Tests.{byBool}
+use Rattle.lists.specs.Buffers.{written-bytes, written-whole, part-length, getD-part}
 use Rattle.table.specs.PacketLaws.{packets-length, joined-packets}
-use Rattle.table.specs.Packets.{packets, joined, written}
+use Rattle.table.specs.Packets.{packets, joined}
+use Rattle.lists.specs.Lists.{written}
 use Rattle.table.specs.Table.{places, size, checks}
 use Rattle.table.specs.Accepted.{Accepted}
 use Rattle.erasure.specs.OutcomeLaws.{start-length, start-sized, outcome-length, outcome-sized, tally-fewer}
-use Rattle.erasure.specs.Restoring.{zeroLost, restoring, consistent, tally, outcome, agreeing}
+use Rattle.erasure.specs.Restoring.{zeroLost, restoring, consistent, tally, outcome, agreeing, isLost}
 use Rattle.restore.specs.Mending.{Mends}
-use Rattle.erasure.specs.Stopping.{isLost}
 use Rattle.erasure.specs.Turns.{Restored, stateOf}
 use Rattle.erasure.specs.Values.{received-kept, zeroLost-length, zeroLost-kept, zeroLost-zero}
 use Rattle.restore.specs.declared.Mended.{Mended}

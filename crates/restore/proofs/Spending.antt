@@ -1,27 +1,26 @@
 -- A check that has restored a place sums to zero from then on.
 use mathlib.Core.Path.{_≡_, refl, sym, ap, ap₂, _∙_, subst}
-use mathlib.Core.Bool.{Bool, true, false, not, cond, true≢false, false≢true}
+use mathlib.Core.Bool.{Bool, true, false, not, true≢false, false≢true}
 use mathlib.Core.List.{List, [], _∷_}
-use Prim.Native.Nat.{ℕ, suc, _+_, _*_, _<_, _≤_}
+use Prim.Native.Nat.{ℕ, suc, _+_, _<_, _≤_}
 use native.Mathlib.Omega.{arith}
 use borrow.Author.Tests.{eq-eqb, ne-eqb}
 use lib.Dec.{eqb}
 use lib.ListN.{length, getD, set, drop, replicate, length-set, length-replicate}
 use lib.Seq.{getD-set-same, getD-set-other}
-use Rattle.gf2.specs.Bit.{eqb-true, eqb-false, eqb-self}
-use Rattle.gf2.specs.Group.{XorGroup}
-use Rattle.gf2.specs.Lists.{Distinct, Distinct.dnil, Distinct.dnew, getD-zeros, sameList}
-use Rattle.gf2.specs.Places.{has, filter, minus, or-false-l, or-false-r}
-use Rattle.gf2.specs.Span.{byBool, or-l, or-r}
-use Rattle.gf2.specs.Vectors.{add, add-assoc, add-comm, add-self}
+use Rattle.lists.specs.Tests.{eqb-true, eqb-false, eqb-self, or-false-l, or-false-r, byBool, or-l, or-r}
+use Rattle.gf2.specs.Gf2.{XorGroup, add}
+use Rattle.lists.specs.Lists.{Distinct, Distinct.dnil, Distinct.dnew, sameList, has, filter, minus}
+use Rattle.lists.specs.ListLaws.{getD-zeros}
+use Rattle.gf2.specs.Vectors.{add-assoc, add-comm, add-self}
 use Rattle.table.specs.Checks.{check}
 use Rattle.table.specs.PacketLaws.{packets-length}
 use Rattle.table.specs.Packets.{packets, packetSum}
 use Rattle.table.specs.SumLaws.{lowest-same, zeros-lowest}
 use Rattle.chains.specs.Linked.{Counted}
 use Rattle.restore.specs.Spent.{Spent}
-use Rattle.erasure.specs.Restoring.{State, lostPlaces, consistent}
-use Rattle.erasure.specs.Stopping.{isLost, first-lost}
+use Rattle.erasure.specs.Restoring.{State, lostPlaces, consistent, isLost}
+use Rattle.erasure.specs.Stopping.{first-lost}
 use Rattle.table.specs.Accepted.{Accepted}
 use Rattle.table.specs.Codewords.{zeroSum}
 use Rattle.erasure.specs.LostLaws.{lost-less}

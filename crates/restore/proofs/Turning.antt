@@ -1,28 +1,26 @@
 -- The turns of repair: one turn on bytes, and the loop over them.
 use mathlib.Core.Path.{_≡_, refl, sym, ap, ap₂, _∙_, subst}
-use mathlib.Core.Bool.{Bool, true, false, not}
+use mathlib.Core.Bool.{true, false, not}
 use mathlib.Core.List.{List, [], _∷_}
-use mathlib.Core.Option.{Option, none, some}
+use mathlib.Core.Option.{none, some}
 use Prim.Native.Nat.{ℕ, zero, suc, _+_, _-_, _*_, _<_, _≤_}
 use native.Mathlib.Omega.{arith}
 use lib.Dec.{eqb}
-use lib.ListN.{length, getD, set, take, drop, length-set}
-use Rattle.gf2.specs.Bit.{eqb-true, eqb-false}
-use Rattle.gf2.specs.Lists.{all-filter, byOpt}
-use Rattle.gf2.specs.Places.{has, filter, minus}
-use Rattle.gf2.specs.Span.{byBool}
-use Rattle.gf2.specs.Width.{All, all-map}
-use Rattle.table.specs.BufferLaws.{part-length}
+use lib.ListN.{length, getD, take, drop, length-set}
+use Rattle.lists.specs.Tests.{byBool}
+use Rattle.lists.specs.ListLaws.{all-filter, all-map}
+use Rattle.lists.specs.Lists.{has, minus, All}
+use Rattle.lists.specs.Buffers.{part-length}
 use Rattle.table.specs.Checks.{Places, Starts}
 use Rattle.table.specs.PacketLaws.{packets-length, packets-sized, packets-joined, sum-view}
-use Rattle.table.specs.Packets.{Packets, packets, joined, packetSum}
+use Rattle.table.specs.Packets.{packets, packetSum}
 use Rattle.table.specs.SumLaws.{places-in, check-below}
 use Rattle.table.specs.Table.{checks}
 use Rattle.erasure.specs.Largest.{lost-most}
-use Rattle.erasure.specs.Restoring.{State, lostPlaces, ready, restoring}
+use Rattle.erasure.specs.Restoring.{State, lostPlaces, ready, restoring, isLost}
 use Rattle.erasure.specs.LostLaws.{filter-less}
 use Rattle.erasure.specs.RestoringLaws.{lost-inside, ready-one, ready-lost, restoring-enough}
-use Rattle.erasure.specs.Stopping.{isLost, first-lost, lostIn, restore-one}
+use Rattle.erasure.specs.Stopping.{first-lost, lostIn, restore-one}
 use Rattle.table.specs.Accepted.{Accepted, check-count, places-at, check-is, light}
 use Rattle.erasure.specs.Turns.{Holds, Restored, stateOf, turn}
 use Rattle.restore.proofs.BlockLaws.{packets-set, bytes-set}

@@ -1,17 +1,15 @@
 // The core of the receiver: restores lost places. A map byte of 1 is lost, any other is known.
 use table::wide;
 ghost use mathlib.Core.Path.{_≡_};
-ghost use mathlib.Core.Bool.{cond, true, false};
-ghost use mathlib.Core.List.{List, _∷_};
-ghost use Prim.Native.Nat.{ℕ, _+_, _-_, _*_, _≤_, _<_};
+ghost use mathlib.Core.Bool.{true, false};
+ghost use Prim.Native.Nat.{_+_, _-_, _*_, _≤_, _<_};
 ghost use lib.ListN.{length, getD, take, drop};
-ghost use Rattle.gf2.specs.Places.{has};
-ghost use Rattle.table.specs.Checks.{check, Places, Starts};
+ghost use Rattle.table.specs.Checks.{Places, Starts};
 ghost use Rattle.table.specs.Packets.{packets, joined};
 ghost use Rattle.table.specs.Table.{checks};
 ghost use Rattle.table.specs.Accepted.{Accepted};
 ghost use Rattle.chains.specs.Linked.{Linked, Counted};
-ghost use Rattle.erasure.specs.Restoring.{lostPlaces, tally, zeroLost, consistent, restoring};
+ghost use Rattle.erasure.specs.Restoring.{lostPlaces, tally, zeroLost, consistent};
 ghost use Rattle.restore.specs.Mending.{Mends};
 ghost use Rattle.restore.specs.Spent.{Spent};
 ghost use Rattle.erasure.specs.Turns.{Holds, Restored, stateOf, turn};

@@ -1,15 +1,13 @@
 -- The loop that reduces a row: `Lowering` holds at each turn.
-use mathlib.Core.Path.{_≡_, refl, sym, ap, _∙_, subst}
-use mathlib.Core.Bool.{true, false, true≢false}
+use mathlib.Core.Path.{_≡_, sym, ap, _∙_, subst}
+use mathlib.Core.Bool.{false}
 use mathlib.Core.List.{List, [], _∷_, _++_, append-nil}
 use Prim.Native.Nat.{ℕ, _+_, _-_, _<_, _≤_}
 use native.Mathlib.Omega.{arith}
 use lib.Bits.{bitXor}
 use lib.ListN.{length, getD, set}
-use Rattle.gf2.specs.Bit.{bit, bit-zero}
-use Rattle.gf2.specs.Echelon.{Short, Bits, down, path}
-use Rattle.gf2.specs.EchelonLaws.{Passed, passed-then, passed-skip, passed-step, Ended, ended-stop, ended-zero, bits-le, bit-nonzero, short-sum}
-use Rattle.gf2.specs.Fit.{isZero}
+use Rattle.gf2.specs.Gf2.{bit, Short, Bits, down, isZero}
+use Rattle.gf2.specs.EchelonLaws.{Passed, passed-then, passed-skip, passed-step, Ended, ended-stop, bits-le, bit-nonzero, short-sum}
 use Rattle.bits.specs.Front.{Front, front-none, front-more}
 use Rattle.bits.specs.Row.{row, RowPut}
 use Rattle.bits.specs.RowLaws.{put-put, put-is, put-self}

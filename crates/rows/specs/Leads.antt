@@ -5,7 +5,7 @@ use mathlib.Core.List.{List}
 use Prim.Native.Nat.{ℕ, _+_, _-_, _*_, _<_, _≤_}
 use lib.Dec.{eqb}
 use lib.ListN.{length, getD}
-use Rattle.gf2.specs.Echelon.{Short, Bits, down, path}
+use Rattle.gf2.specs.Gf2.{Short, Bits, down, path}
 use Rattle.bits.specs.Row.{row, RowPut}
 
 -- the row whose highest place is p, 0 for none

@@ -8,10 +8,9 @@ use lib.Dec.{eqb}
 use lib.ListN.{length, getD, set}
 use lib.Seq.{getD-set-same, getD-set-other}
 use borrow.Author.Tests.{eq-eqb, ne-eqb}
-use Rattle.gf2.specs.Bit.{bit, bit-zero, eqb-true, eqb-false}
-use Rattle.gf2.specs.Echelon.{Bits, Lead, down}
-use Rattle.gf2.specs.Fit.{isZero}
-use Rattle.gf2.specs.Span.{byBool}
+use Rattle.gf2.specs.Gf2.{bit, Bits, Lead, down, isZero}
+use Rattle.gf2.specs.Bit.{bit-zero}
+use Rattle.lists.specs.Tests.{eqb-true, eqb-false, byBool}
 use Rattle.bits.specs.Row.{row, RowPut}
 use Rattle.bits.specs.RowLaws.{row-other, put-put, put-is}
 use Rattle.rows.specs.Leads.{leads, Owners, Lowered}

@@ -4,20 +4,19 @@ use mathlib.Core.Bool.{true, false, not, false≢true}
 use mathlib.Core.List.{List, [], _∷_, map}
 use Prim.Native.Nat.{ℕ, _^_, _<_}
 use lib.ListN.{length, length-map}
-use Rattle.gf2.specs.Bit.{bit, bit-hom, bits-zero}
-use Rattle.gf2.specs.Fit.{isZero, isZero-sound, column, below, all-below, comb-lt, fitted-exact, rows-told}
-use Rattle.gf2.specs.Greedy.{choose, onto, choose-indep, choose-spans}
-use Rattle.gf2.specs.GreedyLaws.{all-choose, onto-all, onto-indep, distinct-choose}
-use Rattle.gf2.specs.Group.{Group2, XorGroup, sumOver}
+use Rattle.gf2.specs.Gf2.{bit, isZero, column, choose, onto, Group2, XorGroup, sumOver, rowOf, comb}
+use Rattle.gf2.specs.Bit.{bit-hom, bits-zero}
+use Rattle.gf2.specs.Columns.{isZero-sound, comb-lt, fitted-exact, rows-told}
+use Rattle.lists.specs.Lists.{below, Distinct, rev, has, All, All.nil}
+use Rattle.lists.specs.ListLaws.{all-below, all-rev, all-unrev, all-self, none-has, append-nil, filter-back, length-rev, distinct-rev, all-unmap, distinct-filter, distinct-below, all-has, below-of, all-zip, map-all, filter-in, all-in, all-map, all-of}
+use Rattle.gf2.specs.GreedyLaws.{choose-indep, choose-spans, all-choose, onto-all, onto-indep, distinct-choose}
 use Rattle.gf2.specs.Independent.{Indep, Indep.empty}
 use Rattle.gf2.specs.Linear.{lin-zero}
-use Rattle.gf2.specs.ListLaws.{all-rev, all-unrev, all-self, none-has, append-nil, filter-back, length-rev, distinct-rev, all-unmap, distinct-filter, distinct-below}
-use Rattle.gf2.specs.Lists.{Distinct, rev, all-has, below-of, all-zip, map-all, filter-in, all-in}
-use Rattle.gf2.specs.MaskFor.{mask-sums, mask-length}
-use Rattle.gf2.specs.Places.{has, rowOf}
+use Rattle.gf2.specs.MaskLaws.{mask-sums, mask-length}
 use Rattle.gf2.specs.RowValue.{val, val-row, val-lin, row-lt}
-use Rattle.gf2.specs.Span.{byBool, comb, isSum-complete}
-use Rattle.gf2.specs.Width.{All, All.nil, all-map, all-of, Tells, zero-span, Zero}
+use Rattle.lists.specs.Tests.{byBool}
+use Rattle.gf2.specs.Span.{isSum-complete}
+use Rattle.gf2.specs.Rank.{Tells, zero-span, Zero}
 use Rattle.plan.specs.Run.{run}
 use Rattle.rule.specs.AsidesZero.{AfterSteps, after-steps}
 use Rattle.rule.specs.Inverse.{square-indep, unit-spanned}

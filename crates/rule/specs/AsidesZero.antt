@@ -6,17 +6,16 @@ use Prim.Native.Nat.{ℕ, _^_, _<_}
 use native.Mathlib.Omega.{arith}
 use lib.Dec.{eqb}
 use lib.ListN.{length, length-map}
-use Rattle.gf2.specs.Bit.{bit, eqb-true}
-use Rattle.gf2.specs.Fit.{below}
-use Rattle.gf2.specs.Group.{Group2, XorGroup, sumOver, zr, left-comm}
+use Rattle.gf2.specs.Gf2.{bit, Group2, XorGroup, sumOver, rowOf, comb}
+use Rattle.lists.specs.Tests.{eqb-true, byBool}
+use Rattle.lists.specs.Lists.{below, Distinct, rev, has, minus, All, All.nil, All.cons}
+use Rattle.gf2.specs.Group.{zr, left-comm}
 use Rattle.gf2.specs.Independent.{Indep}
 use Rattle.gf2.specs.Linear.{lin-sum, lin-o}
-use Rattle.gf2.specs.ListLaws.{all-rev, all-unrev, none-has, all-self, has-none}
-use Rattle.gf2.specs.Lists.{Distinct, all-zip, all-has, below-of, rev}
-use Rattle.gf2.specs.Places.{has, rowOf, minus, sum-filter}
+use Rattle.lists.specs.ListLaws.{all-rev, all-unrev, none-has, all-self, has-none, all-zip, all-has, below-of, all-map, all-of}
+use Rattle.gf2.specs.Places.{sum-filter}
 use Rattle.gf2.specs.RowValue.{at, val, valOn, val-lin, val-pow, val-row, val-add, sum-ext, sum-ext-in}
-use Rattle.gf2.specs.Span.{byBool, comb, comb-nil}
-use Rattle.gf2.specs.Width.{All, All.nil, All.cons, all-map, all-of}
+use Rattle.gf2.specs.Span.{comb-nil}
 use Rattle.plan.specs.Run.{run, run-append}
 use Rattle.rule.specs.Inverse.{pow, res-bit-in, res-bit-out, solves}
 use Rattle.rule.specs.Rule.{Solved, row, putInAll, solvingSteps, restricted, scratchSteps, fittingSteps, owns, stepsWithGap}

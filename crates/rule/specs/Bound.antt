@@ -6,13 +6,11 @@ use Prim.Native.Nat.{ℕ, _+_, _-_, _*_, _<_, _≤_}
 use native.Mathlib.Nat.{mul-add, mul-one}
 use native.Mathlib.Omega.{arith}
 use lib.ListN.{length, length-map}
-use Rattle.gf2.specs.Group.{XorGroup}
+use Rattle.gf2.specs.Gf2.{XorGroup, rowOf}
 use Rattle.gf2.specs.Independent.{Indep, Indep.free}
-use Rattle.gf2.specs.ListLaws.{all-rev, length-rev}
-use Rattle.gf2.specs.Lists.{Distinct, rev}
-use Rattle.gf2.specs.Places.{rowOf}
+use Rattle.lists.specs.ListLaws.{all-rev, length-rev}
+use Rattle.lists.specs.Lists.{Distinct, rev, All}
 use Rattle.gf2.specs.Span.{span-zero}
-use Rattle.gf2.specs.Width.{All}
 use Rattle.table.specs.Table.{ones}
 use Rattle.plan.specs.Step.{addSteps}
 use Rattle.rule.specs.AllChecksZero.{ts, az, F, tri, peels, indK, same, lens}

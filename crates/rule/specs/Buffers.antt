@@ -4,7 +4,7 @@ use mathlib.Core.Bool.{Bool}
 use mathlib.Core.List.{List, [], _∷_, _++_, map}
 use Prim.Native.Nat.{ℕ, zero, suc, _/_, _<_, _≤_}
 use lib.ListN.{length, getD, take}
-use Rattle.gf2.specs.Bit.{bit}
+use Rattle.gf2.specs.Gf2.{bit}
 use Rattle.table.specs.Checks.{check}
 use Rattle.table.specs.Table.{places, number, checks}
 use Rattle.rule.specs.Rule.{Solved, kept, peel, solvedOf, setAsideOf, PeelEvent, reduced, fittedPlaces, inverse}

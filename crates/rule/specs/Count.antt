@@ -6,10 +6,8 @@ use Prim.Native.Nat.{ℕ, suc, _+_, _*_, _≤_}
 use native.Mathlib.Omega.{arith}
 use lib.Dec.{eqb}
 use lib.ListN.{length, length-append, length-map}
-use Rattle.gf2.specs.Bit.{eqb-comm}
-use Rattle.gf2.specs.Places.{has, filter, minus}
-use Rattle.gf2.specs.Span.{byBool}
-use Rattle.gf2.specs.Width.{All, All.nil, All.cons}
+use Rattle.lists.specs.Tests.{eqb-comm, byBool}
+use Rattle.lists.specs.Lists.{has, filter, minus, All, All.nil, All.cons}
 use Rattle.table.specs.Table.{ones}
 use Rattle.plan.specs.declared.Step.{Step}
 use Rattle.plan.specs.declared.Step.the-variants.{Clear, Add}

@@ -4,12 +4,9 @@ use mathlib.Core.Bool.{true, not}
 use mathlib.Core.List.{List, _++_}
 use Prim.Native.Nat.{ℕ, zero, suc, _+_, _<_}
 use lib.ListN.{length, getD, replicate, length-replicate}
-use Rattle.gf2.specs.Fit.{below}
-use Rattle.gf2.specs.Group.{XorGroup, sumOver}
-use Rattle.gf2.specs.ListLaws.{has-append-r, all-replicate}
-use Rattle.gf2.specs.Lists.{Distinct, rev, getD-zeros}
-use Rattle.gf2.specs.Places.{has, has-filter}
-use Rattle.gf2.specs.Width.{All, all-map}
+use Rattle.lists.specs.Lists.{below, Distinct, rev, has, All}
+use Rattle.gf2.specs.Gf2.{XorGroup, sumOver}
+use Rattle.lists.specs.ListLaws.{has-append-r, all-replicate, getD-zeros, has-filter, all-map}
 use Rattle.table.specs.PacketLaws.{view}
 use Rattle.table.specs.Packets.{Packets}
 use Rattle.plan.specs.AtStart.{put-other, put-length, put-packets}

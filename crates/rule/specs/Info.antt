@@ -6,13 +6,9 @@ use Prim.Native.Nat.{ℕ, suc, _+_, _-_, _<_, _≤_}
 use native.Mathlib.Omega.{arith}
 use lib.Dec.{eqb}
 use lib.ListN.{length, getD, replicate, length-replicate, length-map, length-append}
-use Rattle.gf2.specs.Bit.{eqb-true, eqb-comm}
-use Rattle.gf2.specs.Fit.{below, length-below}
-use Rattle.gf2.specs.ListLaws.{distinct-filter, distinct-below, distinct-rev, length-rev, has-kept, low-has, getD-has}
-use Rattle.gf2.specs.Lists.{Distinct, Distinct.dnil, Distinct.dnew, rev, par-has}
-use Rattle.gf2.specs.Places.{has, filter, minus, or-false-l, or-false-r}
-use Rattle.gf2.specs.Span.{byBool}
-use Rattle.gf2.specs.Width.{All, All.nil, All.cons, all-map}
+use Rattle.lists.specs.Tests.{eqb-true, eqb-comm, or-false-l, or-false-r, byBool}
+use Rattle.lists.specs.Lists.{below, Distinct, Distinct.dnil, Distinct.dnew, rev, has, filter, minus, All, All.nil, All.cons}
+use Rattle.lists.specs.ListLaws.{length-below, distinct-filter, distinct-below, distinct-rev, length-rev, has-kept, low-has, getD-has, par-has, all-map}
 use Rattle.plan.specs.AtStart.{put-at, runs-keep}
 use Rattle.rule.specs.AllChecksZero.{ts, az, F, tri, lowT, free-good, peels, same, dF, freeF}
 use Rattle.rule.specs.Encoded.{encode}

@@ -7,16 +7,18 @@ use native.Mathlib.Omega.{arith}
 use lib.Bits.{bitXor}
 use lib.Dec.{eqb}
 use lib.ListN.{length, length-map}
-use Rattle.gf2.specs.Bit.{bit, bit-adds, bit-hom, bit-zero, bit-pow, eqb-true, eqb-self}
-use Rattle.gf2.specs.Fit.{isZero, isZero-sound}
-use Rattle.gf2.specs.Group.{Group2, XorGroup, bxor, sumOver, eq-zero}
+use Rattle.gf2.specs.Gf2.{bit, isZero, Group2, XorGroup, sumOver, comb, isSum}
+use Rattle.gf2.specs.Bit.{bit-adds, bit-hom, bit-zero, bit-pow}
+use Rattle.lists.specs.Tests.{eqb-true, eqb-self, or-false-l, or-false-r, byBool}
+use Rattle.gf2.specs.Columns.{isZero-sound}
+use Rattle.lists.specs.Lists.{bxor, Distinct, Distinct.dnil, Distinct.dnew, has, All, All.nil, All.cons}
+use Rattle.gf2.specs.Group.{eq-zero}
 use Rattle.gf2.specs.Independent.{Indep, Indep.empty, Indep.free}
 use Rattle.gf2.specs.Linear.{Lin, lin-comb, carry}
-use Rattle.gf2.specs.Lists.{Distinct, Distinct.dnil, Distinct.dnew}
-use Rattle.gf2.specs.Places.{has, or-false-l, or-false-r}
 use Rattle.gf2.specs.RowValue.{at, valOn, valOn-lin, sum-ext-in}
-use Rattle.gf2.specs.Span.{byBool, comb, comb-nil, Span, span-zero, span-add, span-head, span-tail, span-within, Within, Within.none, Within.more, madd, comb-add, isSum, isSum-sound, isSum-complete}
-use Rattle.gf2.specs.Width.{All, All.nil, All.cons, all-map, Tells, width}
+use Rattle.gf2.specs.Span.{comb-nil, Span, span-zero, span-add, span-head, span-tail, span-within, Within, Within.none, Within.more, madd, comb-add, isSum-sound, isSum-complete}
+use Rattle.lists.specs.ListLaws.{all-map}
+use Rattle.gf2.specs.Rank.{Tells, width}
 use Rattle.rule.specs.Rule.{restricted}
 
 module _ {A B : Type 0} (G : Group2 A) (K : Group2 B) {f : A → B} (h : Lin G K f) where

@@ -7,17 +7,15 @@ use native.Mathlib.Omega.{arith}
 use lib.Dec.{eqb}
 use lib.ListN.{length, getD, replicate, take, length-replicate}
 use lib.Seq.{ext-getD, getD-take, length-take-le}
-use Rattle.gf2.specs.Bit.{bit, eqb-true}
-use Rattle.gf2.specs.Fit.{below}
+use Rattle.gf2.specs.Gf2.{bit, Group2, XorGroup, sumOver, rowOf}
+use Rattle.lists.specs.Tests.{eqb-true, byBool}
+use Rattle.lists.specs.Lists.{below, Distinct, rev, has, minus, All, All.nil, All.cons}
 use Rattle.gf2.specs.GreedyLaws.{all-choose}
-use Rattle.gf2.specs.Group.{Group2, XorGroup, sumOver, sumOver-add, zr, eq-zero}
+use Rattle.gf2.specs.Group.{sumOver-add, zr, eq-zero}
 use Rattle.gf2.specs.Linear.{lin-zero}
-use Rattle.gf2.specs.ListLaws.{all-rev, all-unrev, all-self, none-has, has-none, all-replicate, has-kept, low-has, getD-has, has-append-none, all-take, all-index}
-use Rattle.gf2.specs.Lists.{Distinct, rev, all-zip, all-has, below-of, all-in, map-all, all-getD, getD-zeros, all-every}
-use Rattle.gf2.specs.Places.{has, rowOf, minus, sum-apart}
+use Rattle.lists.specs.ListLaws.{all-rev, all-unrev, all-self, none-has, has-none, all-replicate, has-kept, low-has, getD-has, has-append-none, all-take, all-index, all-zip, all-has, below-of, all-in, map-all, all-getD, getD-zeros, all-every, all-map}
+use Rattle.gf2.specs.Places.{sum-apart}
 use Rattle.gf2.specs.RowValue.{at, val, val-lin, val-pow, val-row, sum-ext-in}
-use Rattle.gf2.specs.Span.{byBool}
-use Rattle.gf2.specs.Width.{All, All.nil, All.cons, all-map}
 use Rattle.table.specs.PacketLaws.{view, sum-view}
 use Rattle.table.specs.Packets.{packetSum, Packets}
 use Rattle.plan.specs.AtStart.{put-length, put-packets}

@@ -9,14 +9,14 @@ use native.Mathlib.Omega.{arith}
 use lib.Bits.{bitXor}
 use lib.Dec.{eqb}
 use lib.ListN.{length}
-use Rattle.gf2.specs.Bit.{eqb-true, eqb-self, bit}
-use Rattle.gf2.specs.Group.{Group2, XorGroup, bxor, cancel, cancel-r, cancel-mid}
+use Rattle.lists.specs.Tests.{eqb-true, eqb-self, byOpt, byBool, or-l, or-r}
+use Rattle.gf2.specs.Gf2.{bit, Group2, XorGroup, rowOf}
+use Rattle.lists.specs.Lists.{bxor, Distinct, Distinct.dnil, Distinct.dnew, highest, has, par, anyOf, All, All.nil, All.cons}
+use Rattle.gf2.specs.Group.{cancel, cancel-r, cancel-mid}
 use Rattle.gf2.specs.Independent.{Indep, Indep.empty, Indep.free}
 use Rattle.gf2.specs.IndependentOrder.{indep-swap, indep-head, indep-tail, within-insert, indep-push, span-after}
-use Rattle.gf2.specs.Lists.{Distinct, Distinct.dnil, Distinct.dnew, highest, highest-is, byOpt}
-use Rattle.gf2.specs.Places.{has, par, rowOf, has-par}
-use Rattle.gf2.specs.Span.{byBool, or-l, or-r, anyOf, Span, span-zero, span-add, span-head, span-tail, span-within, Within, Within.none as wnil, Within.more, within-tail, within-self, within-trans}
-use Rattle.gf2.specs.Width.{All, All.nil, All.cons}
+use Rattle.lists.specs.ListLaws.{highest-is, has-par}
+use Rattle.gf2.specs.Span.{Span, span-zero, span-add, span-head, span-tail, span-within, Within, Within.none as wnil, Within.more, within-tail, within-self, within-trans}
 use Rattle.rule.specs.Rule.{putInAll, putIn, Solved, row, count, first, without, greatest, heaviest, inOneOnly, peel, solvedOf, setAsideOf}
 use Rattle.rule.specs.Solved.{Tri, Tri.done, Tri.also}
 

@@ -7,13 +7,8 @@ use Prim.Native.Nat.{ℕ, zero, suc, _^_, max}
 use lib.Bits.{bitXor}
 use lib.Dec.{eqb}
 use lib.ListN.{length}
-use Rattle.gf2.specs.Bit.{bit}
-use Rattle.gf2.specs.Fit.{isZero, column, below}
-use Rattle.gf2.specs.Greedy.{choose}
-use Rattle.gf2.specs.Group.{XorGroup, sumOver}
-use Rattle.gf2.specs.Lists.{highest, rev}
-use Rattle.gf2.specs.MaskFor.{maskFor}
-use Rattle.gf2.specs.Places.{has, rowOf, minus}
+use Rattle.gf2.specs.Gf2.{bit, isZero, column, choose, XorGroup, sumOver, maskFor, rowOf}
+use Rattle.lists.specs.Lists.{below, highest, rev, has, minus}
 use Rattle.table.specs.Table.{ones}
 use Rattle.plan.specs.declared.Step.{Step}
 use Rattle.plan.specs.declared.Step.the-variants.{Clear, Add}

@@ -7,13 +7,10 @@ use native.Mathlib.Nat.{suc-inj}
 use native.Mathlib.Omega.{arith}
 use lib.Dec.{eqb}
 use lib.ListN.{length}
-use Rattle.gf2.specs.Bit.{eqb-comm}
-use Rattle.gf2.specs.Group.{Group2, sumOver}
-use Rattle.gf2.specs.ListLaws.{has-low}
-use Rattle.gf2.specs.Lists.{Distinct, Distinct.dnil, Distinct.dnew, eqb-lt, all-filter}
-use Rattle.gf2.specs.Places.{has, minus, or-false-l, or-false-r}
-use Rattle.gf2.specs.Span.{comb}
-use Rattle.gf2.specs.Width.{All, All.nil, All.cons}
+use Rattle.lists.specs.Tests.{eqb-comm, eqb-lt, or-false-l, or-false-r}
+use Rattle.gf2.specs.Gf2.{Group2, sumOver, comb}
+use Rattle.lists.specs.ListLaws.{has-low, all-filter}
+use Rattle.lists.specs.Lists.{Distinct, Distinct.dnil, Distinct.dnew, has, minus, All, All.nil, All.cons}
 use Rattle.plan.specs.declared.Step.{Step}
 use Rattle.plan.specs.Run.{upd, run, run-append, upd-same, upd-other, sum-upd}
 use Rattle.rule.specs.Rule.{clearAndAdd, scratchSteps, slotsNamed, fittingSteps}

@@ -4,13 +4,13 @@ use mathlib.Core.Bool.{true, false, true≢false}
 use mathlib.Core.List.{List, [], _∷_}
 use Prim.Native.Nat.{ℕ, _^_, _<_}
 use lib.Bits.{xor-lt}
-use Rattle.gf2.specs.Bit.{bit, bit-adds}
-use Rattle.gf2.specs.Group.{Group2, bxor}
-use Rattle.gf2.specs.Lists.{all-in}
-use Rattle.gf2.specs.Places.{has, par, bit-row, has-par}
+use Rattle.gf2.specs.Gf2.{bit, Group2}
+use Rattle.gf2.specs.Bit.{bit-adds}
+use Rattle.lists.specs.Lists.{bxor, has, par, All, All.nil, All.cons}
+use Rattle.lists.specs.ListLaws.{all-in, has-par}
+use Rattle.gf2.specs.Places.{bit-row}
 use Rattle.gf2.specs.RowValue.{val, val-lin, row-lt}
-use Rattle.gf2.specs.Span.{byBool}
-use Rattle.gf2.specs.Width.{All, All.nil, All.cons}
+use Rattle.lists.specs.Tests.{byBool}
 use Rattle.rule.specs.Rule.{Solved, row, putIn, putInAll}
 
 -- each own place lies in its check, an odd number of times, and in no check that was taken later

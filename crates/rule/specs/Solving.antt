@@ -5,13 +5,11 @@ use mathlib.Core.List.{List, [], _∷_, _++_}
 use mathlib.Core.Logic.{_⊎_, inl, inr}
 use Prim.Native.Nat.{ℕ}
 use lib.Dec.{eqb}
-use Rattle.gf2.specs.Bit.{eqb-true, eqb-self}
-use Rattle.gf2.specs.Group.{Group2, sumOver}
-use Rattle.gf2.specs.ListLaws.{all-rev, all-snoc}
-use Rattle.gf2.specs.Lists.{rev}
-use Rattle.gf2.specs.Places.{has, par, minus, filter, has-filter, sum-apart}
-use Rattle.gf2.specs.Span.{byBool}
-use Rattle.gf2.specs.Width.{All, All.nil, All.cons}
+use Rattle.lists.specs.Tests.{eqb-true, eqb-self, byBool}
+use Rattle.gf2.specs.Gf2.{Group2, sumOver}
+use Rattle.lists.specs.ListLaws.{all-rev, all-snoc, has-filter}
+use Rattle.lists.specs.Lists.{rev, has, par, minus, filter, All, All.nil, All.cons}
+use Rattle.gf2.specs.Places.{sum-apart}
 use Rattle.plan.specs.Run.{upd, run, run-append, adds-run, upd-same, upd-other, upd-upd, sum-upd}
 use Rattle.rule.specs.Rule.{Solved, clearAndAdd, solvingSteps}
 use Rattle.rule.specs.Solved.{Tri, Tri.done as tdone, Tri.also as talso}

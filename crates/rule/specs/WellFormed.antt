@@ -6,12 +6,9 @@ use Prim.Native.Nat.{ℕ, suc, _+_, _<_, _≤_}
 use native.Mathlib.Omega.{arith}
 use lib.Dec.{eqb}
 use lib.ListN.{length}
-use Rattle.gf2.specs.Bit.{eqb-false}
-use Rattle.gf2.specs.Fit.{below}
-use Rattle.gf2.specs.ListLaws.{all-rev, all-self, has-low, all-append, has-append-r, all-unmap, has-append-l}
-use Rattle.gf2.specs.Lists.{Distinct, all-filter, rev, all-zip, below-of}
-use Rattle.gf2.specs.Places.{has, has-filter, or-false-l, or-false-r}
-use Rattle.gf2.specs.Width.{All, All.nil, All.cons, all-map}
+use Rattle.lists.specs.Tests.{eqb-false, or-false-l, or-false-r}
+use Rattle.lists.specs.Lists.{below, Distinct, rev, has, All, All.nil, All.cons}
+use Rattle.lists.specs.ListLaws.{all-rev, all-self, has-low, all-append, has-append-r, all-unmap, has-append-l, all-filter, all-zip, below-of, has-filter, all-map}
 use Rattle.plan.specs.declared.Step.the-variants.{Clear, Add}
 use Rattle.plan.specs.LayoutLaws.{Sound}
 use Rattle.rule.specs.AllChecksZero.{ts, az, F, tri, lowT, lowA, free-good, lens}

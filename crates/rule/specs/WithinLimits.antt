@@ -6,15 +6,11 @@ use Prim.Native.Nat.{ℕ, _+_, _*_, _<_, _≤_}
 use native.Mathlib.Nat.{mul-le-mul}
 use native.Mathlib.Omega.{arith}
 use lib.ListN.{length, length-append}
-use Rattle.gf2.specs.Ascending.{Up, up-filter, down-rev, down-below}
-use Rattle.gf2.specs.Fit.{isZero}
-use Rattle.gf2.specs.Greedy.{choose}
-use Rattle.gf2.specs.Group.{XorGroup}
-use Rattle.gf2.specs.ListLaws.{length-rev}
-use Rattle.gf2.specs.Lists.{Distinct, rev}
-use Rattle.gf2.specs.Places.{rowOf}
-use Rattle.gf2.specs.Span.{byBool, isSum}
-use Rattle.gf2.specs.Width.{All}
+use Rattle.lists.specs.Ascending.{Up, up-filter, down-rev, down-below}
+use Rattle.gf2.specs.Gf2.{isZero, choose, XorGroup, rowOf, isSum}
+use Rattle.lists.specs.ListLaws.{length-rev}
+use Rattle.lists.specs.Lists.{Distinct, rev, All}
+use Rattle.lists.specs.Tests.{byBool}
 use Rattle.table.specs.Table.{mostPlaces, mostOnes, ones}
 use Rattle.plan.specs.Layout.{mostAside, mostSteps, leastPlan, leastNumbers}
 use Rattle.rule.specs.AllChecksZero.{ts, az, F, peels}

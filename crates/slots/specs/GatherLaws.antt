@@ -6,13 +6,13 @@ use Prim.Native.Nat.{ℕ, suc, _+_, _<_, _≤_}
 use native.Mathlib.Omega.{arith}
 use lib.ListN.{length, getD, set, take, drop, replicate, length-set, length-replicate, drop-of-length-le}
 use lib.Seq.{take-all, take-add, take-at, drop-at, drop-drop, getD-set-same, getD-set-other, set-set, set-getD, length-take-le}
-use Rattle.gf2.specs.Group.{XorGroup}
-use Rattle.gf2.specs.Lists.{all-getD, all-set}
-use Rattle.gf2.specs.Vectors.{add, add-assoc, add-comm, add-zl, length-add}
-use Rattle.gf2.specs.Width.{All, All.nil, All.cons}
-use Rattle.table.specs.BufferLaws.{part-length}
+use Rattle.gf2.specs.Gf2.{XorGroup, add}
+use Rattle.lists.specs.ListLaws.{all-getD, all-set}
+use Rattle.gf2.specs.Vectors.{add-assoc, add-comm, add-zl, length-add}
+use Rattle.lists.specs.Lists.{All, All.nil, All.cons, written}
+use Rattle.lists.specs.Buffers.{part-length}
 use Rattle.table.specs.PacketLaws.{sum-view}
-use Rattle.table.specs.Packets.{Packets, packetSum, written}
+use Rattle.table.specs.Packets.{Packets, packetSum}
 use Rattle.table.specs.SumLaws.{part-sum}
 use Rattle.plan.specs.Steps.{carryOutAll}
 use Rattle.slots.specs.Runs.{adding, runSteps}

@@ -9,8 +9,8 @@ use borrow.Author.Tests.{eqb-true, eq-eqb}
 use lib.Dec.{eqb}
 use lib.ListN.{length, getD, take, drop}
 use lib.Seq.{drop-cons}
-use Rattle.gf2.specs.Span.{byBool}
-use Rattle.table.specs.BufferLaws.{part-length, getD-part}
+use Rattle.lists.specs.Tests.{byBool}
+use Rattle.lists.specs.Buffers.{part-length, getD-part}
 use Rattle.plan.specs.declared.Step.{Step}
 use Rattle.plan.specs.declared.Step.the-variants.{Clear, Add}
 use Rattle.plan.specs.Step.{unpack}

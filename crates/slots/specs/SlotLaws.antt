@@ -4,7 +4,7 @@ use mathlib.Core.List.{List, _++_}
 use Prim.Native.Nat.{ℕ, zero, suc, _+_, _*_, _-_, _<_}
 use native.Mathlib.Omega.{arith}
 use lib.ListN.{take, drop}
-use Rattle.gf2.specs.Width.{All, All.nil, All.cons}
+use Rattle.lists.specs.Lists.{All, All.nil, All.cons}
 use Rattle.table.specs.BufferLaws.{place-fits}
 use Rattle.slots.specs.Slots.{Holds, SlotIn}
 

@@ -4,9 +4,9 @@ use mathlib.Core.Bool.{Bool, cond}
 use mathlib.Core.List.{List, [], _++_}
 use Prim.Native.Nat.{ℕ, _+_, _*_, _-_, _<_, _≤_}
 use lib.ListN.{length, getD, set, take, drop, replicate}
-use Rattle.gf2.specs.Group.{XorGroup}
-use Rattle.gf2.specs.Vectors.{add}
-use Rattle.table.specs.Packets.{Packets, joined, packetSum, written}
+use Rattle.gf2.specs.Gf2.{XorGroup, add}
+use Rattle.table.specs.Packets.{Packets, joined, packetSum}
+use Rattle.lists.specs.Lists.{written}
 
 -- block and scratch hold the slots st, of s bytes each
 pub record Holds (n s : ℕ) (st : List (List ℕ)) (block scratch : List ℕ) : Type 0 where

@@ -1,16 +1,19 @@
 -- Turns of the loops over a buffer.
-use mathlib.Core.Path.{_≡_, refl, sym, ap, ap₂, _∙_}
+use mathlib.Core.Path.{_≡_, refl, sym, _∙_}
 use mathlib.Core.List.{List}
-use mathlib.Core.Logic.{⊎-elim, inl, inr}
+use mathlib.Core.Logic.{⊎-elim}
 use Prim.Native.Nat.{ℕ, _+_, _-_, _<_, _≤_}
 use native.Mathlib.Omega.{arith}
 use borrow.Author.Count.{below-more}
 use lib.Bits.{bitXor}
-use lib.ListN.{length, getD, set, take, drop, replicate, length-set, length-replicate}
+use lib.ListN.{length, getD, set, replicate, length-set, length-replicate}
 use lib.Seq.{getD-set-same, getD-set-other}
-use Rattle.gf2.specs.Lists.{getD-zeros}
-use Rattle.table.specs.Packets.{written, mixed}
-use Rattle.table.specs.BufferLaws.{Patched, written-whole, patched-same, written-bytes, mixed-bytes, side, part-length, getD-part}
+use Rattle.lists.specs.ListLaws.{getD-zeros}
+use Rattle.lists.specs.Lists.{written}
+use Rattle.table.specs.Packets.{mixed}
+use Rattle.lists.specs.Buffers.{Patched, patched-same, written-bytes}
+use Rattle.table.specs.BufferLaws.{mixed-bytes}
+use Rattle.lists.specs.Tests.{side}
 
 -- no byte yet
 pub none : (b : List ℕ) (at : ℕ) (f : ℕ → ℕ) → Patched b at 0 f b

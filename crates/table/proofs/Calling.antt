@@ -8,8 +8,7 @@ use native.Mathlib.Omega.{arith}
 use borrow.Author.Tests.{eq-eqb, ne-eqb, le-leb, lt-leb, ltb-false, leb-false, eqb-true, not-false}
 use lib.Dec.{eqb, leb}
 use lib.ListN.{length}
-use Rattle.gf2.specs.Places.{or-false-r}
-use Rattle.gf2.specs.Span.{or-l, or-r}
+use Rattle.lists.specs.Tests.{or-false-r, or-l, or-r}
 use Rattle.table.specs.PacketCall.{packetRefusal, partAt, packetPart, partStart}
 use Rattle.table.specs.Table.{outside}
 

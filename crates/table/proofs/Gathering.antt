@@ -6,15 +6,15 @@ use Prim.Native.Nat.{ℕ, _+_, _*_, _-_, _<_, _≤_}
 use native.Mathlib.Omega.{arith}
 use lib.ListN.{length, getD, set, take, drop, replicate, length-set, length-drop}
 use lib.Seq.{take-all}
-use Rattle.gf2.specs.Bit.{eqb-self}
-use Rattle.gf2.specs.Group.{XorGroup}
-use Rattle.gf2.specs.Lists.{all-set}
-use Rattle.gf2.specs.Places.{has, minus, has-filter}
-use Rattle.gf2.specs.Vectors.{add}
-use Rattle.table.specs.BufferLaws.{Patched, patched-same, written-bytes, part-length, getD-part, place-fits, set-written}
+use Rattle.lists.specs.Tests.{eqb-self}
+use Rattle.gf2.specs.Gf2.{XorGroup, add}
+use Rattle.lists.specs.ListLaws.{all-set, has-filter}
+use Rattle.lists.specs.Lists.{has, minus, written}
+use Rattle.lists.specs.Buffers.{Patched, patched-same, written-bytes, part-length, getD-part}
+use Rattle.table.specs.BufferLaws.{place-fits, set-written}
 use Rattle.table.specs.Checks.{CheckIn}
 use Rattle.table.specs.PacketLaws.{packets-length, packets-sized, packets-joined, joined-packets}
-use Rattle.table.specs.Packets.{Packets, packets, joined, packetSum, written, mixed}
+use Rattle.table.specs.Packets.{packets, joined, packetSum, mixed}
 use Rattle.table.specs.GatherLaws.{Gathered, gathered-as, from-zeros, last-part}
 use Rattle.table.proofs.Buffers.{more}
 use Rattle.table.proofs.Others.{sum-elsewhere, minus-same, minus-other, others-length}

@@ -9,9 +9,8 @@ use borrow.Author.Tests.{lt-ltb, le-ltb, le-leb, lt-leb, eq-eqb, ne-eqb, eqb-tru
 use lib.Dec.{eqb, ltb, leb}
 use lib.ListN.{length, getD, take, drop}
 use lib.Seq.{drop-cons, drop-drop}
-use Rattle.gf2.specs.Lists.{allPass}
-use Rattle.gf2.specs.Places.{or-false-l, or-false-r}
-use Rattle.gf2.specs.Span.{byBool, anyOf, or-l, or-r}
+use Rattle.lists.specs.Lists.{allPass, anyOf}
+use Rattle.lists.specs.Tests.{or-false-l, or-false-r, byBool, or-l, or-r}
 use Rattle.table.specs.LookOver.{weighed}
 use Rattle.table.specs.Table.{places, size, number, weights, onesCount, total, cutUp, rising, outside, tooShort, beyondLimits, badLengths, badPlaces, refusal}
 

@@ -2,18 +2,16 @@
 use mathlib.Core.Path.{_≡_, refl, sym, ap, ap₂, _∙_}
 use mathlib.Core.Bool.{Bool, false, not, cond, true≢false}
 use mathlib.Core.List.{List, [], _∷_, _++_, append-nil}
-use Prim.Native.Nat.{ℕ, _*_, _≤_}
+use Prim.Native.Nat.{ℕ, _≤_}
 use native.Mathlib.Omega.{arith}
 use borrow.Author.Tests.{eq-eqb, ne-eqb}
 use lib.Dec.{eqb}
-use lib.ListN.{length, getD, set, take, drop}
+use lib.ListN.{length, set, take, drop}
 use lib.Seq.{getD-set-other}
-use Rattle.gf2.specs.Bit.{eqb-self}
-use Rattle.gf2.specs.Group.{XorGroup}
-use Rattle.gf2.specs.Lists.{all-filter}
-use Rattle.gf2.specs.Places.{has, filter, minus, or-false-l, or-false-r}
-use Rattle.gf2.specs.Span.{byBool}
-use Rattle.gf2.specs.Vectors.{add}
+use Rattle.lists.specs.Tests.{eqb-self, or-false-l, or-false-r, byBool}
+use Rattle.gf2.specs.Gf2.{XorGroup, add}
+use Rattle.lists.specs.ListLaws.{all-filter}
+use Rattle.lists.specs.Lists.{has, filter, minus}
 use Rattle.table.specs.Checks.{CheckIn}
 use Rattle.table.specs.PacketLaws.{packets-length, packets-sized, sum-view}
 use Rattle.table.specs.Packets.{Packets, packets, packetSum}

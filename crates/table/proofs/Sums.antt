@@ -8,9 +8,9 @@ use lib.Bits.{bitOr, or-add-and, and-le-l, and-le-r}
 use lib.ListN.{length, getD, set, take, drop, replicate, length-set, length-drop}
 use lib.Seq.{take-suc, drop-drop, getD-drop, getD-set-same, getD-set-other}
 use borrow.Author.Count.{below-more}
-use Rattle.gf2.specs.Group.{XorGroup}
-use Rattle.gf2.specs.Vectors.{add}
-use Rattle.table.specs.BufferLaws.{part-length, place-fits}
+use Rattle.gf2.specs.Gf2.{XorGroup, add}
+use Rattle.lists.specs.Buffers.{part-length}
+use Rattle.table.specs.BufferLaws.{place-fits}
 use Rattle.table.specs.Checks.{CheckIn}
 use Rattle.table.specs.GatherLaws.{Gathered, gathered-as, gathered-more, from-zeros, last-part}
 use Rattle.table.specs.PacketLaws.{packet-at}

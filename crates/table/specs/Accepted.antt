@@ -1,13 +1,13 @@
 -- An accepted table as the loops read it: check j is a run of places at its start.
 use mathlib.Core.Path.{_≡_, refl, sym, ap, _∙_, subst}
 use mathlib.Core.List.{List, [], _∷_}
-use Prim.Native.Nat.{ℕ, zero, suc, _+_, _-_, _*_, _<_, _≤_}
+use Prim.Native.Nat.{ℕ, _+_, _-_, _*_, _<_, _≤_}
 use native.Mathlib.Nat.{mul-le-mul}
 use native.Mathlib.Numerals.{add-one}
 use native.Mathlib.Omega.{arith}
 use lib.ListN.{length, getD, take, drop}
 use lib.Seq.{drop-cons}
-use Rattle.table.specs.Checks.{offset, check, Places, Checks, CheckIn}
+use Rattle.table.specs.Checks.{offset, check, Places, CheckIn}
 use Rattle.table.specs.ChecksLaws.{limits, short, offset-all, checks-length, checks-at, check-places, weight-small, each-check}
 use Rattle.table.specs.SumLaws.{places-in}
 use Rattle.table.specs.Table.{places, size, number, onesCount, checks, refusal}

@@ -3,7 +3,7 @@ use mathlib.Core.Path.{_≡_}
 use mathlib.Core.List.{List, [], _∷_}
 use Prim.Native.Nat.{ℕ, zero, suc, _+_, _*_, _<_, _≤_}
 use lib.ListN.{length, getD, take, drop}
-use Rattle.gf2.specs.Places.{minus}
+use Rattle.lists.specs.Lists.{minus}
 use Rattle.table.specs.Packets.{packets, packetSum}
 
 -- the ones of the checks before check j

@@ -9,9 +9,8 @@ use borrow.Author.Tests.{ltb-true, ltb-false, leb-true, leb-false, eqb-true, not
 use lib.Dec.{eqb, ltb, leb}
 use lib.ListN.{length, getD, take, drop, length-map, length-take, length-drop}
 use lib.Seq.{length-take-le, getD-take, getD-drop, drop-cons, drop-drop, take-suc}
-use Rattle.gf2.specs.Lists.{allPass}
-use Rattle.gf2.specs.Places.{or-false-l, or-false-r}
-use Rattle.gf2.specs.Span.{byBool, anyOf}
+use Rattle.lists.specs.Lists.{allPass, anyOf}
+use Rattle.lists.specs.Tests.{or-false-l, or-false-r, byBool}
 use Rattle.table.specs.Checks.{offset, check, from, Valid, Places, Checks}
 use Rattle.table.specs.Table.{places, size, number, weights, onesCount, total, cutUp, checks, rising, tooShort, beyondLimits, badLengths, badPlaces, refusal, outside}
 

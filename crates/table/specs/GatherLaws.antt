@@ -5,9 +5,10 @@ use Prim.Native.Nat.{ℕ, _+_, _-_, _≤_}
 use native.Mathlib.Omega.{arith}
 use lib.ListN.{length, getD, take, drop, replicate, length-append, length-drop, length-replicate}
 use lib.Seq.{take-all, take-at, length-take-le}
-use Rattle.gf2.specs.Group.{XorGroup}
-use Rattle.gf2.specs.Vectors.{add, add-assoc, add-comm, add-zl}
-use Rattle.table.specs.BufferLaws.{part-length, mixed-length, mixed-whole}
+use Rattle.gf2.specs.Gf2.{XorGroup, add}
+use Rattle.gf2.specs.Vectors.{add-assoc, add-comm, add-zl}
+use Rattle.lists.specs.Buffers.{part-length}
+use Rattle.table.specs.BufferLaws.{mixed-length, mixed-whole}
 use Rattle.table.specs.Packets.{packetSum, mixed}
 use Rattle.table.specs.SumLaws.{part-sum, part-zeros, sum-snoc}
 

@@ -2,8 +2,10 @@ pub mod Accepted
 pub mod BufferLaws
 pub mod Checks
 pub mod ChecksLaws
+pub mod CodewordLaws
 pub mod Codewords
 pub mod FirstCause
+pub mod FirstCauseLaws
 pub mod GatherLaws
 pub mod LookOver
 pub mod PacketCall

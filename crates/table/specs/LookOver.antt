@@ -3,7 +3,7 @@ use mathlib.Core.Bool.{cond}
 use mathlib.Core.List.{List}
 use Prim.Native.Nat.{ℕ}
 use lib.Dec.{ltb}
-use Rattle.gf2.specs.Span.{anyOf}
+use Rattle.lists.specs.Lists.{anyOf}
 use Rattle.table.specs.Table.{mostWeight, total}
 
 -- the sum of weights; 65,536, which no word of a table is, if one is over the limit

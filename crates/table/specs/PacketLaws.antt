@@ -1,17 +1,16 @@
 -- Laws of packets: a block as bytes in a row and as packets, and sums byte by byte.
-use mathlib.Core.Path.{_≡_, refl, sym, ap, ap₂, _∙_, subst}
+use mathlib.Core.Path.{_≡_, refl, sym, ap, ap₂, _∙_}
 use mathlib.Core.List.{List, [], _∷_, _++_, append-assoc}
-use Prim.Native.Nat.{ℕ, zero, suc, _+_, _*_, _-_, _<_, _≤_}
-use native.Mathlib.Nat.{suc-inj}
+use Prim.Native.Nat.{ℕ, zero, suc, _+_, _*_, _-_, _<_}
 use native.Mathlib.Omega.{arith}
 use lib.Bits.{bitXor}
-use lib.ListN.{replicate, length-replicate, length, getD, set, take, drop, length-append, length-drop, take-append-drop}
+use lib.ListN.{length-replicate, length, getD, set, take, drop, length-append, length-drop, take-append-drop}
 use lib.Seq.{take-at, drop-at, drop-drop, length-take-le, take-append-add, drop-append-add}
-use Rattle.gf2.specs.Group.{XorGroup, sumOver}
+use Rattle.gf2.specs.Gf2.{XorGroup, sumOver}
 use Rattle.table.specs.Packets.{Packets, packets, joined, packetSum}
-use Rattle.gf2.specs.Lists.{all-getD, getD-zeros}
-use Rattle.gf2.specs.Vectors.{add, getD-add, length-add}
-use Rattle.gf2.specs.Width.{All, All.nil, All.cons}
+use Rattle.lists.specs.ListLaws.{all-getD, getD-zeros}
+use Rattle.gf2.specs.Vectors.{getD-add, length-add}
+use Rattle.lists.specs.Lists.{All, All.nil, All.cons}
 
 -- there are n of them
 pub packets-length : (s n : ℕ) (b : List ℕ) → length (packets s n b) ≡ n

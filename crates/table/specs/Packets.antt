@@ -3,9 +3,8 @@ use mathlib.Core.Path.{_≡_}
 use mathlib.Core.List.{List, [], _∷_, _++_}
 use Prim.Native.Nat.{ℕ, zero, suc, _+_}
 use lib.ListN.{length, getD, take, drop, replicate}
-use Rattle.gf2.specs.Group.{XorGroup}
-use Rattle.gf2.specs.Vectors.{add}
-use Rattle.gf2.specs.Width.{All}
+use Rattle.gf2.specs.Gf2.{XorGroup, add}
+use Rattle.lists.specs.Lists.{All, written}
 
 -- each of s bytes
 abbrev pub Packets : ℕ → List (List ℕ) → Type 0
@@ -29,11 +28,6 @@ packetSum s b (p ∷ c) = add XorGroup (getD b p []) (packetSum s b c)
 -- "A block is a codeword if, for each check, the bytewise exclusive-or of its packets is all zero bytes"
 abbrev pub Codeword : ℕ → List (List ℕ) → List (List ℕ) → Type 0
 Codeword s cs b = All (λ c. packetSum s b c ≡ replicate s 0) cs
-
--- ---- bytes of a buffer
--- b with x written from at on
-abbrev pub written : List ℕ → ℕ → List ℕ → List ℕ
-written b at x = take at b ++ (x ++ drop (at + length x) b)
 
 -- b with x added from at on
 abbrev pub mixed : List ℕ → ℕ → List ℕ → List ℕ

@@ -8,11 +8,10 @@ use native.Mathlib.Omega.{arith}
 use lib.Dec.{eqb·suc-zero}
 use lib.ListN.{length, getD, take, drop, replicate}
 use lib.Seq.{take-take}
-use Rattle.gf2.specs.Group.{XorGroup}
-use Rattle.gf2.specs.Lists.{sameList}
-use Rattle.gf2.specs.Vectors.{add, add-assoc, add-comm}
-use Rattle.gf2.specs.Width.{All, All.nil, All.cons}
-use Rattle.table.specs.BufferLaws.{part-length, getD-part}
+use Rattle.gf2.specs.Gf2.{XorGroup, add}
+use Rattle.lists.specs.Lists.{sameList, All, All.nil, All.cons}
+use Rattle.gf2.specs.Vectors.{add-assoc, add-comm}
+use Rattle.lists.specs.Buffers.{part-length, getD-part}
 use Rattle.table.specs.Checks.{CheckIn, Places}
 use Rattle.table.specs.PacketLaws.{packets-length, packets-sized, sum-view}
 use Rattle.table.specs.Packets.{packets, packetSum, lowestNonzero}

@@ -1,11 +1,10 @@
 -- The table of checks (document 01, "The table of checks" and the causes 1 to 4): 2, n, s; m and m weights; W0 and W0 places.
-use mathlib.Core.Bool.{Bool, true, false, not, _||_, _&&_}
+use mathlib.Core.Bool.{Bool, true, not, _||_, _&&_}
 use mathlib.Core.List.{List, [], _∷_}
-use Prim.Native.Nat.{ℕ, zero, suc, _+_}
+use Prim.Native.Nat.{ℕ, suc, _+_}
 use lib.Dec.{eqb, ltb, leb}
 use lib.ListN.{length, getD, take, drop}
-use Rattle.gf2.specs.Lists.{allPass}
-use Rattle.gf2.specs.Span.{anyOf}
+use Rattle.lists.specs.Lists.{allPass, anyOf}
 use Rattle.table.specs.FirstCause.{firstCause}
 
 -- ---- the limits

@@ -1,19 +1,17 @@
 -- What an accepted table gives.
-use mathlib.Core.Path.{_≡_, refl, sym, ap, ap₂, _∙_, subst}
+use mathlib.Core.Path.{_≡_, refl, ap, _∙_}
 use mathlib.Core.Bool.{Bool, true, false, cond, not, _||_, _&&_, true≢false, false≢true}
-use mathlib.Core.List.{List, [], _∷_, _++_, map}
-use Prim.Native.Nat.{ℕ, zero, suc, _+_, _-_, _<_, _≤_, min}
+use mathlib.Core.List.{List, [], _∷_}
+use Prim.Native.Nat.{ℕ, suc, _+_, _-_, _<_, _≤_}
 use native.Mathlib.Omega.{arith}
 use borrow.Author.Tests.{ltb-true, ltb-false, leb-true}
 use lib.Dec.{eqb, ltb, leb}
 use lib.ListN.{length, getD, take, drop, length-take, length-drop}
 use lib.Seq.{length-take-le}
-use Rattle.gf2.specs.Bit.{eqb-true, eqb-false, eqb-comm}
-use Rattle.gf2.specs.Lists.{eqb-lt, Distinct, Distinct.dnil, Distinct.dnew, allPass}
-use Rattle.gf2.specs.Places.{has, or-false-l, or-false-r}
-use Rattle.gf2.specs.Span.{byBool, anyOf}
+use Rattle.lists.specs.Tests.{eqb-true, eqb-false, eqb-lt, or-false-l, or-false-r}
+use Rattle.lists.specs.Lists.{Distinct, Distinct.dnil, Distinct.dnew, allPass, has, anyOf, All, All.nil, All.cons}
 use Rattle.table.specs.Table.{ones, places, size, number, weights, onesCount, total, cutUp, checks, rising, tooShort, beyondLimits, badLengths, badPlaces, refusal}
-use Rattle.gf2.specs.Width.{All, All.nil, All.cons, all-map}
+use Rattle.lists.specs.ListLaws.{all-map}
 
 pub record Good (t : List ℕ) : Type 0 where
   pub some-places : 1 ≤ places t

@@ -3,7 +3,7 @@ ghost use mathlib.Core.Path.{_≡_};
 ghost use Prim.Native.Nat.{_+_, _*_, _≤_};
 ghost use lib.ListN.{length, take, drop};
 ghost use denote.Ref.{ptr};
-ghost use Rattle.gf2.specs.Lists.{allPass};
+ghost use Rattle.lists.specs.Lists.{allPass, written};
 ghost use Rattle.table.specs.Checks.{Starts};
 ghost use Rattle.table.specs.LookOver.{weighed};
 ghost use Rattle.table.specs.PacketCall.{packetRefusal, partAt, packetPart, partStart};
@@ -246,12 +246,11 @@ pub fn packet_call<'a>(n: usize, s: usize, place: usize, block: &'a [u8]) -> Pac
 // ---- packets
 ghost use mathlib.Core.Bool.{true};
 ghost use mathlib.Core.Path.{_≡_};
-ghost use Prim.Native.Nat.{ℕ, _+_, _*_, _≤_, _<_};
-ghost use lib.ListN.{length, getD, set, take, drop, replicate};
-ghost use Rattle.gf2.specs.Group.{XorGroup};
-ghost use Rattle.gf2.specs.Vectors.{add as addVectors};
+ghost use Prim.Native.Nat.{_+_, _*_, _≤_, _<_};
+ghost use lib.ListN.{length, set, take, drop, replicate};
+ghost use Rattle.gf2.specs.Gf2.{XorGroup, add as addVectors};
 ghost use Rattle.table.specs.Checks.{CheckIn, checkSum, othersSum};
-ghost use Rattle.table.specs.Packets.{packets, joined, written, mixed, lowestNonzero};
+ghost use Rattle.table.specs.Packets.{packets, joined, mixed, lowestNonzero};
 
 // s zeros are written at at.
 pub fn clear(b: &mut [u8], at: usize, s: usize)

@@ -6,9 +6,7 @@ use Prim.Native.Nat.{ℕ, zero, suc, _+_, _-_, _*_, _<_, _≤_}
 use native.Mathlib.Omega.{arith}
 use lib.ListN.{length, getD, take, drop}
 use lib.Seq.{take-all, take-at}
-use Rattle.gf2.specs.Lists.{Distinct, all-in}
-use Rattle.gf2.specs.Places.{has}
-use Rattle.gf2.specs.Width.{All}
+use Rattle.lists.specs.ListLaws.{all-in, getD-has}
 use Rattle.table.specs.Table.{places, size, checks, refusal}
 use Rattle.table.specs.TableLaws.{Good, accepted}
 use Rattle.table.specs.Packets.{Packets, packets, joined, Codeword}
@@ -18,12 +16,11 @@ use Rattle.plan.specs.declared.Step.{Step}
 use Rattle.plan.specs.declared.Step.the-variants.{Clear, Add}
 use Rattle.plan.specs.Step.{addSteps}
 use Rattle.plan.specs.Steps.{carryOutAll, atStart}
-use Rattle.plan.specs.Layout.{stepsOf, mostAside, planRefusal, planKept, planGap, infoIn, infoCount, stepCount}
-use Rattle.rule.specs.Rule.{plan, Plan}
+use Rattle.plan.specs.Layout.{stepsOf, mostAside, planKept, planGap, infoIn, infoCount, stepCount}
+use Rattle.rule.specs.Rule.{plan}
 use Rattle.rule.specs.Encoded.{encode}
 use Rattle.rule.specs.OneBlock.{Encodes, block, block-encodes, one-block}
 use Rattle.rule.specs.Info.{info-number, kept-few}
-use Rattle.gf2.specs.ListLaws.{getD-has}
 use Rattle.rule.specs.Bound.{adds-most, kept-ones, adds-bound, fitted-number}
 use Rattle.rule.specs.WellFormed.{info-low}
 use Rattle.planner.specs.Planning.{planOf, numbersOf, planningRefused, planAnswer, planAfter, answerAt as planAnswerAt}

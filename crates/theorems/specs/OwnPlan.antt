@@ -1,30 +1,22 @@
 -- The planner's own plan: it is well-formed, and read back it is the rule's.
-use mathlib.Core.Path.{_≡_, refl, sym, ap, ap₂, _∙_, subst}
+use mathlib.Core.Path.{_≡_, refl, ap, ap₂, _∙_}
 use mathlib.Core.Bool.{Bool, true, false, cond, not, _||_, _&&_}
-use mathlib.Core.List.{List, [], _∷_, _++_, map}
-use mathlib.Core.Option.{Option, none, some}
-use Prim.Native.Nat.{ℕ, zero, suc, _+_, _-_, _*_, _<_, _≤_}
+use mathlib.Core.List.{List}
+use Prim.Native.Nat.{ℕ, _+_, _-_, _<_, _≤_}
 use native.Mathlib.Omega.{arith}
-use borrow.Author.Tests.{lt-ltb, le-ltb, le-leb, ne-eqb, eq-eqb, eqb-true, ltb-false, leb-true}
-use lib.Dec.{eqb, ltb, leb}
-use lib.ListN.{length, getD, take, drop}
-use Rattle.gf2.specs.Bit.{eqb-self}
-use Rattle.gf2.specs.Lists.{allPass, Distinct}
-use Rattle.gf2.specs.Places.{has}
-use Rattle.gf2.specs.Span.{byBool}
-use Rattle.gf2.specs.Width.{All, All.nil, All.cons, all-map}
-use Rattle.table.specs.Table.{places, size, number, checks, refusal, ones, outside, rising}
+use borrow.Author.Tests.{lt-ltb, le-ltb, le-leb, ne-eqb, eq-eqb}
+use lib.ListN.{length}
+use Rattle.lists.specs.Lists.{allPass, All, All.nil, All.cons}
+use Rattle.table.specs.Table.{places, size, checks, refusal, outside, rising}
 use Rattle.table.specs.TableLaws.{Good, accepted}
-use Rattle.plan.specs.declared.Step.{Step}
-use Rattle.plan.specs.declared.Step.the-variants.{Clear, Add}
 use Rattle.plan.specs.Step.{unpack, unpackAll}
 use Rattle.plan.specs.LayoutLaws.{Sound}
 use Rattle.plan.specs.ReadBack.{numbers-length, info-back, count-back, steps-back, packed-good, packed-back}
-use Rattle.plan.specs.Layout.{badCounts, goodStep, wellFormed, planRefusal, infoIn, stepsIn, stepsOf, slots, stepCount, infoCount, mostAside}
-use Rattle.rule.specs.Rule.{plan, Plan}
+use Rattle.plan.specs.Layout.{badCounts, goodStep, wellFormed, planRefusal, infoIn, stepsOf, stepCount, infoCount, mostAside}
+use Rattle.rule.specs.Rule.{Plan}
 use Rattle.rule.specs.WellFormed.{well-formed, info-low}
 use Rattle.rule.specs.Info.{info-number, kept-few}
-use Rattle.gf2.specs.Ascending.{Up, Up.none as unone, Up.then as uthen}
+use Rattle.lists.specs.Ascending.{Up, Up.none as unone, Up.then as uthen}
 use Rattle.rule.specs.WithinLimits.{info-up, kept-length, aside-few, steps-limit}
 use Rattle.planner.specs.Planning.{planOf, numbersOf}
 

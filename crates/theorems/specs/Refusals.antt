@@ -5,7 +5,8 @@ use mathlib.Core.List.{List}
 use mathlib.Core.Option.{Option, none, some}
 use Prim.Native.Nat.{ℕ, zero, suc}
 use lib.ListN.{length}
-use Rattle.table.specs.FirstCause.{RefusedBy, refused-by}
+use Rattle.table.specs.FirstCause.{RefusedBy}
+use Rattle.table.specs.FirstCauseLaws.{refused-by}
 use Rattle.table.specs.Table.{tableCauses, refusal}
 use Rattle.table.specs.PacketCall.{packetCauses, packetRefusal}
 use Rattle.plan.specs.Layout.{planCauses, planRefusal}

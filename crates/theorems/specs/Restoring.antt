@@ -1,27 +1,27 @@
 -- Demand 2 on repair, as one statement: "From what arrives of such a block, repair restores every lost packet outside the largest
 -- stopping set among the lost places, each as it was sent, and none inside it."
-use mathlib.Core.Path.{_≡_, refl, sym, ap, _∙_}
+use mathlib.Core.Path.{_≡_, sym, ap, _∙_}
 use mathlib.Core.Bool.{Bool, true, false, true≢false}
 use mathlib.Core.List.{List, []}
 use mathlib.Core.Logic.{⊎-elim}
-use Prim.Native.Nat.{ℕ, zero, suc, _*_, _<_}
+use Prim.Native.Nat.{ℕ, _*_, _<_}
 use native.Mathlib.Omega.{arith}
 use lib.Dec.{eqb}
 use lib.ListN.{length, getD}
 use lib.Seq.{ext-getD}
-use Rattle.gf2.specs.Bit.{eqb-true}
+use Rattle.lists.specs.Tests.{eqb-true}
 use Rattle.table.specs.Codewords.{IsCodeword}
 use Rattle.table.specs.PacketCall.{partAt}
 use Rattle.table.specs.PacketLaws.{packets-length, packets-joined, packet-at}
 use Rattle.table.specs.Packets.{packets, joined}
 use Rattle.table.specs.Table.{places, size}
-use Rattle.erasure.specs.Largest.{Largest, largest-only}
+use Rattle.erasure.specs.Restoring.{Largest, outcome, isLost}
+use Rattle.erasure.specs.Largest.{largest-only}
 use Rattle.erasure.specs.OutcomeLaws.{tally-lost}
-use Rattle.erasure.specs.Restoring.{outcome}
-use Rattle.erasure.specs.Stopping.{isLost, no-lost}
-use Rattle.repair.specs.Repair.{repairRefusal, repairReport, repairBlock, repairMap}
-use Rattle.repair.specs.RepairLaws.{Fitting, map-accepted}
-use Rattle.repair.specs.RepairTheorems.{Agree, AcceptedRepair, Repairing, accepted-repair, repairing}
+use Rattle.erasure.specs.Stopping.{no-lost}
+use Rattle.repair.specs.Repair.{repairRefusal, repairReport, repairBlock, repairMap, Fitting, Agree}
+use Rattle.repair.specs.RepairLaws.{map-accepted}
+use Rattle.repair.specs.RepairTheorems.{AcceptedRepair, Repairing, accepted-repair, repairing}
 
 -- repair of what arrived of the block w, L being the largest stopping set among the lost places
 pub record Restores (t b map w : List ℕ) (L : ℕ → Bool) : Type 0 where

@@ -1,13 +1,12 @@
 -- The starred cases of document 01, "Worked tables": one table, proved by one statement about the definitions of the calls.
 use mathlib.Core.Path.{_≡_, refl}
-use mathlib.Core.List.{List, [], _∷_, _++_, map}
-use Prim.Native.Nat.{ℕ, zero, suc, _+_, _-_, _*_}
+use mathlib.Core.List.{List, [], _∷_, map}
+use Prim.Native.Nat.{ℕ, _+_, _-_, _*_}
 use lib.ListN.{length}
 use Rattle.plan.specs.Step.{addSteps}
-use Rattle.rule.specs.Rule.{Plan}
 use Rattle.planner.specs.Planning.{planOf, numbersOf, planningRefusal, leastPlan, workWords}
 use Rattle.encoder.specs.Encoding.{encodeRefusal, encodeAnswer, blockAfter}
-use Rattle.repair.specs.Repair.{Report, repairRefusal, repairReport, repairBlock, repairMap}
+use Rattle.repair.specs.Repair.{repairRefusal, repairReport, repairBlock, repairMap}
 
 -- ---- the tables and the block of P2
 abbrev tableA : List ℕ

@@ -7,17 +7,16 @@ use Prim.Native.Nat.{ℕ, _*_, _≤_}
 use borrow.Author.Tests.{le-ltb}
 use lib.Dec.{ltb}
 use lib.ListN.{length}
-use Rattle.gf2.specs.Span.{anyOf}
-use Rattle.gf2.specs.Width.{All, All.nil, All.cons}
+use Rattle.lists.specs.Lists.{anyOf, All, All.nil, All.cons}
 use Rattle.table.specs.Codewords.{IsCodeword}
 use Rattle.table.specs.Table.{places, size, refusal}
 use Rattle.planner.specs.Planning.{planningRefused}
 use Rattle.planner.specs.PlanningLaws.{accepted-planning}
 use Rattle.encoder.specs.Encoding.{blockAfter}
-use Rattle.erasure.specs.Largest.{Largest, largest-exists}
-use Rattle.repair.specs.Repair.{repairRefusal, repairReport, repairBlock}
-use Rattle.repair.specs.RepairLaws.{Fitting}
-use Rattle.repair.specs.RepairTheorems.{Agree, repairing}
+use Rattle.erasure.specs.Restoring.{Largest}
+use Rattle.erasure.specs.Largest.{largest-exists}
+use Rattle.repair.specs.Repair.{repairRefusal, repairReport, repairBlock, Fitting, Agree}
+use Rattle.repair.specs.RepairTheorems.{repairing}
 use Rattle.verify.specs.Verify.{valuesOf, verification}
 use Rattle.verify.specs.VerifyTheorems.{codeword-passes}
 use Rattle.verify.specs.declared.Verified.the-variants.{Codeword}

@@ -1,6 +1,6 @@
 -- Verification passes a block if and only if every check sums to zero, and else gives the lowest that fails.
 use mathlib.Core.Path.{_≡_, refl, sym, ap, _∙_}
-use mathlib.Core.Bool.{Bool, true, false, true≢false, false≢true}
+use mathlib.Core.Bool.{Bool, true, true≢false, false≢true}
 use mathlib.Core.List.{List, [], _∷_}
 use mathlib.Core.Logic.{_≢_}
 use mathlib.Core.Option.{Option, none, some}
@@ -9,14 +9,15 @@ use native.Mathlib.Omega.{arith}
 use borrow.Author.Tests.{eq-eqb, ne-eqb, not-false}
 use lib.Dec.{eqb}
 use lib.ListN.{length, getD, take, replicate}
-use Rattle.gf2.specs.Bit.{eqb-true}
-use Rattle.gf2.specs.Span.{byBool}
-use Rattle.gf2.specs.Width.{All, All.nil, All.cons}
-use Rattle.table.specs.Codewords.{zeroSum, zero-sound, zero-complete}
-use Rattle.table.specs.FirstCause.{firstCause, wrongLength, NoneHolds, none-holds, none-refuses, first-decides, rest-decides}
+use Rattle.lists.specs.Tests.{eqb-true, byBool}
+use Rattle.lists.specs.Lists.{All, All.nil, All.cons}
+use Rattle.table.specs.Codewords.{zeroSum}
+use Rattle.table.specs.CodewordLaws.{zero-sound, zero-complete}
+use Rattle.table.specs.FirstCause.{firstCause, wrongLength, NoneHolds}
+use Rattle.table.specs.FirstCauseLaws.{none-holds, none-refuses, first-decides, rest-decides}
 use Rattle.table.specs.Packets.{packets, packetSum}
 use Rattle.table.specs.Table.{places, size, checks, tableCauses, refusal}
-use Rattle.verify.specs.Verify.{Values, valuesOf, verifyRefusal, failing, verdict, verdictAt, verification}
+use Rattle.verify.specs.Verify.{valuesOf, verifyRefusal, failing, verdict, verdictAt, verification}
 use Rattle.verify.specs.declared.Verified.{Verified}
 use Rattle.verify.specs.declared.Verified.the-variants.{Refused, Codeword, Fails}
 

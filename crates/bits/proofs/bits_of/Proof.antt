@@ -1,6 +1,6 @@
 -- `bits::bits_of` meets its contract: the loop has passed over the words from j on.
 use lib.Count.{leading-le}
-use Rattle.gf2.specs.Echelon.{Short}
+use Rattle.gf2.specs.Gf2.{Short}
 use Rattle.bits.specs.Row.{row}
 use Rattle.bits.proofs.Highest.{short-word, bits-word}
 use Rattle.gf2.specs.EchelonLaws.{short-more}

@@ -1,6 +1,6 @@
 -- `bits::load` meets its contract: the loop has flipped i places.
 use Rattle.bits.specs.Row.{RowPut}
-use Rattle.gf2.specs.Places.{rowOf}
+use Rattle.gf2.specs.Gf2.{rowOf}
 use Rattle.bits.specs.RowLaws.{put-put, put-is, put-self}
 use Rattle.bits.proofs.Loading.{load-turn}
 use Prim.Native.Nat.{_-_, _≤_}

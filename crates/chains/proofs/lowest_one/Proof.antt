@@ -1,5 +1,5 @@
 -- `chains::lowest_one` meets its contract.
-use Rattle.table.specs.BufferLaws.{side}
+use Rattle.lists.specs.Tests.{side}
 use Prim.Native.Nat.{ℕ, _-_, _≤_, _<_}
 use mathlib.Core.Path.{_≡_}
 use mathlib.Core.Logic.{⊎-elim}

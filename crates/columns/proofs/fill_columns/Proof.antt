@@ -1,6 +1,6 @@
 -- `columns::fill_columns` meets its contract: the columns are those of the first i set-aside checks.
 use mathlib.Core.List.{map}
-use Rattle.gf2.specs.Places.{rowOf}
+use Rattle.gf2.specs.Gf2.{rowOf}
 use Rattle.table.specs.Checks.{check, offset, Places}
 use Rattle.columns.specs.Cols.{Columns}
 use Rattle.columns.proofs.Pushing.{fill-turn, unit-word}

@@ -4,9 +4,7 @@ use mathlib.Core.List.{_++_}
 use Prim.Native.Nat.{_+_}
 use native.Mathlib.Omega.{arith}
 use lib.ListN.{length, take}
-use Rattle.gf2.specs.Fit.{below}
-use Rattle.gf2.specs.Lists.{rev}
-use Rattle.gf2.specs.Places.{minus}
+use Rattle.lists.specs.Lists.{below, rev, minus}
 use Rattle.table.specs.Table.{mostPlaces}
 use Rattle.emit.specs.Emit.{marked, Wrote}
 use Rattle.emit.specs.MarkLaws.{below-more}

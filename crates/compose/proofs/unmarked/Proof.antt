@@ -5,9 +5,7 @@ use mathlib.Core.Logic.{⊎-elim}
 use Prim.Native.Nat.{_+_, _-_, _≤_, _<_}
 use native.Mathlib.Omega.{arith}
 use lib.ListN.{length}
-use Rattle.gf2.specs.Fit.{below}
-use Rattle.gf2.specs.Lists.{rev}
-use Rattle.gf2.specs.Places.{minus}
+use Rattle.lists.specs.Lists.{below, rev, minus}
 use Rattle.emit.specs.Emit.{marked}
 use Rattle.emit.specs.WroteLaws.{Left, left-all, left-is, left-one, left-room, left-length, left-done}
 use Rattle.compose.proofs.FreePlaces.{frees, frees-all, frees-none, frees-marked, frees-next}

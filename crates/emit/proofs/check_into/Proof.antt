@@ -2,7 +2,7 @@
 use mathlib.Core.Path.{ap}
 use mathlib.Core.List.{map, _∷_}
 use native.Mathlib.Omega.{arith}
-use Rattle.gf2.specs.Places.{minus}
+use Rattle.lists.specs.Lists.{minus}
 use Rattle.plan.specs.Step.{pack}
 use Rattle.rule.specs.Rule.{clearAndAdd}
 use Rattle.emit.specs.Emit.{marked}

@@ -4,8 +4,7 @@ use mathlib.Core.List.{[], _∷_, _++_}
 use Prim.Native.Nat.{_+_, _-_, _≤_}
 use native.Mathlib.Omega.{arith}
 use lib.ListN.{length}
-use Rattle.gf2.specs.Lists.{rev}
-use Rattle.gf2.specs.Places.{minus}
+use Rattle.lists.specs.Lists.{rev, minus}
 use Rattle.table.specs.Checks.{check}
 use Rattle.table.specs.Table.{number}
 use Rattle.rule.specs.Rule.{clearAndAdd, solvingSteps}

@@ -4,7 +4,7 @@ use mathlib.Core.List.{map}
 use Prim.Native.Nat.{ℕ}
 use native.Mathlib.Omega.{arith}
 use lib.ListN.{length-replicate}
-use Rattle.gf2.specs.Lists.{rev}
+use Rattle.lists.specs.Lists.{rev}
 use Rattle.table.specs.Table.{mostPlaces}
 use Rattle.plan.specs.Step.{pack}
 use Rattle.emit.specs.Emit.{solvedIn}

@@ -5,7 +5,8 @@ use mathlib.Core.List.{List}
 use lib.ListN.{length, getD, take, drop, drop-of-length-le}
 use Rattle.table.specs.BufferLaws.{place-fits}
 use Rattle.table.specs.PacketLaws.{packets-length, packets-joined}
-use Rattle.table.specs.Packets.{packets, joined, written}
+use Rattle.table.specs.Packets.{packets, joined}
+use Rattle.lists.specs.Lists.{written}
 use Rattle.plan.specs.Layout.{planPlaces, infoCount, infoIn}
 use Rattle.plan.specs.LayoutLaws.{info-below, info-length}
 use Rattle.plan.specs.Steps.{withPackets}

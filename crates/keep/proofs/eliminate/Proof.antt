@@ -2,7 +2,7 @@
 use mathlib.Core.Path.{sym, subst}
 use native.Mathlib.Omega.{arith}
 use borrow.Author.Needs.{needs}
-use Rattle.gf2.specs.Echelon.{Short}
+use Rattle.gf2.specs.Gf2.{Short}
 use Rattle.gf2.specs.EchelonLaws.{places-short}
 use Rattle.rows.specs.LeadsLaws.{owners-kept, lowered-as}
 use Rattle.keep.proofs.eliminate.Statement.{statement}

@@ -3,7 +3,7 @@ use Prim.Native.Nat.{ℕ}
 use mathlib.Core.Path.{ap, _∙_}
 use lib.ListN.{replicate}
 use borrow.Author.Needs.{needs}
-use Rattle.gf2.specs.Lists.{getD-zeros}
+use Rattle.lists.specs.ListLaws.{getD-zeros}
 use Rattle.keep.proofs.keep_checks.Statement.{statement}
 use Rattle.keep.proofs.keep_checks.Tie as tie
 

@@ -1,7 +1,7 @@
 -- `live::single` meets its contract: the rest of the scan decides.
 use lib.Dec.{eqb}
 use borrow.Author.Tests.{eq-eqb, ne-eqb}
-use Rattle.gf2.specs.Lists.{highest}
+use Rattle.lists.specs.Lists.{highest}
 use Rattle.live.specs.Live.{found}
 use Rattle.live.proofs.Scanning.{scan-hit, scan-miss, scan-none}
 use Prim.Native.Nat.{_≤_}

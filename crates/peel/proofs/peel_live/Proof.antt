@@ -3,7 +3,6 @@ use Rattle.table.specs.Checks.{Checks}
 use Rattle.peel.proofs.KeptLive.{numbers-room, first-ready, first-peeled}
 use Prim.Native.Nat.{ℕ}
 use mathlib.Core.Path.{sym, ap, _∙_, subst}
-use native.Mathlib.Omega.{arith}
 use lib.ListN.{length}
 use borrow.Author.Needs.{needs}
 use Rattle.peel.specs.Turn.{Fresh}

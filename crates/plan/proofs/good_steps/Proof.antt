@@ -6,7 +6,7 @@ use native.Mathlib.Omega.{arith}
 use borrow.Author.Tests.{not-true, not-false}
 use lib.ListN.{length, drop}
 use lib.Seq.{drop-length}
-use Rattle.gf2.specs.Lists.{allPass}
+use Rattle.lists.specs.Lists.{allPass}
 use Rattle.plan.specs.LookOver.{isMarked, goodStepBy}
 use Rattle.plan.specs.Step.{unpack}
 use Rattle.plan.proofs.Passing.{pass-stops, pass-on}

@@ -6,7 +6,7 @@ use native.Mathlib.Omega.{arith}
 use borrow.Author.Needs.{needs}
 use Rattle.table.specs.TableLaws.{accepted}
 use Rattle.verify.specs.Verify.{Values, valuesOf, verification}
-use Rattle.verify.specs.VerifyTheorems.{FailsAt, fails-lowest}
+use Rattle.verify.specs.VerifyTheorems.{fails-lowest}
 use Rattle.verify.specs.declared.Verified.{Verified}
 use Rattle.verify.specs.declared.Verified.the-variants.{Fails}
 use Rattle.receiver.specs.Answers.{oneIf, orZero}

@@ -1,7 +1,7 @@
 -- `repair::over_one` meets its contract.
 use lib.Dec.{ltb}
 use borrow.Author.Tests.{lt-ltb, le-ltb}
-use Rattle.gf2.specs.Span.{anyOf}
+use Rattle.lists.specs.Lists.{anyOf}
 use Rattle.repair.proofs.MapLaws.{any-hit, any-miss, any-end}
 use Prim.Native.Nat.{_-_, _≤_}
 use mathlib.Core.Path.{_≡_, refl, sym, _∙_}

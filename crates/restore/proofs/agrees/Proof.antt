@@ -5,8 +5,8 @@ use Rattle.erasure.specs.Restoring.{lostPlaces, consistent}
 use Rattle.erasure.specs.Turns.{stateOf}
 use Rattle.restore.proofs.Ordering.{at-check}
 use Rattle.restore.proofs.Spending.{agree-passed}
-use Rattle.table.specs.Accepted.{has-weights, check-count, places-at, check-is, check-fits, check-in, offset-none, offset-more}
-use Rattle.table.specs.Codewords.{sum-zero, sum-nonzero}
+use Rattle.table.specs.Accepted.{has-weights, check-count, check-is, check-fits, check-in, offset-none, offset-more}
+use Rattle.table.specs.CodewordLaws.{sum-zero, sum-nonzero}
 use Rattle.restore.proofs.Agreeing.{agree-zero, agree-not, agree-end}
 use Prim.Native.Nat.{_+_, _-_, _≤_, _<_}
 use mathlib.Core.Path.{_≡_, refl, sym, ap, _∙_}

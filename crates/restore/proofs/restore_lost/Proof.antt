@@ -1,5 +1,5 @@
 -- `restore::restore_lost` meets its contract.
-use Rattle.gf2.specs.Lists.{getD-zeros}
+use Rattle.lists.specs.ListLaws.{getD-zeros}
 use mathlib.Core.Path.{_∙_}
 use Rattle.chains.specs.LinkedLaws.{linked-of}
 use Rattle.restore.proofs.Spending.{spent-start}

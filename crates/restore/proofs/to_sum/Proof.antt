@@ -1,6 +1,6 @@
 -- `restore::to_sum` meets its contract.
-use mathlib.Core.Path.{sym, _∙_}
-use mathlib.Core.Bool.{true≢false, not}
+use mathlib.Core.Path.{sym}
+use mathlib.Core.Bool.{true≢false}
 use borrow.Author.Tests.{eqb-true, not-false}
 use Rattle.restore.proofs.to_sum.Statement.{statement}
 use Rattle.restore.proofs.to_sum.Tie as tie

@@ -2,7 +2,7 @@
 use Prim.Native.Nat.{_-_, _≤_}
 use mathlib.Core.Path.{_≡_, refl}
 use native.Mathlib.Omega.{arith}
-use Rattle.table.specs.BufferLaws.{Patched}
+use Rattle.lists.specs.Buffers.{Patched}
 use Rattle.table.proofs.Buffers.{none, turn, cleared}
 use Rattle.table.proofs.clear.Statement.{statement}
 use Rattle.table.proofs.clear.Tie as tie

@@ -6,10 +6,10 @@ use native.Mathlib.Omega.{arith}
 use Rattle.table.proofs.Sums.{place-room}
 use Rattle.table.specs.GatherLaws.{Gathered, gathered-none}
 use Rattle.table.specs.Packets.{packets}
-use Rattle.gf2.specs.Places.{minus}
+use Rattle.lists.specs.Lists.{minus}
 use mathlib.Core.List.{[], _∷_}
 use Rattle.table.proofs.Gathering.{place-same, place-other}
-use lib.ListN.{length, take, drop}
+use lib.ListN.{take, drop}
 use Rattle.table.proofs.gather_others.Statement.{statement}
 use Rattle.table.proofs.gather_others.Tie as tie
 

@@ -3,7 +3,7 @@ use Prim.Native.Nat.{_-_, _≤_}
 use mathlib.Core.Path.{_≡_, ap}
 use native.Mathlib.Omega.{arith}
 use lib.ListN.{length, getD}
-use Rattle.table.specs.BufferLaws.{Patched}
+use Rattle.lists.specs.Buffers.{Patched}
 use Rattle.table.proofs.Buffers.{none, turn, sumAt, mix-done}
 use lib.Bits.{bitXor}
 use Rattle.table.proofs.mix.Statement.{statement}

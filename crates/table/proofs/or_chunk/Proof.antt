@@ -1,6 +1,5 @@
 -- `table::or_chunk` meets its contract: what was gathered from zeros is the part of the sum.
 use mathlib.Core.Path.{sym, _∙_}
-use native.Mathlib.Omega.{arith}
 use Rattle.table.proofs.Sums.{chunk-of, or-piece}
 use borrow.Author.Needs.{needs}
 use Rattle.table.proofs.or_chunk.Statement.{statement}

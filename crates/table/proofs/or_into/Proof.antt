@@ -1,6 +1,5 @@
 -- `table::or_into` meets its contract: the bytes passed are zero only where both were.
 use Prim.Native.Nat.{_-_, _≤_}
-use mathlib.Core.Path.{_≡_}
 use native.Mathlib.Omega.{arith}
 use lib.ListN.{length, length-set}
 use Rattle.table.proofs.Sums.{Ored, or-none, or-turn, or-done}

@@ -37,7 +37,6 @@ use denote.Triple.Walked.{says, Stays, stay-none, stay-none-slice, walkOf, goes-
 use denote.Exit.{yes}
 use denote.Triple.Clauses.{ensured, lasts}
 use Rattle.table.specs.PacketCall.{packetRefusal, packetPart, partStart}
-use Rattle.table.specs.declared.Packet.{Packet}
 use Rattle.table.proofs.Packet as T
 use Rattle.table.proofs.Packet.Laws as T′
 use Rattle.table.proofs.packet_part as part

@@ -3,7 +3,7 @@ use Prim.Native.Nat.{_-_, _*_, _≤_, _<_}
 use mathlib.Core.Path.{_≡_, refl, _∙_}
 use native.Mathlib.Omega.{arith}
 use lib.ListN.{length}
-use Rattle.table.specs.BufferLaws.{Patched}
+use Rattle.lists.specs.Buffers.{Patched}
 use Rattle.table.specs.Checks.{CheckIn}
 use Rattle.table.proofs.Buffers.{none}
 use Rattle.table.proofs.Others.{same-check}

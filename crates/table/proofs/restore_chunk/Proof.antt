@@ -1,9 +1,9 @@
 -- `table::restore_chunk` meets its contract: what was gathered from zeros is the part of the sum.
-use mathlib.Core.Path.{_≡_, ap, _∙_}
+use mathlib.Core.Path.{ap, _∙_}
 use Prim.Native.Nat.{_+_, _*_}
 use native.Mathlib.Omega.{arith}
 use Rattle.table.specs.BufferLaws.{place-fits}
-use Rattle.table.specs.Packets.{written}
+use Rattle.lists.specs.Lists.{written}
 use Rattle.table.proofs.Gathering.{others-chunk}
 use borrow.Author.Needs.{needs}
 use Rattle.table.proofs.restore_chunk.Statement.{statement}

@@ -1,10 +1,10 @@
 -- `table::restore_rest` meets its contract: what was gathered from zeros is the end of the sum.
 use Prim.Native.Nat.{_+_, _-_, _*_}
-use mathlib.Core.Path.{_≡_, sym, ap, _∙_}
+use mathlib.Core.Path.{ap, _∙_}
 use native.Mathlib.Omega.{arith}
-use lib.ListN.{length, replicate}
+use lib.ListN.{replicate}
 use Rattle.table.specs.BufferLaws.{place-fits}
-use Rattle.table.specs.Packets.{written}
+use Rattle.lists.specs.Lists.{written}
 use Rattle.table.specs.GatherLaws.{first-length, back-room, back-length}
 use Rattle.table.proofs.Gathering.{others-rest}
 use borrow.Author.Needs.{needs}

@@ -1,18 +1,14 @@
--- Which of some rows sum to a number, as a mask of the rows.
+-- The rows that a mask names sum to the number that it is made for.
 use mathlib.Core.Path.{_≡_, refl, sym, ap, _∙_}
-use mathlib.Core.Bool.{Bool, true, false}
+use mathlib.Core.Bool.{true}
 use mathlib.Core.List.{List, [], _∷_}
 use Prim.Native.Nat.{ℕ, suc}
 use lib.Bits.{bitXor}
 use lib.ListN.{length}
-use Rattle.gf2.specs.Fit.{isZero, isZero-sound}
-use Rattle.gf2.specs.Group.{XorGroup, cancel}
-use Rattle.gf2.specs.Span.{byBool, comb, isSum}
-
--- the rows R, one after the other: a row is left out where x is a sum of the rest
-abbrev pub maskFor : List ℕ → ℕ → List Bool
-maskFor [] x = []
-maskFor (r ∷ R) x = elim (isSum XorGroup isZero R x) [ true ↦ false ∷ maskFor R x | false ↦ true ∷ maskFor R (bitXor r x) ]
+use Rattle.gf2.specs.Columns.{isZero-sound}
+use Rattle.gf2.specs.Gf2.{isZero, XorGroup, comb, isSum, maskFor}
+use Rattle.gf2.specs.Group.{cancel}
+use Rattle.lists.specs.Tests.{byBool}
 
 -- where x is a sum of some rows, the mask's rows sum to it
 pub mask-sums : (R : List ℕ) (x : ℕ) → isSum XorGroup isZero R x ≡ true → comb XorGroup (maskFor R x) R ≡ x

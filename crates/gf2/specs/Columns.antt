@@ -1,42 +1,23 @@
 -- As many columns are fitted as there are independent rows.
 use mathlib.Core.Path.{_≡_, refl, sym, ap, ap₂, _∙_, subst}
 use mathlib.Core.Bool.{Bool, true, false}
-use mathlib.Core.List.{List, [], _∷_, _++_, map}
-use Prim.Native.Nat.{ℕ, zero, suc, _+_, _*_, _/_, _%_, _^_, _≤_, _<_}
-use native.Mathlib.Nat.{le-antisymm}
+use mathlib.Core.List.{List, [], _∷_}
+use Prim.Native.Nat.{ℕ, zero, suc, _+_, _*_, _/_, _^_, _≤_, _<_}
 use native.Mathlib.Omega.{arith}
 use lib.Arith.{digits-div}
 use lib.Bits.{bitXor, xor-lt}
-use lib.Dec.{eqb}
 use lib.Pow.{pow-pos}
 use lib.ListN.{length}
-use Rattle.gf2.specs.Group.{Group2, XorGroup, BoolGroup, bxor, xor-half, swap4, left-comm}
-use Rattle.gf2.specs.Bit.{eqb-true, eqb-false, eqb-self, bit, bit-adds, bit-hom, bit-zero, bits-zero, num, bit-push-zero, bit-push-suc}
-use Rattle.gf2.specs.Independent.{Indep, Indep.empty, Indep.free}
-use Rattle.gf2.specs.Greedy.{choose, onto, onto-length, onto-in, choose-indep, choose-spans}
-use Rattle.gf2.specs.Span.{byBool, comb, comb-nil, Span, Within, Within.none, Within.more}
-use Rattle.gf2.specs.Width.{all-map, all-of, All, All.nil, All.cons, Hom, hom-o, Zero, zero-span, Tells, width}
-
-abbrev pub column : List ℕ → ℕ → ℕ
-column [] p = 0
-column (e ∷ E) p = column E p * 2 + num (bit p e)
-
-abbrev pub isZero : ℕ → Bool
-isZero x = eqb x 0
-
-abbrev pub below : ℕ → List ℕ
-below zero = []
-below (suc k) = k ∷ below k
-
-pub length-below : (k : ℕ) → length (below k) ≡ k
-length-below zero = refl
-length-below (suc k) = ap suc (length-below k)
-
-pub all-below : {P : ℕ → Type 0} (k : ℕ) → All P (below k) → (i : ℕ) → i < k → P i
-all-below zero a i h = absurd (omega arith)
-all-below {P} (suc k) (cons p a) i h = byBool (eqb i k)
-    (λ e. subst P (sym (eqb-true i k e)) p)
-    (λ e. let ne = eqb-false i k e in all-below k a i (omega arith))
+use Rattle.gf2.specs.Bit.{bit-adds, bit-hom, bit-zero, bits-zero, bit-push-zero}
+use Rattle.gf2.specs.Gf2.{XorGroup, BoolGroup, bit, num, choose, onto, comb, column, isZero}
+use Rattle.gf2.specs.GreedyLaws.{onto-length, choose-indep, choose-spans}
+use Rattle.gf2.specs.Group.{swap4}
+use Rattle.gf2.specs.Independent.{Indep, Indep.empty}
+use Rattle.gf2.specs.Rank.{Hom, hom-o, Zero, zero-span, Tells, width}
+use Rattle.gf2.specs.Xor.{xor-half}
+use Rattle.lists.specs.ListLaws.{all-map, all-of, length-below, all-below}
+use Rattle.lists.specs.Lists.{bxor, All, All.nil, All.cons, below}
+use Rattle.lists.specs.Tests.{eqb-true}
 
 -- ---- sums of columns stay below 2 ^ g
 pub column-lt : (E : List ℕ) (p : ℕ) → column E p < 2 ^ length E

@@ -1,26 +1,17 @@
 -- Independent rows are no more than the linear tests that tell their sums apart.
 use mathlib.Core.Path.{_≡_, refl, sym, ap, ap₂, _∙_, subst}
 use mathlib.Core.Bool.{Bool, true, false}
-use mathlib.Core.List.{List, [], _∷_, _++_, map}
+use mathlib.Core.List.{List, [], _∷_}
 use mathlib.Core.Logic.{_⊎_, inl, inr, ⊎-elim}
-use Prim.Native.Nat.{ℕ, zero, suc, _+_, _≤_, _<_}
+use Prim.Native.Nat.{suc, _≤_}
 use native.Mathlib.Omega.{arith}
 use lib.ListN.{length}
-use Rattle.gf2.specs.Group.{Group2, bxor, bxor-self, zr, cancel, cancel-r}
+use Rattle.gf2.specs.Gf2.{Group2, comb}
+use Rattle.gf2.specs.Group.{cancel-r}
 use Rattle.gf2.specs.Independent.{Indep, Indep.empty, Indep.free}
-use Rattle.gf2.specs.Span.{byBool, comb, comb-nil, Span, span-zero, span-add, span-head, span-tail, Within, Within.none, Within.more, within-tail, within-self, span-within}
-
-pub data All {X : Type 0} (P : X → Type 0) : List X → Type 0 where
-  nil : All P []
-  cons : {x : X} {l : List X} → P x → All P l → All P (x ∷ l)
-
-pub all-map : {X : Type 0} {P Q : X → Type 0} → ((x : X) → P x → Q x) → {l : List X} → All P l → All Q l
-all-map h nil = nil
-all-map h (cons {x = x} p a) = cons (h x p) (all-map h a)
-
-pub all-of : {X : Type 0} {P : X → Type 0} → ((x : X) → P x) → (l : List X) → All P l
-all-of h [] = nil
-all-of h (x ∷ l) = cons (h x) (all-of h l)
+use Rattle.gf2.specs.Span.{Span, span-zero, span-add, span-head, span-tail, Within, Within.more, within-tail, within-self, span-within}
+use Rattle.lists.specs.Lists.{bxor, All, All.nil, All.cons}
+use Rattle.lists.specs.Tests.{bxor-self, byBool}
 
 module _ {A : Type 0} (G : Group2 A) where
   open Group2 G using (_⊕_, o, assoc, comm, self, zl)
@@ -86,8 +77,8 @@ module _ {A : Type 0} (G : Group2 A) where
         x₀-f = s .x₀-f;
       })
 
-  -- the tests of L tell the sums of R from zero
   module _ {X : Type 0} (t : X → A → Bool) where
+    -- the tests of L tell the sums of R from zero
     pub record Tells (L : List X) (R : List A) : Type 0 where
       pub tell : (x : A) → Span G R x → All (λ l. Zero (t l) x) L → x ≡ o
 

@@ -3,12 +3,9 @@ use mathlib.Core.Bool.{Bool}
 use mathlib.Core.List.{List, [], _∷_, _++_}
 use Prim.Native.Nat.{ℕ, zero, suc, _<_, _≤_}
 use native.Mathlib.Omega.{arith}
-use Rattle.gf2.specs.Fit.{below}
-use Rattle.gf2.specs.ListLaws.{all-rev}
-use Rattle.gf2.specs.Lists.{rev}
-use Rattle.gf2.specs.Places.{filter}
-use Rattle.gf2.specs.Span.{byBool}
-use Rattle.gf2.specs.Width.{All, All.nil, All.cons, all-map}
+use Rattle.lists.specs.ListLaws.{all-rev, all-map}
+use Rattle.lists.specs.Lists.{below, rev, filter, All, All.nil, All.cons}
+use Rattle.lists.specs.Tests.{byBool}
 
 -- strictly ascending, from b on
 pub data Up : ℕ → List ℕ → Type 0 where

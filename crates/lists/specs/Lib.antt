@@ -1,0 +1,5 @@
+pub mod Ascending
+pub mod Buffers
+pub mod ListLaws
+pub mod Lists
+pub mod Tests

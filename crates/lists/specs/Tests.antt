@@ -1,0 +1,77 @@
+-- Laws of tests: by cases, of equal numbers, of "or" and "exactly one", and of sides.
+use mathlib.Core.Path.{_≡_, refl, sym, ap, _∙_, subst}
+use mathlib.Core.Bool.{Bool, true, false, _||_, true≢false, false≢true}
+use mathlib.Core.Logic.{_≢_, _⊎_, inl, inr}
+use Prim.Native.Nat.{ℕ, _-_, _<_, _≤_}
+use lib.Dec.{T, eqb→eq, eqb-refl, eqb, ltb}
+use mathlib.Core.Option.{Option, none, some}
+use native.Mathlib.Omega.{arith}
+use borrow.Author.Tests.{ltb-true, ltb-false}
+use Rattle.lists.specs.Lists.{bxor}
+
+pub byBool {ℓ} : {P : Type ℓ} (b : Bool) → (b ≡ true → P) → (b ≡ false → P) → P
+byBool true f g = f refl
+byBool false f g = g refl
+
+pub or-l : (b c : Bool) → b ≡ true → (b || c) ≡ true
+or-l b c e = rw e
+
+pub or-r : (b c : Bool) → c ≡ true → (b || c) ≡ true
+or-r true c e = refl
+or-r false c e = e
+
+pub or-false-l : (a b : Bool) → (a || b) ≡ false → a ≡ false
+or-false-l true b e = e
+or-false-l false b e = refl
+
+pub or-false-r : (a b : Bool) → (a || b) ≡ false → b ≡ false
+or-false-r true b e = absurd (true≢false e)
+or-false-r false b e = e
+
+pub T-true : (b : Bool) → T b → b ≡ true
+T-true true t = refl
+T-true false t = absurd t
+
+pub eqb-true : (m n : ℕ) → eqb m n ≡ true → m ≡ n
+eqb-true m n e = eqb→eq m n (subst T (sym e) tt)
+
+pub eqb-self : (n : ℕ) → eqb n n ≡ true
+eqb-self n = T-true (eqb n n) (eqb-refl n)
+
+pub eqb-false : (m n : ℕ) → eqb m n ≡ false → m ≢ n
+eqb-false m n e q = false≢true (sym e ∙ ap (eqb m) (sym q) ∙ T-true (eqb m m) (eqb-refl m))
+
+pub eqb-comm : (m n : ℕ) → eqb m n ≡ eqb n m
+eqb-comm m n = byBool (eqb m n)
+    (λ e. e ∙ sym (ap (eqb n) (eqb-true m n e) ∙ eqb-self n))
+    (λ e. byBool (eqb n m) (λ f. absurd (eqb-false m n e (sym (eqb-true n m f)))) (λ f. e ∙ sym f))
+
+pub eqb-lt : (a b : ℕ) → a < b → eqb a b ≡ false
+eqb-lt a b h = byBool (eqb a b) (λ e. let k = eqb-true a b e in absurd (omega arith)) (λ e. e)
+
+pub byOpt : {A P : Type 0} (x : Option A) → ((a : A) → x ≡ some a → P) → (x ≡ none → P) → P
+byOpt (some a) f g = f a refl
+byOpt none f g = g refl
+
+pub bxor-assoc : (a b c : Bool) → bxor (bxor a b) c ≡ bxor a (bxor b c)
+bxor-assoc true true true = refl
+bxor-assoc true true false = refl
+bxor-assoc true false c = refl
+bxor-assoc false b c = refl
+
+pub bxor-comm : (a b : Bool) → bxor a b ≡ bxor b a
+bxor-comm true true = refl
+bxor-comm true false = refl
+bxor-comm false true = refl
+bxor-comm false false = refl
+
+pub bxor-self : (a : Bool) → bxor a a ≡ false
+bxor-self true = refl
+bxor-self false = refl
+
+-- one number is below the other or not
+pub side : (m n : ℕ) → (m < n) ⊎ (n ≤ m)
+side m n = go (ltb m n) refl where
+  go : (t : Bool) → ltb m n ≡ t → (m < n) ⊎ (n ≤ m)
+  go true h = inl (ltb-true m n h)
+  go false h = inr (ltb-false m n h)

@@ -1,0 +1,1 @@
+// Lists, tests and buffers: definitions and laws alone.
