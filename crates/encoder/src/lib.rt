@@ -145,7 +145,7 @@ fn clear_unmarked(b: &mut [u8], marks: &[u8], first: usize, count: usize, s: usi
     let mut i = 0;
     while i < count {
         let r = unmarked(marks, first, i, count);
-        table::clear(b, i * s, (r - i) * s);
+        packets::clear(b, i * s, (r - i) * s);
         i = r + 1;
     }
 }
@@ -174,7 +174,7 @@ fn copy_information(plan: &[u32], s: usize, information: &[u8], block: &mut [u8]
     let count = plan::info_count(plan);
     let mut k = 0;
     while k < count {
-        table::copy(block, plan::info_place(plan, k) * s, information, k * s, s);
+        packets::copy(block, plan::info_place(plan, k) * s, information, k * s, s);
         k += 1;
     }
 }

@@ -1,4 +1,4 @@
--- Zeroing lost places, one place at a time; a block's packets after one is written.
+-- Zeroing lost places, one place at a time.
 use mathlib.Core.Path.{_≡_, refl, sym, ap, _∙_, subst}
 use mathlib.Core.Bool.{cond}
 use mathlib.Core.List.{List, [], _∷_, _++_, append-assoc, append-nil}
@@ -7,31 +7,18 @@ use native.Mathlib.Numerals.{add-one}
 use native.Mathlib.Omega.{arith}
 use borrow.Author.Tests.{ne-eqb}
 use lib.Dec.{eqb}
-use lib.ListN.{length, getD, set, take, drop, replicate, length-set, length-replicate, drop-of-length-le}
+use lib.ListN.{length, getD, set, take, drop, replicate, length-replicate, drop-of-length-le}
 use lib.Seq.{drop-cons, take-suc-set, drop-set-lt, set-getD, take-all}
-use Rattle.lists.specs.ListLaws.{all-set}
 use Rattle.table.specs.BufferLaws.{set-written}
-use Rattle.table.specs.PacketLaws.{packets-length, packets-sized, packets-joined, joined-packets, joined-length}
-use Rattle.table.specs.Packets.{Packets, packets, joined}
+use Rattle.table.specs.PacketLaws.{packets-length, packets-sized, packets-joined}
+use Rattle.table.specs.Packets.{packets, joined}
 use Rattle.lists.specs.Lists.{written}
 use Rattle.erasure.specs.Restoring.{zeroLost}
+use Rattle.turns.specs.TurnLaws.{packets-set, bytes-set}
 
 -- ---- one packet written
-module _ (s n : ℕ) (b : List ℕ) (bytes : length b ≡ n * s) (i : ℕ) (v : List ℕ) (inside : i < n) (long : length v ≡ s) where
-  set-sized : Packets s (set (packets s n b) i v)
-  set-sized = all-set (packets-sized s n b bytes) i v long
-
-  set-count : length (set (packets s n b) i v) ≡ n
-  set-count = length-set (packets s n b) i v ∙ packets-length s n b
-
-  pub packets-set : packets s n (joined (set (packets s n b) i v)) ≡ set (packets s n b) i v
-  packets-set = ap (λ k. packets s k (joined (set (packets s n b) i v))) (sym set-count) ∙ joined-packets s set-sized
-
-  pub bytes-set : length (joined (set (packets s n b) i v)) ≡ n * s
-  bytes-set = joined-length s set-sized ∙ ap (λ k. k * s) set-count
-
-  pub written-set : written b (i * s) v ≡ joined (set (packets s n b) i v)
-  written-set = ap (λ c. written c (i * s) v) (sym (packets-joined s n b bytes)) ∙ sym (set-written s (packets-sized s n b bytes) i v (subst (λ k. i < k) (sym (packets-length s n b)) inside) long)
+written-set : (s n : ℕ) (b : List ℕ) → length b ≡ n * s → (i : ℕ) (v : List ℕ) → i < n → length v ≡ s → written b (i * s) v ≡ joined (set (packets s n b) i v)
+written-set s n b bytes i v inside long = ap (λ c. written c (i * s) v) (sym (packets-joined s n b bytes)) ∙ sym (set-written s (packets-sized s n b bytes) i v (subst (λ k. i < k) (sym (packets-length s n b)) inside) long)
 
 -- ---- where the zeroing of lost places stands
 abbrev pub zeroFrom : ℕ → List ℕ → List (List ℕ) → ℕ → List (List ℕ)

@@ -1,7 +1,5 @@
 pub mod Agreeing
 pub mod BlockLaws
 pub mod MapLaws
-pub mod Ordering
+pub mod Passing
 pub mod Settling
-pub mod Spending
-pub mod Turning

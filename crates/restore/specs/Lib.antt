@@ -1,2 +1,1 @@
 pub mod Mending
-pub mod Spent

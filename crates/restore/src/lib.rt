@@ -2,17 +2,17 @@
 use table::wide;
 ghost use mathlib.Core.Path.{_≡_};
 ghost use mathlib.Core.Bool.{true, false};
-ghost use Prim.Native.Nat.{_+_, _-_, _*_, _≤_, _<_};
-ghost use lib.ListN.{length, getD, take, drop};
-ghost use Rattle.table.specs.Checks.{Places, Starts};
+ghost use Prim.Native.Nat.{_-_, _*_, _≤_};
+ghost use lib.ListN.{length};
+ghost use Rattle.table.specs.Checks.{Starts};
 ghost use Rattle.table.specs.Packets.{packets, joined};
 ghost use Rattle.table.specs.Table.{checks};
 ghost use Rattle.table.specs.Accepted.{Accepted};
-ghost use Rattle.chains.specs.Linked.{Linked, Counted};
-ghost use Rattle.erasure.specs.Restoring.{lostPlaces, tally, zeroLost, consistent};
+ghost use Rattle.chains.specs.Linked.{Counted};
+ghost use Rattle.erasure.specs.Restoring.{tally, zeroLost, consistent};
+ghost use Rattle.erasure.specs.Turns.{Restored, stateOf};
+ghost use Rattle.turns.specs.Spent.{Spent};
 ghost use Rattle.restore.specs.Mending.{Mends};
-ghost use Rattle.restore.specs.Spent.{Spent};
-ghost use Rattle.erasure.specs.Turns.{Holds, Restored, stateOf, turn};
 
 // What restoring comes to: whether every check without a lost place sums to zero, and the counts, 0
 // if not.
@@ -41,23 +41,6 @@ fn tally_of(map: &[u8], v: u8) -> u32
     k
 }
 
-// the first lost place of a check, 0 if there is none
-fn first_lost(t: &[u16], at: usize, weight: usize, map: &[u8]) -> usize
-    requires { ⌜ Places (now t) at weight (length (now map)) ⌝ }
-    ensures { λ r. ⌜ r ≡ getD (lostPlaces (now (map .entry)) (take weight (drop at (now (t .entry))))) 0 0 ⌝ }
-{
-    let end = at + weight;
-    let mut i = at;
-    while i < end {
-        let p = wide(t[i]);
-        if map[p] == 1 {
-            return p;
-        }
-        i += 1;
-    }
-    0
-}
-
 // ---- the block
 
 // zero bytes at every lost place
@@ -68,7 +51,7 @@ pub fn zero_lost(block: &mut [u8], map: &[u8], n: usize, s: usize)
     let mut p = 0;
     while p < n {
         if map[p] == 1 {
-            table::clear(block, p * s, s);
+            packets::clear(block, p * s, s);
         }
         p += 1;
     }
@@ -109,7 +92,7 @@ fn agrees(
     while j < m {
         let w = wide(t[4 + j]);
         if to_sum(count[j], used[j]) {
-            if table::sum_of_check(t, at, w, block, n, s) != s {
+            if packets::sum_of_check(t, at, w, block, n, s) != s {
                 return false;
             }
         }
@@ -121,85 +104,13 @@ fn agrees(
 
 // ---- restoring
 
-// the check at at, of which one place is lost, restores that place and returns it
-fn restore_one(
-    t: &[u16],
-    at: usize,
-    weight: usize,
-    n: usize,
-    s: usize,
-    block: &mut [u8],
-    map: &mut [u8],
-) -> usize
-    requires { ⌜
-        Places (now t) at weight n
-        × (length (now block) ≡ n * s)
-        × (length (now map) ≡ n)
-        × (length (lostPlaces (now map) (take weight (drop at (now t)))) ≡ 1)
-        ⌝ }
-    ensures { λ r. ⌜
-        (r ≡ getD (lostPlaces (now (map .entry)) (take weight (drop at (now (t .entry))))) 0 0)
-        × Holds (turn s (take weight (drop at (now (t .entry)))) (stateOf s n (now (block .entry)) (now (map .entry)) 0)) (now (block .exit)) (now (map .exit))
-        ⌝ }
-{
-    let p = first_lost(t, at, weight, map);
-    table::restore(t, at, weight, block, n, s, p);
-    map[p] = 2;
-    p
-}
-
-// while some check has exactly one lost place, the lowest such check restores it; the additions
-fn restore_all(
-    t: &[u16],
-    m: usize,
-    n: usize,
-    s: usize,
-    starts: &[u16],
-    head: &[u16],
-    next: &[u16],
-    owner: &[u16],
-    count: &mut [u16],
-    block: &mut [u8],
-    map: &mut [u8],
-    used: &mut [u8],
-) -> usize
-    requires { ⌜
-        Accepted (now t) m n s
-        × Starts (now t) m (now starts)
-        × Linked (now t) m n (now head) (now next) (now owner)
-        × Counted (now t) m (now map) (now count)
-        × (length (now block) ≡ n * s)
-        × (length (now map) ≡ n)
-        × Spent (now t) m n s (now block) (now map) (now used)
-        ⌝ }
-    ensures { λ r. ⌜
-        Restored n s (checks (now (t .entry))) (now (block .entry)) (now (map .entry)) (now (block .exit)) (now (map .exit)) r
-        × Counted (now (t .entry)) m (now (map .exit)) (now (count .exit))
-        × Spent (now (t .entry)) m n s (now (block .exit)) (now (map .exit)) (now (used .exit))
-        ⌝ }
-{
-    let mut adds = 0;
-    let mut low = 0;
-    loop {
-        let j = chains::lowest_one(count, low, m);
-        if j == m {
-            return adds;
-        }
-        let w = wide(t[4 + j]);
-        let p = restore_one(t, wide(starts[j]), w, n, s, block, map);
-        low = chains::walk(next, owner, count, wide(head[p]), j);
-        used[j] = 1;
-        adds += w - 1;
-    }
-}
-
 // the additions of all turns, and whether every check without a lost place then sums to zero
 pub struct Turned {
     pub adds: usize,
     pub agrees: bool,
 }
 
-// the same with counts and chains made first, and the look at the checks after it
+// all turns, with counts and chains made first, and the look at the checks after them
 pub fn restore_lost(
     t: &[u16],
     m: usize,
@@ -222,7 +133,7 @@ pub fn restore_lost(
     let mut used = [0u8; 512];
     chains::count_all(t, m, n, s, starts, map, &mut count);
     chains::link_all(t, m, n, s, starts, &mut head, &mut next, &mut owner);
-    let adds = restore_all(
+    let adds = turns::restore_all(
         t,
         m,
         n,
@@ -281,14 +192,14 @@ pub fn restore_packets(
     let mut starts = [0u16; 512];
     let mut saved = [0u8; 1024];
     table::fill_starts(t, m, &mut starts);
-    table::copy(&mut saved, 0, map, 0, n);
+    packets::copy(&mut saved, 0, map, 0, n);
     let before = tally_of(map, 1);
     zero_lost(block, map, n, s);
     let done = restore_lost(t, m, n, s, &starts, block, map);
     if done.agrees {
         return counted(before, tally_of(map, 1), done.adds);
     }
-    table::copy(map, 0, &saved, 0, n);
+    packets::copy(map, 0, &saved, 0, n);
     zero_lost(block, map, n, s);
     contradicted()
 }

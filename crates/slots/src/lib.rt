@@ -66,9 +66,9 @@ fn add_part(acc: &mut [u8], f: usize, off: usize, n: usize, s: usize, block: &[u
 {
     let k = acc.len();
     if f < n {
-        table::add_from(acc, 0, block, f * s + off, k);
+        packets::add_from(acc, 0, block, f * s + off, k);
     } else {
-        table::add_from(acc, 0, scratch, (f - n) * s + off, k);
+        packets::add_from(acc, 0, scratch, (f - n) * s + off, k);
     }
 }
 
@@ -109,9 +109,9 @@ fn put_part(
 {
     let k = acc.len();
     if to < n {
-        table::copy(block, to * s + off, acc, 0, k);
+        packets::copy(block, to * s + off, acc, 0, k);
     } else {
-        table::copy(scratch, (to - n) * s + off, acc, 0, k);
+        packets::copy(scratch, (to - n) * s + off, acc, 0, k);
     }
 }
 

@@ -3,8 +3,8 @@ use Rattle.table.specs.Checks.{offset}
 use Rattle.table.specs.Table.{checks}
 use Rattle.erasure.specs.Restoring.{lostPlaces, consistent}
 use Rattle.erasure.specs.Turns.{stateOf}
-use Rattle.restore.proofs.Ordering.{at-check}
-use Rattle.restore.proofs.Spending.{agree-passed}
+use Rattle.turns.specs.TurnLaws.{at-check}
+use Rattle.restore.proofs.Passing.{agree-passed}
 use Rattle.table.specs.Accepted.{has-weights, check-count, check-is, check-fits, check-in, offset-none, offset-more}
 use Rattle.table.specs.CodewordLaws.{sum-zero, sum-nonzero}
 use Rattle.restore.proofs.Agreeing.{agree-zero, agree-not, agree-end}

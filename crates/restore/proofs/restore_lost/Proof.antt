@@ -2,7 +2,7 @@
 use Rattle.lists.specs.ListLaws.{getD-zeros}
 use mathlib.Core.Path.{_∙_}
 use Rattle.chains.specs.LinkedLaws.{linked-of}
-use Rattle.restore.proofs.Spending.{spent-start}
+use Rattle.restore.proofs.Passing.{spent-start}
 use Rattle.table.specs.Accepted.{few-places, few-checks, few-words}
 use Prim.Native.Nat.{_-_}
 use native.Mathlib.Omega.{arith}

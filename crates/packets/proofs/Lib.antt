@@ -1,0 +1,4 @@
+pub mod Buffers
+pub mod Sums
+pub mod Others
+pub mod Gathering

@@ -1,0 +1,2 @@
+pub mod Spent
+pub mod TurnLaws
