@@ -1,5 +1,6 @@
 pub mod Largest
 pub mod LostLaws
+pub mod OldBytes
 pub mod OutcomeLaws
 pub mod Restoring
 pub mod RestoringLaws

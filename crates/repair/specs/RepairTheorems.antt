@@ -1,6 +1,6 @@
 -- Demand 2 on repair, over the definitions of the call, for every table that is accepted, every block and every pattern of loss.
-use mathlib.Core.Path.{_≡_, refl, sym, ap, _∙_, subst}
-use mathlib.Core.Bool.{true, false, cond}
+use mathlib.Core.Path.{_≡_, refl, sym, ap, ap₂, _∙_, subst}
+use mathlib.Core.Bool.{Bool, true, false, cond}
 use mathlib.Core.List.{List, []}
 use mathlib.Core.Logic.{_≢_, _⊎_, inl, inr}
 use Prim.Native.Nat.{ℕ, _+_, _*_, _<_, _≤_}
@@ -8,8 +8,9 @@ use native.Mathlib.Omega.{arith}
 use lib.Dec.{eqb}
 use lib.ListN.{length, getD, replicate}
 use Rattle.erasure.specs.Largest.{stays-lost}
+use Rattle.erasure.specs.OldBytes.{old-bytes, old-bytes-cleared}
 use Rattle.erasure.specs.OutcomeLaws.{tally-lost, tally-restored, start-length, start-sized, outcome-length, outcome-sized, sums-of, none-lost, part-joined}
-use Rattle.erasure.specs.Restoring.{Largest, lostPlaces, zeroLost, tally, outcome, isLost}
+use Rattle.erasure.specs.Restoring.{State, Largest, lostPlaces, zeroLost, consistent, tally, outcome, agreeing, isLost}
 use Rattle.erasure.specs.RestoringLaws.{restoring-same, restoring-mark}
 use Rattle.erasure.specs.Stopping.{lostIn}
 use Rattle.erasure.specs.Tally.{restoredIn, restored-and-lost}
@@ -17,7 +18,7 @@ use Rattle.erasure.specs.Values.{received-kept, left-zero, restored, no-contrad
 use Rattle.lists.specs.ListLaws.{all-map}
 use Rattle.lists.specs.Lists.{All}
 use Rattle.lists.specs.Tests.{eqb-true, eqb-false, byBool}
-use Rattle.repair.specs.Repair.{repairRefusal, repairReport, repairBlock, repairMap, Fitting, Agree}
+use Rattle.repair.specs.Repair.{repairRefusal, reportAt, repairReport, repairBlock, repairMap, Fitting, Agree}
 use Rattle.repair.specs.RepairLaws.{fitting-refusal, accepted-fits, contradicted-fits, bytes-all, byte-at, block-accepted, block-contradicted, map-accepted, map-refused}
 use Rattle.table.specs.Codewords.{IsCodeword}
 use Rattle.table.specs.PacketCall.{partAt}
@@ -145,3 +146,42 @@ contradicted-repair t b map h = record {
 
     part : (p : ℕ) → p < places t → partAt (size t) p (repairBlock t b map) ≡ getD (zeroLost (size t) map (packets (size t) (places t) b)) p []
     part p k = ap (partAt (size t) p) (block-contradicted t b map h) ∙ part-joined (size t) (places t) _ (start-length t b map (fits .table) (fits .block)) (start-sized t b map (fits .table) (fits .block)) p k
+
+-- "Old bytes at lost places never count": blocks with the same received packets come to the same answer, block and map
+pub record Alike (t b c map : List ℕ) : Type 0 where
+  pub answer : repairReport t b map ≡ repairReport t c map
+  pub block : repairBlock t b map ≡ repairBlock t c map
+  pub marks : repairMap t b map ≡ repairMap t c map
+
+module _ (t b c map : List ℕ) (fits : Fitting t b map) (long : length c ≡ length b) (agree : Agree t b map c) where
+  -- a place that isn't lost is received
+  same : (p : ℕ) → p < places t → isLost map p ≡ false → partAt (size t) p b ≡ partAt (size t) p c
+  same p h e =
+      let most = byte-at (bytes-all map (fits .map-bytes)) p in
+      let not-one = eqb-false (getD map p 0) 1 e in
+      agree p h (omega arith)
+
+  fits-too : Fitting t c map
+  fits-too = record { table = fits .table; block = long ∙ fits .block; map-length = fits .map-length; map-bytes = fits .map-bytes }
+
+  agree-alike : agreeing t b map ≡ agreeing t c map
+  agree-alike = ap (consistent (size t) (checks t)) (old-bytes t b c map same)
+
+  refused-alike : repairRefusal t b map ≡ repairRefusal t c map
+  refused-alike = fitting-refusal t b map fits ∙ ap (λ (v : Bool). cond v 0 8) agree-alike ∙ sym (fitting-refusal t c map fits-too)
+
+  pub old-bytes-never-count : Alike t b c map
+  old-bytes-never-count = record {
+    answer = ap₂ reportAt refused-alike (old-bytes t b c map same);
+    block = byBool (agreeing t b map)
+        (λ v. block-accepted t b map (passed v) ∙ ap (λ m. joined (m .block)) (old-bytes t b c map same) ∙ sym (block-accepted t c map (sym refused-alike ∙ passed v)))
+        (λ v. block-contradicted t b map (failed v) ∙ ap joined (old-bytes-cleared t b c map same) ∙ sym (block-contradicted t c map (sym refused-alike ∙ failed v)));
+    marks = byBool (agreeing t b map)
+        (λ v. map-accepted t b map (passed v) ∙ ap (λ m. m .map) (old-bytes t b c map same) ∙ sym (map-accepted t c map (sym refused-alike ∙ passed v)))
+        (λ v. map-refused t b map 8 (failed v) refl ∙ sym (map-refused t c map 8 (sym refused-alike ∙ failed v) refl));
+  } where
+    passed : agreeing t b map ≡ true → repairRefusal t b map ≡ 0
+    passed v = fitting-refusal t b map fits ∙ ap (λ (x : Bool). cond x 0 8) v
+
+    failed : agreeing t b map ≡ false → repairRefusal t b map ≡ 8
+    failed v = fitting-refusal t b map fits ∙ ap (λ (x : Bool). cond x 0 8) v

@@ -34,16 +34,16 @@ abbrev planning : List ℕ → List ℕ
 planning t = planningRefusal t leastPlan workWords ∷ []
 
 -- the planner: refusal, own places in the order of solving, information places, and M, W, g, additions
-abbrev planned : List ℕ → List (List ℕ)
+abbrev pub planned : List ℕ → List (List ℕ)
 planned t = planning t ∷ planOf t .own ∷ planOf t .info ∷ (planOf t .M ∷ planOf t .W ∷ planOf t .g ∷ addSteps (planOf t .steps) ∷ []) ∷ []
 
 -- planning and then encoding to the last step: the planner's refusal, the encoder's and its additions, and the block
-abbrev encoded : List ℕ → List ℕ → List ℕ → List ℕ → List (List ℕ)
+abbrev pub encoded : List ℕ → List ℕ → List ℕ → List ℕ → List (List ℕ)
 encoded t information buffer scratch = let r = encodeAnswer (numbersOf t) information buffer scratch 13344 in
     planning t ∷ (r .refusal ∷ r .additions ∷ []) ∷ blockAfter (numbersOf t) information buffer scratch 13344 ∷ []
 
 -- repair: refusal, restored, still lost and additions, the block and the map
-abbrev mended : List ℕ → List ℕ → List ℕ → List (List ℕ)
+abbrev pub mended : List ℕ → List ℕ → List ℕ → List (List ℕ)
 mended t b map = let r = repairReport t b map in
     (r .refusal ∷ r .restored ∷ r .lost ∷ r .additions ∷ []) ∷ repairBlock t b map ∷ repairMap t b map ∷ []
 
@@ -54,32 +54,32 @@ bound t = 2 * (planOf t .W - planOf t .M) + planOf t .g * (planOf t .g + 1)
 -- ---- the table: what the definitions give, and what the paper says
 pub record Case : Type 0 where
   pub given : List (List ℕ)
-  pub paper : List (List ℕ)
+  pub wanted : List (List ℕ)
 
 abbrev pub starred : List Case
 starred =
     -- P1: own places solved 6, 5, 3; information 0 1 2 4; g 0; 9 additions
-    record { given = planned tableA; paper = (0 ∷ []) ∷ (6 ∷ 5 ∷ 3 ∷ []) ∷ (0 ∷ 1 ∷ 2 ∷ 4 ∷ []) ∷ (3 ∷ 12 ∷ 0 ∷ 9 ∷ []) ∷ [] }
+    record { given = planned tableA; wanted = (0 ∷ []) ∷ (6 ∷ 5 ∷ 3 ∷ []) ∷ (0 ∷ 1 ∷ 2 ∷ 4 ∷ []) ∷ (3 ∷ 12 ∷ 0 ∷ 9 ∷ []) ∷ [] }
     -- P2: A with 01 02 04 08
-    ∷ record { given = encoded tableA (0x01 ∷ 0x02 ∷ 0x04 ∷ 0x08 ∷ []) (9 ∷ 9 ∷ 9 ∷ 9 ∷ 9 ∷ 9 ∷ 9 ∷ []) []; paper = (0 ∷ []) ∷ (0 ∷ 9 ∷ []) ∷ block2 ∷ [] }
+    ∷ record { given = encoded tableA (0x01 ∷ 0x02 ∷ 0x04 ∷ 0x08 ∷ []) (9 ∷ 9 ∷ 9 ∷ 9 ∷ 9 ∷ 9 ∷ 9 ∷ []) []; wanted = (0 ∷ []) ∷ (0 ∷ 9 ∷ []) ∷ block2 ∷ [] }
     -- P3: B with a5
-    ∷ record { given = encoded tableB (0xa5 ∷ []) (9 ∷ 9 ∷ 9 ∷ 9 ∷ []) (9 ∷ []); paper = (0 ∷ []) ∷ (0 ∷ 9 ∷ []) ∷ (0x00 ∷ 0xa5 ∷ 0xa5 ∷ 0xa5 ∷ []) ∷ [] }
+    ∷ record { given = encoded tableB (0xa5 ∷ []) (9 ∷ 9 ∷ 9 ∷ 9 ∷ []) (9 ∷ []); wanted = (0 ∷ []) ∷ (0 ∷ 9 ∷ []) ∷ (0x00 ∷ 0xa5 ∷ 0xa5 ∷ 0xa5 ∷ []) ∷ [] }
     -- P4: lost 3, 5, 6: all restored, 9 additions
-    ∷ record { given = mended tableA (0x01 ∷ 0x02 ∷ 0x04 ∷ 0xff ∷ 0x08 ∷ 0xff ∷ 0xff ∷ []) (0 ∷ 0 ∷ 0 ∷ 1 ∷ 0 ∷ 1 ∷ 1 ∷ []); paper = (0 ∷ 3 ∷ 0 ∷ 9 ∷ []) ∷ block2 ∷ (0 ∷ 0 ∷ 0 ∷ 2 ∷ 0 ∷ 2 ∷ 2 ∷ []) ∷ [] }
+    ∷ record { given = mended tableA (0x01 ∷ 0x02 ∷ 0x04 ∷ 0xff ∷ 0x08 ∷ 0xff ∷ 0xff ∷ []) (0 ∷ 0 ∷ 0 ∷ 1 ∷ 0 ∷ 1 ∷ 1 ∷ []); wanted = (0 ∷ 3 ∷ 0 ∷ 9 ∷ []) ∷ block2 ∷ (0 ∷ 0 ∷ 0 ∷ 2 ∷ 0 ∷ 2 ∷ 2 ∷ []) ∷ [] }
     -- P5: lost 2, 4, 5: none restored, 0 additions
-    ∷ record { given = mended tableA (0x01 ∷ 0x02 ∷ 0xff ∷ 0x0e ∷ 0xff ∷ 0xff ∷ 0x0d ∷ []) (0 ∷ 0 ∷ 1 ∷ 0 ∷ 1 ∷ 1 ∷ 0 ∷ []); paper = (0 ∷ 0 ∷ 3 ∷ 0 ∷ []) ∷ (0x01 ∷ 0x02 ∷ 0x00 ∷ 0x0e ∷ 0x00 ∷ 0x00 ∷ 0x0d ∷ []) ∷ (0 ∷ 0 ∷ 1 ∷ 0 ∷ 1 ∷ 1 ∷ 0 ∷ []) ∷ [] }
+    ∷ record { given = mended tableA (0x01 ∷ 0x02 ∷ 0xff ∷ 0x0e ∷ 0xff ∷ 0xff ∷ 0x0d ∷ []) (0 ∷ 0 ∷ 1 ∷ 0 ∷ 1 ∷ 1 ∷ 0 ∷ []); wanted = (0 ∷ 0 ∷ 3 ∷ 0 ∷ []) ∷ (0x01 ∷ 0x02 ∷ 0x00 ∷ 0x0e ∷ 0x00 ∷ 0x00 ∷ 0x0d ∷ []) ∷ (0 ∷ 0 ∷ 1 ∷ 0 ∷ 1 ∷ 1 ∷ 0 ∷ []) ∷ [] }
     -- P6: lost 2, 4, 6 under A: none restored
-    ∷ record { given = mended tableA (0x01 ∷ 0x02 ∷ 0xff ∷ 0x0e ∷ 0xff ∷ 0x0b ∷ 0xff ∷ []) (0 ∷ 0 ∷ 1 ∷ 0 ∷ 1 ∷ 0 ∷ 1 ∷ []); paper = (0 ∷ 0 ∷ 3 ∷ 0 ∷ []) ∷ (0x01 ∷ 0x02 ∷ 0x00 ∷ 0x0e ∷ 0x00 ∷ 0x0b ∷ 0x00 ∷ []) ∷ (0 ∷ 0 ∷ 1 ∷ 0 ∷ 1 ∷ 0 ∷ 1 ∷ []) ∷ [] }
+    ∷ record { given = mended tableA (0x01 ∷ 0x02 ∷ 0xff ∷ 0x0e ∷ 0xff ∷ 0x0b ∷ 0xff ∷ []) (0 ∷ 0 ∷ 1 ∷ 0 ∷ 1 ∷ 0 ∷ 1 ∷ []); wanted = (0 ∷ 0 ∷ 3 ∷ 0 ∷ []) ∷ (0x01 ∷ 0x02 ∷ 0x00 ∷ 0x0e ∷ 0x00 ∷ 0x0b ∷ 0x00 ∷ []) ∷ (0 ∷ 0 ∷ 1 ∷ 0 ∷ 1 ∷ 0 ∷ 1 ∷ []) ∷ [] }
     -- P7: with the fourth check M stays 3, all restored
-    ∷ record { given = planning tableA4 ∷ (planOf tableA4 .M ∷ []) ∷ mended tableA4 (0x01 ∷ 0x02 ∷ 0xff ∷ 0x0e ∷ 0xff ∷ 0x0b ∷ 0xff ∷ []) (0 ∷ 0 ∷ 1 ∷ 0 ∷ 1 ∷ 0 ∷ 1 ∷ []); paper = (0 ∷ []) ∷ (3 ∷ []) ∷ (0 ∷ 3 ∷ 0 ∷ 9 ∷ []) ∷ block2 ∷ (0 ∷ 0 ∷ 2 ∷ 0 ∷ 2 ∷ 0 ∷ 2 ∷ []) ∷ [] }
+    ∷ record { given = planning tableA4 ∷ (planOf tableA4 .M ∷ []) ∷ mended tableA4 (0x01 ∷ 0x02 ∷ 0xff ∷ 0x0e ∷ 0xff ∷ 0x0b ∷ 0xff ∷ []) (0 ∷ 0 ∷ 1 ∷ 0 ∷ 1 ∷ 0 ∷ 1 ∷ []); wanted = (0 ∷ []) ∷ (3 ∷ []) ∷ (0 ∷ 3 ∷ 0 ∷ 9 ∷ []) ∷ block2 ∷ (0 ∷ 0 ∷ 2 ∷ 0 ∷ 2 ∷ 0 ∷ 2 ∷ []) ∷ [] }
     -- P8: 11 at place 0, none lost: refusal 8
-    ∷ record { given = mended tableA (0x11 ∷ 0x02 ∷ 0x04 ∷ 0x0e ∷ 0x08 ∷ 0x0b ∷ 0x0d ∷ []) (0 ∷ 0 ∷ 0 ∷ 0 ∷ 0 ∷ 0 ∷ 0 ∷ []); paper = (8 ∷ 0 ∷ 0 ∷ 0 ∷ []) ∷ (0x11 ∷ 0x02 ∷ 0x04 ∷ 0x0e ∷ 0x08 ∷ 0x0b ∷ 0x0d ∷ []) ∷ (0 ∷ 0 ∷ 0 ∷ 0 ∷ 0 ∷ 0 ∷ 0 ∷ []) ∷ [] }
+    ∷ record { given = mended tableA (0x11 ∷ 0x02 ∷ 0x04 ∷ 0x0e ∷ 0x08 ∷ 0x0b ∷ 0x0d ∷ []) (0 ∷ 0 ∷ 0 ∷ 0 ∷ 0 ∷ 0 ∷ 0 ∷ []); wanted = (8 ∷ 0 ∷ 0 ∷ 0 ∷ []) ∷ (0x11 ∷ 0x02 ∷ 0x04 ∷ 0x0e ∷ 0x08 ∷ 0x0b ∷ 0x0d ∷ []) ∷ (0 ∷ 0 ∷ 0 ∷ 0 ∷ 0 ∷ 0 ∷ 0 ∷ []) ∷ [] }
     -- P9: no information, block 00, 0 additions, bound 0
-    ∷ record { given = (planOf table9 .info) ∷ (bound table9 ∷ []) ∷ encoded table9 [] (9 ∷ []) []; paper = [] ∷ (0 ∷ []) ∷ (0 ∷ []) ∷ (0 ∷ 0 ∷ []) ∷ (0x00 ∷ []) ∷ [] }
+    ∷ record { given = (planOf table9 .info) ∷ (bound table9 ∷ []) ∷ encoded table9 [] (9 ∷ []) []; wanted = [] ∷ (0 ∷ []) ∷ (0 ∷ []) ∷ (0 ∷ 0 ∷ []) ∷ (0x00 ∷ []) ∷ [] }
     -- P10: three information places, no step
-    ∷ record { given = planning table10 ∷ planOf table10 .info ∷ (length (planOf table10 .steps) ∷ []) ∷ []; paper = (0 ∷ []) ∷ (0 ∷ 1 ∷ 2 ∷ []) ∷ (0 ∷ []) ∷ [] }
+    ∷ record { given = planning table10 ∷ planOf table10 .info ∷ (length (planOf table10 .steps) ∷ []) ∷ []; wanted = (0 ∷ []) ∷ (0 ∷ 1 ∷ 2 ∷ []) ∷ (0 ∷ []) ∷ [] }
     ∷ []
 
-pub starred-cases : map (λ c. c .given) starred ≡ map (λ c. c .paper) starred
+pub starred-cases : map (λ c. c .given) starred ≡ map (λ c. c .wanted) starred
 unfolding planningRefusal encodeRefusal repairRefusal planOf numbersOf
 starred-cases = refl
