@@ -1,17 +1,17 @@
 -- "Old bytes at lost places never count": two blocks with the same received packets come to the same.
 use mathlib.Core.Path.{_≡_, refl, sym, ap, ap₂, _∙_}
-use mathlib.Core.Bool.{Bool, true, false, cond}
+use mathlib.Core.Bool.{false}
 use mathlib.Core.List.{List, [], _∷_}
-use Prim.Native.Nat.{ℕ, zero, suc, _<_}
+use Prim.Native.Nat.{ℕ, suc, _<_}
 use native.Mathlib.Omega.{arith}
 use lib.Dec.{eqb}
-use lib.ListN.{length, getD, replicate}
+use lib.ListN.{length, getD}
 use Rattle.lists.specs.Tests.{byBool}
 use Rattle.table.specs.PacketCall.{partAt}
 use Rattle.table.specs.PacketLaws.{packets-length, packet-at}
 use Rattle.table.specs.Packets.{packets}
 use Rattle.table.specs.Table.{places, size, checks}
-use Rattle.erasure.specs.Restoring.{State, isLost, restoring, zeroLost, outcome}
+use Rattle.erasure.specs.Restoring.{isLost, restoring, zeroLost, outcome}
 
 -- once lost places are zero, the blocks are the same
 zero-alike : (s : ℕ) (map : List ℕ) (b c : List (List ℕ)) → length b ≡ length c

@@ -10,7 +10,7 @@ use lib.ListN.{length, getD, replicate}
 use Rattle.erasure.specs.Largest.{stays-lost}
 use Rattle.erasure.specs.OldBytes.{old-bytes, old-bytes-cleared}
 use Rattle.erasure.specs.OutcomeLaws.{tally-lost, tally-restored, start-length, start-sized, outcome-length, outcome-sized, sums-of, none-lost, part-joined}
-use Rattle.erasure.specs.Restoring.{State, Largest, lostPlaces, zeroLost, consistent, tally, outcome, agreeing, isLost}
+use Rattle.erasure.specs.Restoring.{Largest, lostPlaces, zeroLost, consistent, tally, outcome, agreeing, isLost}
 use Rattle.erasure.specs.RestoringLaws.{restoring-same, restoring-mark}
 use Rattle.erasure.specs.Stopping.{lostIn}
 use Rattle.erasure.specs.Tally.{restoredIn, restored-and-lost}

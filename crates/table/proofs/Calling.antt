@@ -1,11 +1,11 @@
 -- Laws of the packet call.
-use mathlib.Core.Path.{_≡_, refl, sym, _∙_}
+use mathlib.Core.Path.{_≡_, sym, _∙_}
 use mathlib.Core.Bool.{Bool, true, false, cond, not, _||_}
 use mathlib.Core.List.{List, []}
 use Prim.Native.Nat.{ℕ, _+_, _*_, _<_, _≤_}
-use native.Mathlib.Nat.{mul-le-mul, mul-le-mul-right, suc-mul}
+use native.Mathlib.Nat.{mul-le-mul}
 use native.Mathlib.Omega.{arith}
-use borrow.Author.Tests.{eq-eqb, ne-eqb, le-leb, lt-leb, ltb-false, leb-false, eqb-true, not-false}
+use borrow.Author.Tests.{eq-eqb, ne-eqb, le-leb, lt-leb, ltb-false}
 use lib.Dec.{eqb, leb}
 use lib.ListN.{length}
 use Rattle.lists.specs.Tests.{or-false-r, or-l, or-r}
@@ -45,19 +45,6 @@ module _ (n s place len : ℕ) where
     refuse-none h k = sym (within ∙ rw (eq-eqb len (n * s) h, lt-leb n place k))
 
 -- ---- the part
--- a call that is not refused has its packet inside the block
-pub packet-room : (n s place len : ℕ) → packetRefusal n s place len ≡ 0 → place * s + s ≤ len
-packet-room n s place len = go (outside 1024 n || outside 1024 s) (not (eqb len (n * s))) (leb n place) refl refl
-  where
-    go : (o x y : Bool) → not (eqb len (n * s)) ≡ x → leb n place ≡ y → _≡_ {A = ℕ} (cond o 2 (cond x 5 (cond y 10 0))) 0 → place * s + s ≤ len
-    go true x y p q h = absurd (omega arith)
-    go false true y p q h = absurd (omega arith)
-    go false false true p q h = absurd (omega arith)
-    go false false false p q h =
-        let e : len ≡ n * s = eqb-true len (n * s) (not-false _ p) in
-        let l : place < n = leb-false n place q in
-        omega (arith, mul-le-mul-right s l, suc-mul place s)
-
 pub part-given : (n s place : ℕ) (b : List ℕ) → packetRefusal n s place (length b) ≡ 0 → partAt s place b ≡ packetPart n s place b
 part-given n s place b h = go (packetRefusal n s place (length b)) (partAt s place b) h
   where

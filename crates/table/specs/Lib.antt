@@ -9,6 +9,7 @@ pub mod FirstCauseLaws
 pub mod GatherLaws
 pub mod LookOver
 pub mod PacketCall
+pub mod PacketCallLaws
 pub mod PacketLaws
 pub mod Packets
 pub mod SumLaws

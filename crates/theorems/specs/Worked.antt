@@ -6,7 +6,6 @@ use Prim.Native.Nat.{ℕ}
 use Rattle.encoder.specs.Encoding.{encodeRefusal}
 use Rattle.planner.specs.Planning.{planOf, numbersOf, planningRefusal}
 use Rattle.repair.specs.Repair.{repairRefusal}
-use Rattle.rule.specs.Rule.{Plan}
 use Rattle.theorems.specs.Starred.{Case, planned, encoded, mended}
 
 -- the plan of a table with one information place, its fitted places, and the encoding of the byte 1 with g bytes of scratch

@@ -8,7 +8,7 @@ use lib.Dec.{eqb}
 use lib.ListN.{length}
 use mathlib.Core.Bool.{cond}
 use Rattle.table.specs.PacketCall.{packetRefusal, partStart, partLength}
-use Rattle.table.proofs.Calling.{packet-room}
+use Rattle.table.specs.PacketCallLaws.{packet-room}
 use Rattle.receiver.proofs.bs_packet.Statement.{statement}
 use Rattle.receiver.proofs.bs_packet.Tie as tie
 use Rattle.receiver.proofs.bs_packet.Reads as reads

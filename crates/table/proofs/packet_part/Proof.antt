@@ -1,7 +1,8 @@
 -- `packet_part` meets its contract.
 use mathlib.Core.Path.{sym, ap, _∙_}
 use borrow.Author.Needs.{needs}
-use Rattle.table.proofs.Calling.{packet-room, part-given, part-empty, start-given, start-empty}
+use Rattle.table.proofs.Calling.{part-given, part-empty, start-given, start-empty}
+use Rattle.table.specs.PacketCallLaws.{packet-room}
 use Rattle.table.proofs.packet_part.Statement.{statement}
 use Rattle.table.proofs.packet_part.Tie as tie
 
