@@ -3,10 +3,8 @@
 use repair::Repaired;
 use text::Read;
 
-// the most bytes of a block, and of a map: a byte a place
+// the most bytes of a block
 const MOST_BLOCK: usize = 32768;
-
-const MOST_MAP: usize = 1024;
 
 // the refusal of packets that contradict
 const CONTRADICT: u32 = 8;
@@ -51,7 +49,7 @@ fn repair_block(table: &[u16], block: &mut [u8], map: &mut [u8]) {
 
 fn repair_files(table: &[u16]) {
     let mut block = [0u8; MOST_BLOCK];
-    let mut map = [0u8; MOST_MAP];
+    let mut map = [0u8; table::MOST_PLACES];
     let Read::Count(bytes) = text::read_argument(2, &mut block) else {
         return;
     };

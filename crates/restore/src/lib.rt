@@ -1,4 +1,7 @@
 // The core of the receiver: restores lost places. A map byte of 1 is lost, any other is known.
+use table::MOST_CHECKS;
+use table::MOST_PLACES;
+use table::MOST_WORDS;
 use table::wide;
 ghost use mathlib.Core.Path.{_≡_};
 ghost use mathlib.Core.Bool.{true, false};
@@ -126,11 +129,11 @@ pub fn restore_lost(
         × (r .agrees ≡ consistent s (checks (now (t .entry))) (stateOf s n (now (block .exit)) (now (map .exit)) 0))
         ⌝ }
 {
-    let mut count = [0u16; 512];
-    let mut head = [0u16; 1024];
-    let mut next = [0u16; 6661];
-    let mut owner = [0u16; 6661];
-    let mut used = [0u8; 512];
+    let mut count = [0u16; MOST_CHECKS];
+    let mut head = [0u16; MOST_PLACES];
+    let mut next = [0u16; MOST_WORDS];
+    let mut owner = [0u16; MOST_WORDS];
+    let mut used = [0u8; MOST_CHECKS];
     chains::count_all(t, m, n, s, starts, map, &mut count);
     chains::link_all(t, m, n, s, starts, &mut head, &mut next, &mut owner);
     let adds = turns::restore_all(
@@ -189,8 +192,8 @@ pub fn restore_packets(
     requires { ⌜ Accepted (now t) m n s × (length (now block) ≡ n * s) × (length (now map) ≡ n) ⌝ }
     ensures { λ r. ⌜ Mends (now (t .entry)) (now (block .entry)) (now (map .entry)) r (now (block .exit)) (now (map .exit)) ⌝ }
 {
-    let mut starts = [0u16; 512];
-    let mut saved = [0u8; 1024];
+    let mut starts = [0u16; MOST_CHECKS];
+    let mut saved = [0u8; MOST_PLACES];
     table::fill_starts(t, m, &mut starts);
     packets::copy(&mut saved, 0, map, 0, n);
     let before = tally_of(map, 1);

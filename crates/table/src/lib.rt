@@ -23,6 +23,9 @@ pub const MOST_WEIGHT: usize = 64;
 
 pub const MOST_ONES: usize = 6144;
 
+// the most words: 5 + 512 + 6,144
+pub const MOST_WORDS: usize = 6661;
+
 pub fn wide(x: u16) -> usize
     ensures { λ r. ⌜ r ≡ x ⌝ }
 {
