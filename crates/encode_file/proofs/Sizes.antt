@@ -7,7 +7,7 @@ use native.Mathlib.Omega.{arith}
 use lib.ListN.{length, take, replicate, length-replicate}
 use lib.Seq.{length-take-le}
 use Rattle.plan.specs.Layout.{planRefusal, planPlaces, planSize, planGap, infoCount}
-use Rattle.plan.specs.LayoutLaws.{Counted, formed, not-refused}
+use Rattle.plan.specs.LayoutLaws.{Counted, well}
 
 -- of a well-formed plan: information and scratch are no larger than the block
 pub record Sizes (w : List ℕ) : Type 0 where
@@ -18,7 +18,7 @@ pub record Sizes (w : List ℕ) : Type 0 where
 
 pub sizes : (w : List ℕ) → planRefusal w ≡ 0 → Sizes w
 sizes w h =
-    let c : Counted w = formed w (not-refused w h) .counts in
+    let c : Counted w = well w h .counts in
     record {
       long = omega (arith, c .whole);
       block = mul-le-mul (c .few-places) (c .few-bytes);

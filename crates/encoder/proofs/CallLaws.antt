@@ -11,11 +11,11 @@ use Rattle.table.specs.Packets.{joined}
 use Rattle.plan.specs.Layout.{planPlaces, planSize, planGap, infoCount, stepCount, stepsOf}
 use Rattle.plan.specs.Step.{addSteps}
 use Rattle.plan.specs.Steps.{carryOutAll}
+use Rattle.start.specs.Start.{Lent, startOf, slotsIn, PreparedFor}
+use Rattle.start.specs.StartLaws.{slots-length, slots-held, start-alike}
 use Rattle.encoder.specs.Encoding.{slotsAfter, wrongLengths, Answer, encodingRefused, encodeAnswer, blockAfter, scratchAfter}
 use Rattle.encoder.specs.EncodingLaws.{AcceptedEncoding, not-refused-at, refused-answer, refused-keeps-block, refused-keeps-scratch, accepted-answer, accepted-block, accepted-scratch, limit-least}
-use Rattle.encoder.specs.Phases.{Lent, Ran, startOf}
-use Rattle.encoder.specs.Start.{slotsIn, PreparedFor}
-use Rattle.encoder.proofs.StartLaws.{slots-length, slots-held, start-alike}
+use Rattle.encoder.specs.Running.{Ran}
 
 -- packets are few and short
 pub product-small : (a b : ℕ) → a ≤ 1024 → b ≤ 1024 → a * b ≤ 1048576

@@ -1,4 +1,2 @@
 pub mod CallLaws
-pub mod ClearLaws
 pub mod RunLaws
-pub mod StartLaws

@@ -1,22 +1,22 @@
--- The steps of a plan: what a number is decoded to, and a run among them.
-use mathlib.Core.Path.{_≡_, refl, sym, ap, ap₂, _∙_, subst}
+-- The steps of a plan, and a run among them.
+use mathlib.Core.Path.{_≡_, refl, sym, ap, _∙_, subst}
 use mathlib.Core.Bool.{Bool, true, false, cond}
 use mathlib.Core.List.{List, [], _∷_, _++_, append-assoc}
-use mathlib.Core.Option.{Option, some}
-use Prim.Native.Nat.{ℕ, suc, _+_, _-_, _*_, _<_, _≤_}
+use mathlib.Core.Option.{some}
+use Prim.Native.Nat.{ℕ, suc, _+_, _*_, _<_, _≤_}
 use native.Mathlib.Omega.{arith}
-use lib.ListN.{length, getD, take, drop, length-set, length-take, length-drop, length-map, drop-of-length-le, List·getD-map}
-use lib.Seq.{drop-cons, take-suc, take-add, ext-getD, getD-take, getD-drop, length-take-le}
+use lib.ListN.{length, getD, take, drop, length-set, length-take, length-drop, length-map, List·getD-map}
+use lib.Seq.{take-suc, take-add, ext-getD, getD-take, getD-drop, length-take-le}
 use Rattle.plan.specs.declared.Step.{Step}
 use Rattle.plan.specs.declared.Step.the-variants.{Clear, Add}
-use Rattle.plan.specs.Layout.{planPlaces, planGap, infoCount, infoIn, slots, stepCount, stepsOf, planRefusal}
-use Rattle.plan.specs.LayoutLaws.{Formed, Sound, formed, not-refused, steps-length, step-at, step-sound}
+use Rattle.plan.specs.Layout.{planPlaces, planGap, infoIn, slots, stepCount, stepsAt, stepsOf}
+use Rattle.plan.specs.LayoutLaws.{Formed, Sound, steps-length, step-at, step-sound}
 use Rattle.plan.specs.Step.{unpack, SlotsBelow, addSteps}
 use Rattle.plan.specs.Steps.{carryOut, carryOutAll}
 use Rattle.slots.specs.Runs.{stepIn, isClear, targetOf, adding, runSteps, sourcesOf, RunAt}
-use Rattle.slots.specs.RunLaws.{sources-within, sources-are, sources-some}
+use Rattle.slots.specs.RunLaws.{step-there, sources-within, sources-are, sources-some}
 use Rattle.slots.specs.Slots.{RunAmong, Gathers}
-use Rattle.encoder.specs.Phases.{Ran}
+use Rattle.encoder.specs.Running.{Ran}
 use Rattle.slots.specs.GatherLaws.{gathers-all, run-gives}
 use Rattle.slots.specs.SlotLaws.{slot-in, holds-as}
 
@@ -60,77 +60,44 @@ steps-append s st (x ∷ xs) ys = steps-append s (carryOut s st x) xs ys
 pub ran-none : (w : List ℕ) (s : ℕ) (b c : List ℕ) → Ran w s 0 0 b c b c
 ran-none w s b c = record { count = refl; slots = λ st h l. h }
 
-pub well : (w : List ℕ) → planRefusal w ≡ 0 → Formed w
-well w h = formed w (not-refused w h)
-
-some-same : {y z : Step} → _≡_ {A = Option Step} (some y) (some z) → y ≡ z
-some-same r = cc
-
-module _ (w : List ℕ) (f : Formed w) (q : ℕ) (e : q ≡ infoCount w) where
-  -- the number of the i-th step is decoded to it
-  pub step-there : (d : Step) (i : ℕ) → i < stepCount w → stepIn (unpack (getD w (7 + q + i) 0)) ≡ getD (stepsOf w) i d
-  step-there d i h = rw (e, step-at w f d i h)
-
-  module _ (x : Step) where
-    -- its slots are there
-    pub step-below : (i : ℕ) → i < stepCount w → x ≡ stepIn (unpack (getD w (7 + q + i) 0)) → {m : ℕ} → slots w ≤ m → SlotsBelow m x
-    step-below i h is-x {m} le = wider x (rw (is-x ∙ step-there (Clear 0) i h) (step-sound w f (Clear 0) i h .below))
-      where
-        wider : (y : Step) → SlotsBelow (slots w) y → SlotsBelow m y
-        wider (Clear to) b = omega arith
-        wider (Add to from) b = (omega (arith, b .0), omega (arith, b .1))
-
-    -- it stands in front of those from i on
-    pub step-in-front : (steps i : ℕ) → steps ≤ stepCount w → 0 < i → i ≤ steps → x ≡ stepIn (unpack (getD w (7 + q + (i - 1)) 0))
-        → x ∷ drop i (take steps (stepsOf w)) ≡ drop (i - 1) (take steps (stepsOf w))
-    step-in-front steps i all h le is-x =
-        let l = take steps (stepsOf w) in
-        let long = length-take-le steps (stepsOf w) (omega (arith, steps-length w f)) in
-        let j : suc (i - 1) ≡ i = omega arith in
-        ap₂ (λ y (k : ℕ). y ∷ drop k l) (is-x ∙ step-there (Clear 0) (i - 1) (omega arith) ∙ sym (getD-take steps (stepsOf w) (i - 1) (Clear 0) (omega arith))) (sym j)
-        ∙ sym (drop-cons l (i - 1) (Clear 0) (omega arith))
-
-pub no-more-steps : (k : ℕ) (xs : List Step) → drop k (take k xs) ≡ []
-no-more-steps k xs = drop-of-length-le (take k xs) {i = k} (let e = length-take k xs in omega arith)
-
 -- a run as the code finds it: the step x at i clears slot to or adds into it; d steps after it are left out of its add steps
-pub record Found (w : List ℕ) (q i : ℕ) (x : Step) (to : ℕ) (fresh : Bool) (d : ℕ) : Type 0 where
-  pub step : x ≡ stepIn (unpack (getD w (7 + q + i) 0))
+pub record Found (w : List ℕ) (at i : ℕ) (x : Step) (to : ℕ) (fresh : Bool) (d : ℕ) : Type 0 where
+  pub step : x ≡ stepIn (unpack (getD w (at + i) 0))
   pub target : to ≡ targetOf x
   pub clear : fresh ≡ isClear x
   pub skip : d ≡ cond fresh 1 0
 
-pub found : (w : List ℕ) (q i : ℕ) {x : Step} {to : ℕ} {fresh : Bool} {d : ℕ} → x ≡ stepIn (unpack (getD w (7 + q + i) 0)) → to ≡ targetOf x → fresh ≡ isClear x
-    → d ≡ cond fresh 1 0 → Found w q i x to fresh d
-found w q i a b c e = record { step = a; target = b; clear = c; skip = e }
+pub found : (w : List ℕ) (at i : ℕ) {x : Step} {to : ℕ} {fresh : Bool} {d : ℕ} → x ≡ stepIn (unpack (getD w (at + i) 0)) → to ≡ targetOf x → fresh ≡ isClear x
+    → d ≡ cond fresh 1 0 → Found w at i x to fresh d
+found w at i a b c e = record { step = a; target = b; clear = c; skip = e }
 
 pub skip-most : (fresh : Bool) → cond fresh 1 0 ≤ 1
 skip-most true = omega arith
 skip-most false = omega arith
 
-module _ (w : List ℕ) (f : Formed w) (q : ℕ) (e : q ≡ infoCount w) (i last : ℕ) (more : i < last) (all : last ≤ stepCount w)
-    {x : Step} {to : ℕ} {fresh : Bool} {d : ℕ} (r : Found w q i x to fresh d) where
+module _ (w : List ℕ) (f : Formed w) (at : ℕ) (e : at ≡ stepsAt w) (i last : ℕ) (more : i < last) (all : last ≤ stepCount w)
+    {x : Step} {to : ℕ} {fresh : Bool} {d : ℕ} (r : Found w at i x to fresh d) where
   abbrev l : List Step
   l = stepsOf w
 
   abbrev fs : List ℕ
-  fs = sourcesOf w (7 + q + (i + d)) (7 + q + last) to
+  fs = sourcesOf w (at + (i + d)) (at + last) to
 
-  order : 7 + q + (i + d) ≤ 7 + q + last
+  order : at + (i + d) ≤ at + last
   order = omega (arith, r .skip, skip-most fresh)
 
-  inside : 7 + q + last ≤ length w
+  inside : at + last ≤ length w
   inside = let k = f .counts in omega arith
 
   fs-within : i + d + length fs ≤ last
-  fs-within = omega (arith, sources-within w (7 + q + (i + d)) (7 + q + last) to order inside)
+  fs-within = omega (arith, sources-within w (at + (i + d)) (at + last) to order inside)
 
   -- the k-th of the add steps
   adds-at : (y : Step) (k : ℕ) → k < length fs → getD l (i + d + k) y ≡ Add to (getD fs k 0)
   adds-at y k g =
-      let j : 7 + q + (i + d + k) ≡ 7 + q + (i + d) + k = omega arith in
-      sym (step-there w f q e y (i + d + k) (omega (arith, fs-within))) ∙ ap (λ (m : ℕ). stepIn (unpack (getD w m 0))) j
-      ∙ ap stepIn (sources-are w (7 + q + (i + d)) (7 + q + last) to order inside k g)
+      let j : at + (i + d + k) ≡ at + (i + d) + k = omega arith in
+      sym (step-there w f at e y (i + d + k) (omega (arith, fs-within))) ∙ ap (λ (m : ℕ). stepIn (unpack (getD w m 0))) j
+      ∙ ap stepIn (sources-are w (at + (i + d)) (at + last) to order inside k g)
 
   adds-there : take (length fs) (drop (i + d) l) ≡ adding to fs
   adds-there =
@@ -144,7 +111,7 @@ module _ (w : List ℕ) (f : Formed w) (q : ℕ) (e : q ≡ infoCount w) (i last
   sound-at k g = subst (λ y. Sound (slots w) (infoIn w) y) (adds-at (Clear 0) k g) (step-sound w f (Clear 0) (i + d + k) (omega (arith, fs-within)))
 
   x-there : x ≡ getD l i (Clear 0)
-  x-there = r .step ∙ step-there w f q e (Clear 0) i (omega arith)
+  x-there = r .step ∙ step-there w f at e (Clear 0) i (omega arith)
 
   target-below : (y : Step) → SlotsBelow (slots w) y → targetOf y < slots w
   target-below (Clear t) b = b
@@ -158,7 +125,7 @@ module _ (w : List ℕ) (f : Formed w) (q : ℕ) (e : q ≡ infoCount w) (i last
     apart = λ k g z. sound-at k g .apart (sym z);
   }
 
-  pub run-at : (s b c : ℕ) → b ≡ planPlaces w * s → c ≡ planGap w * s → RunAt w (7 + q + (i + d)) (7 + q + last) to (planPlaces w) s b c
+  pub run-at : (s b c : ℕ) → b ≡ planPlaces w * s → c ≡ planGap w * s → RunAt w (at + (i + d)) (at + last) to (planPlaces w) s b c
   run-at s b c lb lc = record {
     order = order;
     inside = inside;
@@ -185,9 +152,9 @@ module _ (w : List ℕ) (f : Formed w) (q : ℕ) (e : q ≡ infoCount w) (i last
         (λ z y. let b : d ≡ 1 = r .skip ∙ rw y in omega arith)
         (λ from z y.
         let b : d ≡ 0 = r .skip ∙ rw y in
-        let j : 7 + infoCount w + i ≡ 7 + q + (i + d) = omega arith in
-        let there : unpack (getD w (7 + q + (i + d)) 0) ≡ some (Add to from) = rw j at (step-at w f (Clear 0) i (omega arith) ∙ ap some (sym x-there ∙ z)) in
-        omega (arith, sources-some w (7 + q + (i + d)) (7 + q + last) to from (omega arith) inside there))
+        let j : stepsAt w + i ≡ at + (i + d) = omega arith in
+        let there : unpack (getD w (at + (i + d)) 0) ≡ some (Add to from) = rw j at (step-at w f (Clear 0) i (omega arith) ∙ ap some (sym x-there ∙ z)) in
+        omega (arith, sources-some w (at + (i + d)) (at + last) to from (omega arith) inside there))
 
     -- the steps with it
     run-there : take (i + d + count) l ≡ take i l ++ runSteps fresh to fs

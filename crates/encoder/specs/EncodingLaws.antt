@@ -16,7 +16,7 @@ use Rattle.table.specs.FirstCause.{firstCause, wrongLength, NoneHolds}
 use Rattle.table.specs.FirstCauseLaws.{none-holds, none-refuses, first-decides, rest-decides}
 use Rattle.table.specs.Packets.{joined}
 use Rattle.plan.specs.Layout.{planPlaces, planSize, planGap, infoCount, stepCount, stepsOf, planCauses, planRefusal}
-use Rattle.plan.specs.LayoutLaws.{formed, not-refused, steps-length, or-left, or-right}
+use Rattle.plan.specs.LayoutLaws.{well, steps-length, or-left, or-right}
 use Rattle.plan.specs.Step.{addSteps}
 use Rattle.encoder.specs.Encoding.{stepsWithin, slotsAfter, wrongLengths, encodeRefusal, Answer, answerAt, encodingRefused, encodeAnswer, blockAfter, scratchAfter}
 
@@ -110,12 +110,12 @@ count-alike w limit i b c i′ b′ c′ h k = count-within w i b c limit h ∙ 
 
 -- a limit at or above the plan's count means all
 pub limit-all : (w : List ℕ) (limit : ℕ) → planRefusal w ≡ 0 → stepCount w ≤ limit → stepsWithin w limit ≡ stepsOf w
-limit-all w limit h l = take-all limit (stepsOf w) (let e = steps-length w (formed w (not-refused w h)) in omega arith)
+limit-all w limit h l = take-all limit (stepsOf w) (let e = steps-length w (well w h) in omega arith)
 
 -- the smaller of limit and count says as much as the limit
 pub limit-least : (w : List ℕ) (limit : ℕ) → planRefusal w ≡ 0 → take (min limit (stepCount w)) (stepsOf w) ≡ stepsWithin w limit
 limit-least w limit h =
-    let e = steps-length w (formed w (not-refused w h)) in
+    let e = steps-length w (well w h) in
     ⊎-elim (λ l. let m : limit ≤ stepCount w = omega arith in ap (λ (k : ℕ). take k (stepsOf w)) (min-eq-left m))
     (λ l. ap (λ (k : ℕ). take k (stepsOf w)) (min-eq-right l) ∙ take-all (stepCount w) (stepsOf w) (omega arith) ∙ sym (limit-all w limit h l))
     (side limit (stepCount w))

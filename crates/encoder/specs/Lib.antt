@@ -1,5 +1,4 @@
 pub mod Answers
 pub mod Encoding
 pub mod EncodingLaws
-pub mod Phases
-pub mod Start
+pub mod Running

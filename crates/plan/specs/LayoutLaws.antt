@@ -234,6 +234,9 @@ formed w h =
 pub not-refused : (w : List ℕ) → planRefusal w ≡ 0 → wellFormed w ≡ true
 not-refused w h = byBool (wellFormed w) (λ e. e) (λ e. let z : _≡_ {A = ℕ} 9 0 = rw e at h in absurd (omega arith))
 
+pub well : (w : List ℕ) → planRefusal w ≡ 0 → Formed w
+well w h = formed w (not-refused w h)
+
 pub refused : (w : List ℕ) → (planRefusal w ≡ 0 → ⊥) → planRefusal w ≡ 9
 refused w h = byBool (wellFormed w) (λ e. absurd (h (rw e))) (λ e. rw e)
 

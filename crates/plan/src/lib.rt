@@ -74,7 +74,7 @@ pub const MOST_ASIDE: usize = 32;
 pub const MOST_STEPS: usize = 13344;
 
 // places and scratch slots
-const MOST_SLOTS: usize = MOST_PLACES + MOST_ASIDE;
+pub const MOST_SLOTS: usize = MOST_PLACES + MOST_ASIDE;
 
 // ---- the layout
 // the first number: how many follow it in the first section

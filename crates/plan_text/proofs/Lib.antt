@@ -1,3 +1,2 @@
-pub mod Counts
 pub mod Rests
 pub mod Turns

@@ -8,14 +8,15 @@ use lib.ListN.{length, getD, length-append}
 use Rattle.plan.specs.declared.Step.{Step}
 use Rattle.plan.specs.declared.Step.the-variants.{Clear, Add}
 use Rattle.plan.specs.Step.{addSteps, stepOf, unpack, unpackAll}
-use Rattle.plan.specs.Layout.{planPlaces, planSize, planGap, planKept, planRefusal, infoIn, stepsIn, stepsOf}
-use Rattle.plan.specs.LayoutLaws.{formed, not-refused, info-length, info-below, steps-in, steps-length}
+use Rattle.table.specs.Table.{mostPlaces, mostBytes, mostChecks, mostOnes}
+use Rattle.plan.specs.Layout.{mostAside, planPlaces, planSize, planGap, planKept, planRefusal, infoIn, stepsIn, stepsOf}
+use Rattle.plan.specs.LayoutLaws.{well, info-length, info-below, steps-in, steps-length}
 use Rattle.text.specs.Lines.{decimal, wordsAfterBlanks}
 use Rattle.text.specs.LinesLaws.{decimal-few, decimal-most}
 use Rattle.plan_text.specs.PlanText.{heading, stepLines, numberText, refusedLine, planTextOf, mostText}
 
 -- ---- the longest lines
-heading-most : (n s M W g : ℕ) → n ≤ 1024 → s ≤ 1024 → M ≤ 512 → W ≤ 6144 → g ≤ 32 → length (heading n s M W g) ≤ 48
+heading-most : (n s M W g : ℕ) → n ≤ mostPlaces → s ≤ mostBytes → M ≤ mostChecks → W ≤ mostOnes → g ≤ mostAside → length (heading n s M W g) ≤ 48
 heading-most n s M W g a b c d e =
     let n4 = decimal-few 3 n (omega arith) in
     let s4 = decimal-few 3 s (omega arith) in
@@ -58,9 +59,9 @@ adds-few (Clear to ∷ xs) = let h = adds-few xs in omega arith
 adds-few (Add to from ∷ xs) = let h = adds-few xs in omega arith
 
 -- ---- a well-formed plan
-pub plan-most : (w : List ℕ) (W : ℕ) → planRefusal w ≡ 0 → W ≤ 6144 → length (planTextOf w W) ≤ mostText
+pub plan-most : (w : List ℕ) (W : ℕ) → planRefusal w ≡ 0 → W ≤ mostOnes → length (planTextOf w W) ≤ mostText
 plan-most w W h few =
-    let f = formed w (not-refused w h) in
+    let f = well w h in
     let c = f .counts in
     let i = info-length w f in
     let head = heading-most (planPlaces w) (planSize w) (planKept w) W (planGap w) (c .few-places) (c .few-bytes) (c .few-kept) few (c .few-aside) in

@@ -105,7 +105,7 @@ fn put_steps(out: &mut [u8], at: usize, plan: &[u32]) -> usize
     ensures { λ r. ⌜ Appended (now (out .entry)) at (stepLines (stepsOf (now (plan .entry)))) (now (out .exit)) r ⌝ }
 {
     let mut end = at;
-    let mut i = 7 + plan::info_count(plan);
+    let mut i = plan::steps_at(plan);
     while i < plan.len() {
         end = put_number(out, end, plan[i]);
         i += 1;

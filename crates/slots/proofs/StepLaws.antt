@@ -16,7 +16,7 @@ use Rattle.plan.specs.declared.Step.the-variants.{Clear, Add}
 use Rattle.plan.specs.Step.{unpack, decodedOf}
 use Rattle.plan.specs.StepLaws.{unpack-slots}
 use Rattle.slots.specs.RunLaws.{sources-next, sources-past}
-use Rattle.slots.specs.Runs.{stepIn, sourceInto, sourceBefore, sourcesOf, Listed}
+use Rattle.slots.specs.Runs.{noSlot, stepIn, sourceInto, sourceBefore, sourcesOf, Listed}
 use Rattle.slots.specs.Slots.{RunIn, Gathers}
 
 -- ---- what decoding tells
@@ -29,20 +29,20 @@ decoded-invalid none h = refl
 decoded-invalid (some y) h = absurd (let z : _≡_ {A = ℕ} 0 1 = cc in omega arith)
 
 -- ---- the source of a number
-source-some : (x : Step) (to : ℕ) (fs : List ℕ) → sourceInto x to < 4096 → sourceBefore x to fs ≡ sourceInto x to ∷ fs
+source-some : (x : Step) (to : ℕ) (fs : List ℕ) → sourceInto x to < noSlot → sourceBefore x to fs ≡ sourceInto x to ∷ fs
 source-some (Clear t) to fs h = absurd (omega arith)
 source-some (Add t from) to fs h = byBool (eqb t to)
     (λ e. rw e)
-    (λ e. absurd (let z : cond (eqb t to) from 4096 ≡ 4096 = rw e in omega arith))
+    (λ e. absurd (let z : cond (eqb t to) from noSlot ≡ noSlot = rw e in omega arith))
 
-source-none : (w to : ℕ) (fs : List ℕ) → 4096 ≤ sourceInto (stepIn (unpack w)) to → sourceBefore (stepIn (unpack w)) to fs ≡ []
+source-none : (w to : ℕ) (fs : List ℕ) → noSlot ≤ sourceInto (stepIn (unpack w)) to → sourceBefore (stepIn (unpack w)) to fs ≡ []
 source-none w to fs h = go (unpack w) refl h
   where
-    go : (o : Option Step) → unpack w ≡ o → 4096 ≤ sourceInto (stepIn o) to → sourceBefore (stepIn o) to fs ≡ []
+    go : (o : Option Step) → unpack w ≡ o → noSlot ≤ sourceInto (stepIn o) to → sourceBefore (stepIn o) to fs ≡ []
     go none e l = refl
     go (some (Clear t)) e l = refl
     go (some (Add t from)) e l = byBool (eqb t to)
-        (λ z. absurd (let y : cond (eqb t to) from 4096 ≡ from = rw z in omega (arith, unpack-slots w (Add t from) e .1)))
+        (λ z. absurd (let y : cond (eqb t to) from noSlot ≡ from = rw z in omega (arith, unpack-slots w (Add t from) e .1)))
         (λ z. rw z)
 
 -- ---- the sources of a run, of which m are passed
@@ -69,11 +69,11 @@ module _ (w : List ℕ) (first end to m : ℕ) (inside : end ≤ length w) (p : 
   passed-end h = no-more (sourcesOf w first end to) m (p .few) (p .left ∙ sources-past w (first + m) end to h)
 
   module _ (more : first + m < end) (v : ℕ) (is-v : v ≡ sourceInto (stepIn (unpack (getD w (first + m) 0))) to) where
-    pub passed-stop : 4096 ≤ v → m ≡ length (sourcesOf w first end to)
+    pub passed-stop : noSlot ≤ v → m ≡ length (sourcesOf w first end to)
     passed-stop h = no-more (sourcesOf w first end to) m (p .few)
         (p .left ∙ sources-next w (first + m) end to more inside ∙ source-none (getD w (first + m) 0) to (sourcesOf w (first + m + 1) end to) (rw is-v at h))
 
-    pub passed-next : v < 4096 → Next w first end to m v
+    pub passed-next : v < noSlot → Next w first end to m v
     passed-next h =
         let fs = sourcesOf w first end to in
         let rest = sourcesOf w (first + m + 1) end to in

@@ -1,4 +1,4 @@
--- The sources of a run: the steps that they belong to.
+-- What a plan's numbers are decoded to, and the sources of a run: the steps that they belong to.
 use mathlib.Core.Path.{_≡_, refl, sym, ap, ap₂, _∙_}
 use mathlib.Core.Bool.{cond}
 use mathlib.Core.List.{List, [], _∷_}
@@ -13,9 +13,16 @@ use Rattle.lists.specs.Tests.{byBool}
 use Rattle.lists.specs.Buffers.{part-length, getD-part}
 use Rattle.plan.specs.declared.Step.{Step}
 use Rattle.plan.specs.declared.Step.the-variants.{Clear, Add}
+use Rattle.plan.specs.Layout.{stepCount, stepsAt, stepsOf}
+use Rattle.plan.specs.LayoutLaws.{Formed, step-at}
 use Rattle.plan.specs.Step.{unpack}
 use Rattle.slots.specs.Runs.{stepIn, sourceBefore, sourcesIn, sourcesOf}
 
+-- the number of a well-formed plan's i-th step is decoded to it
+pub step-there : (w : List ℕ) → Formed w → (at : ℕ) → at ≡ stepsAt w → (d : Step) (i : ℕ) → i < stepCount w → stepIn (unpack (getD w (at + i) 0)) ≡ getD (stepsOf w) i d
+step-there w f at e d i h = rw (e, step-at w f d i h)
+
+-- ---- sources
 -- no more than numbers
 before-few : (x : Step) (to : ℕ) (fs : List ℕ) → length (sourceBefore x to fs) ≤ suc (length fs)
 before-few (Clear t) to fs = omega arith

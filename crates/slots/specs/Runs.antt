@@ -25,10 +25,14 @@ abbrev pub targetOf : Step → ℕ
 targetOf (Clear to) = to
 targetOf (Add to from) = to
 
--- the slot that is added into slot to; 4,096, which is none, for a step that adds nothing there
+-- a number that is no slot's: slots are below it
+abbrev pub noSlot : ℕ
+noSlot = 4096
+
+-- the slot that is added into slot to; no slot, for a step that adds nothing there
 abbrev pub sourceInto : Step → ℕ → ℕ
-sourceInto (Clear t) to = 4096
-sourceInto (Add t from) to = cond (eqb t to) from 4096
+sourceInto (Clear t) to = noSlot
+sourceInto (Add t from) to = cond (eqb t to) from noSlot
 
 -- the steps of a run: a clear of slot to, or none, and then add steps from the slots fs into it
 abbrev pub adding : ℕ → List ℕ → List Step

@@ -10,6 +10,9 @@ ghost use Rattle.plan.specs.Step.{unpack};
 ghost use Rattle.slots.specs.Runs.{stepIn, isClear, targetOf, sourceInto, sourcesOf, RunAt, Listed};
 ghost use Rattle.slots.specs.Slots.{SlotIn, SlotsIn, PartAdded, PartsAdded, PartPut, BaseAdded, RunIn, Gathers};
 
+// A number that is no slot's.
+const NO_SLOT: usize = Step::SLOT as usize;
+
 // ---- steps
 
 // The step that a plan number is decoded to.
@@ -41,17 +44,17 @@ pub fn target(x: Step) -> usize
     }
 }
 
-// The slot that it adds into slot to; 4,096, which is none, if it adds nothing there.
+// The slot that it adds into slot to; NO_SLOT if it adds nothing there.
 fn source_into(x: Step, to: usize) -> usize
     ensures { λ r. ⌜ r ≡ sourceInto x to ⌝ }
 {
     match x {
-        Step::Clear(_) => Step::SLOT as usize,
+        Step::Clear(_) => NO_SLOT,
         Step::Add(t, from) => {
             if t == to {
                 return from;
             }
-            Step::SLOT as usize
+            NO_SLOT
         }
     }
 }
@@ -278,7 +281,7 @@ fn collect(
     let mut count = 0;
     while count < most {
         let from = source_into(decode(plan[first + count]), to);
-        if from >= 4096 {
+        if from >= NO_SLOT {
             return count;
         }
         sources[count] = from as u16;

@@ -7,12 +7,12 @@ use native.Mathlib.Omega.{arith}
 use borrow.Author.Tests.{lt-ltb, le-ltb, le-leb, ne-eqb, eq-eqb}
 use lib.ListN.{length}
 use Rattle.lists.specs.Lists.{allPass, All, All.nil, All.cons}
-use Rattle.table.specs.Table.{places, size, checks, refusal, outside, rising}
+use Rattle.table.specs.Table.{mostPlaces, mostBytes, mostChecks, places, size, checks, refusal, outside, rising}
 use Rattle.table.specs.TableLaws.{Good, accepted}
 use Rattle.plan.specs.Step.{unpack, unpackAll}
 use Rattle.plan.specs.LayoutLaws.{Sound}
 use Rattle.plan.specs.ReadBack.{numbers-length, info-back, count-back, steps-back, packed-good, packed-back}
-use Rattle.plan.specs.Layout.{badCounts, goodStep, wellFormed, planRefusal, infoIn, stepsOf, stepCount, infoCount, mostAside}
+use Rattle.plan.specs.Layout.{mostAside, mostSteps, leastNumbers, infoCount, infoIn, stepCount, stepsAt, stepsOf, badCounts, goodStep, wellFormed, planRefusal}
 use Rattle.rule.specs.Rule.{Plan}
 use Rattle.rule.specs.WellFormed.{well-formed, info-low}
 use Rattle.rule.specs.Info.{info-number, kept-few}
@@ -64,7 +64,7 @@ module _ (t : List ℕ) (ok : refusal t ≡ 0) (few : planOf t .g ≤ mostAside)
   unfolding planOf numbersOf
   own-count = count-back n (size t) (P .g) (P .M) (P .info) (P .steps)
 
-  pub own-length : length (numbersOf t) ≡ 7 + length (P .info) + length (P .steps)
+  pub own-length : length (numbersOf t) ≡ leastNumbers + length (P .info) + length (P .steps)
   unfolding planOf numbersOf
   own-length = numbers-length n (size t) (P .g) (P .M) (P .info) (P .steps)
 
@@ -85,18 +85,18 @@ module _ (t : List ℕ) (ok : refusal t ≡ 0) (few : planOf t .g ≤ mostAside)
       let l = kept-length n (checks t) in
       let f = aside-few n (checks t) (good .distinct) (good .low) in
       let m = steps-limit n (checks t) (good .distinct) (good .low) (good .few-ones) few in
-      or-no (le-ltb (length (numbersOf t)) 7 (omega arith))
+      or-no (le-ltb (length (numbersOf t)) leastNumbers (omega arith))
       (or-no refl
-      (or-no (within 1024 n (good .some-places) (good .few-places))
-      (or-no (within 1024 (size t) (good .some-bytes) (good .few-bytes))
-      (or-no (le-ltb 32 (P .g) few)
+      (or-no (within mostPlaces n (good .some-places) (good .few-places))
+      (or-no (within mostBytes (size t) (good .some-bytes) (good .few-bytes))
+      (or-no (le-ltb mostAside (P .g) few)
       (or-no (le-ltb (P .M) (P .g) f)
       (or-no (le-ltb n (P .M) k)
-      (or-no (le-ltb 512 (P .M) (omega arith))
+      (or-no (le-ltb mostChecks (P .M) (omega arith))
       (or-no (ap not (eq-eqb (length (P .info)) (n - P .M) c))
-      (or-no (le-ltb (length (numbersOf t)) (7 + length (P .info)) (omega arith))
-      (or-no (le-ltb 13344 (stepCount (numbersOf t)) (omega arith))
-      (ap not (eq-eqb (length (numbersOf t)) (7 + length (P .info) + stepCount (numbersOf t)) (omega arith)))))))))))))
+      (or-no (le-ltb (length (numbersOf t)) (stepsAt (numbersOf t)) (omega arith))
+      (or-no (le-ltb mostSteps (stepCount (numbersOf t)) (omega arith))
+      (ap not (eq-eqb (length (numbersOf t)) (stepsAt (numbersOf t) + stepCount (numbersOf t)) (omega arith)))))))))))))
 
   -- "the planner's own plan is well-formed"
   pub own-well-formed : wellFormed (numbersOf t) ≡ true

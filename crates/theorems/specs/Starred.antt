@@ -3,6 +3,7 @@ use mathlib.Core.Path.{_≡_, refl}
 use mathlib.Core.List.{List, [], _∷_, map}
 use Prim.Native.Nat.{ℕ, _+_, _-_, _*_}
 use lib.ListN.{length}
+use Rattle.plan.specs.Layout.{mostSteps}
 use Rattle.plan.specs.Step.{addSteps}
 use Rattle.planner.specs.Planning.{planOf, numbersOf, planningRefusal, leastPlan, workWords}
 use Rattle.encoder.specs.Encoding.{encodeRefusal, encodeAnswer, blockAfter}
@@ -39,8 +40,8 @@ planned t = planning t ∷ planOf t .own ∷ planOf t .info ∷ (planOf t .M ∷
 
 -- planning and then encoding to the last step: the planner's refusal, the encoder's and its additions, and the block
 abbrev pub encoded : List ℕ → List ℕ → List ℕ → List ℕ → List (List ℕ)
-encoded t information buffer scratch = let r = encodeAnswer (numbersOf t) information buffer scratch 13344 in
-    planning t ∷ (r .refusal ∷ r .additions ∷ []) ∷ blockAfter (numbersOf t) information buffer scratch 13344 ∷ []
+encoded t information buffer scratch = let r = encodeAnswer (numbersOf t) information buffer scratch mostSteps in
+    planning t ∷ (r .refusal ∷ r .additions ∷ []) ∷ blockAfter (numbersOf t) information buffer scratch mostSteps ∷ []
 
 -- repair: refusal, restored, still lost and additions, the block and the map
 abbrev pub mended : List ℕ → List ℕ → List ℕ → List (List ℕ)

@@ -6,7 +6,7 @@ use lib.ListN.{length}
 use Rattle.plan.specs.Layout.{stepCount, planRefusal}
 use Rattle.encoder.specs.EncodingLaws.{refused-plan, refused-lengths, right-lengths}
 use Rattle.encoder.proofs.CallLaws.{lent, refused-call, accepted-call}
-use Rattle.encoder.proofs.RunLaws.{well}
+use Rattle.plan.specs.LayoutLaws.{well}
 use borrow.Author.Needs.{needs}
 use native.Mathlib.Omega.{arith}
 use Rattle.encoder.proofs.encode.Statement.{statement}

@@ -3,8 +3,9 @@ use Prim.Native.Nat.{ℕ, _-_, _<_, _≤_}
 use mathlib.Core.Path.{_≡_, refl, _∙_}
 use lib.ListN.{length, length-replicate}
 use Rattle.plan.specs.Layout.{stepCount, stepsOf}
-use Rattle.encoder.specs.Phases.{Ran}
-use Rattle.encoder.proofs.RunLaws.{well, adds-within, ran-none, skip-most, found, run-at, run-within, run-goes, ran-run}
+use Rattle.encoder.specs.Running.{Ran}
+use Rattle.plan.specs.LayoutLaws.{well}
+use Rattle.encoder.proofs.RunLaws.{adds-within, ran-none, skip-most, found, run-at, run-within, run-goes, ran-run}
 use borrow.Author.Needs.{needs}
 use native.Mathlib.Omega.{arith}
 use Rattle.encoder.proofs.run.Statement.{statement}
@@ -21,11 +22,8 @@ abbrev μ-loop : tie.MeasureT-loop
 places-requires : tie.Need-places-requires Inv-loop μ-loop
 places-requires c κs = let k = well (c .before .before .before .args .plan .now) (c .before .before .before .pre .0 .formed) .counts in omega arith
 
-info-count-requires : tie.Need-info-count-requires Inv-loop μ-loop
-info-count-requires c κs = let k = well (c .before .before .before .before .args .plan .now) (c .before .before .before .before .pre .0 .formed) .counts in omega arith
-
-add-at : tie.Need-add-at Inv-loop μ-loop
-add-at c = let k = well (c .before .before .before .before .before .args .plan .now) (c .before .before .before .before .before .pre .0 .formed) .counts in omega arith
+steps-at-requires : tie.Need-steps-at-requires Inv-loop μ-loop
+steps-at-requires c κs = let k = well (c .before .before .before .before .args .plan .now) (c .before .before .before .before .pre .0 .formed) .counts in omega arith
 
 loop-holds : tie.Need-loop-holds Inv-loop μ-loop
 loop-holds c = (ran-none _ _ _ _, omega arith, refl, refl, length-replicate {A = ℕ} 64 0)
@@ -39,7 +37,7 @@ mul-decode c = let k = well (c .before .before .before .before .before .before .
 shared-slice-read-decode : tie.Need-shared-slice-read-decode Inv-loop μ-loop
 shared-slice-read-decode c =
     let k = well (c .before .before .before .before .before .before .before .before .args .plan .now) (c .before .before .before .before .before .before .before .before .pre .0 .formed) .counts in
-    let e = c .before .before .before .info-count .ensures in
+    let e = c .before .before .before .steps-at .ensures in
     omega arith
 
 decode-requires : tie.Need-decode-requires Inv-loop μ-loop
@@ -78,7 +76,7 @@ add-run-requires c κs =
     let p = c .before .before .before .before .before .before .before .before .before .before .before .before .before .before .before .before .pre in
     let w = a .plan .now in
     let l = c .before .before .before .before .before .before .before .before .before .before .loop in
-    let q = c .before .before .before .before .before .before .before .before .before .before .before .info-count in
+    let q = c .before .before .before .before .before .before .before .before .before .before .before .steps-at in
     let last = c .before .before .before .within in
     let r = found w (q .result) (l .i) (c .before .before .before .before .before .before .before .decode .ensures) (c .before .before .before .before .before .before .target .ensures) (c .before .before .before .before .before .is-clear .ensures) (c .before .before .before .before .skipped .ensures) in
     let more : l .i < last .result = omega (arith, last .ensures, c .before .before .before .before .before .before .before .before .before .loop-test .taken) in
@@ -95,7 +93,7 @@ cast-additions c =
     let w = a .plan .now in
     let f = well w (p .0 .formed) in
     let l = c .before .before .before .before .before .before .before .before .before .before .before .before .before .before .before .before .loop in
-    let q = c .before .before .before .before .before .before .before .before .before .before .before .before .before .before .before .before .before .info-count in
+    let q = c .before .before .before .before .before .before .before .before .before .before .before .before .before .before .before .before .before .steps-at in
     let last = c .before .before .before .before .before .before .before .before .before .within in
     let r = found w (q .result) (l .i) (c .before .before .before .before .before .before .before .before .before .before .before .before .before .decode .ensures) (c .before .before .before .before .before .before .before .before .before .before .before .before .target .ensures) (c .before .before .before .before .before .before .before .before .before .before .before .is-clear .ensures) (c .before .before .before .before .before .before .before .before .before .before .skipped .ensures) in
     let more : l .i < last .result = omega (arith, last .ensures, c .before .before .before .before .before .before .before .before .before .before .before .before .before .before .before .loop-test .taken) in
@@ -111,7 +109,7 @@ add-additions c =
     let w = a .plan .now in
     let f = well w (p .0 .formed) in
     let l = c .before .before .before .before .before .before .before .before .before .before .before .before .before .before .before .before .loop in
-    let q = c .before .before .before .before .before .before .before .before .before .before .before .before .before .before .before .before .before .info-count in
+    let q = c .before .before .before .before .before .before .before .before .before .before .before .before .before .before .before .before .before .steps-at in
     let last = c .before .before .before .before .before .before .before .before .before .within in
     let r = found w (q .result) (l .i) (c .before .before .before .before .before .before .before .before .before .before .before .before .before .decode .ensures) (c .before .before .before .before .before .before .before .before .before .before .before .before .target .ensures) (c .before .before .before .before .before .before .before .before .before .before .before .is-clear .ensures) (c .before .before .before .before .before .before .before .before .before .before .skipped .ensures) in
     let more : l .i < last .result = omega (arith, last .ensures, c .before .before .before .before .before .before .before .before .before .before .before .before .before .before .before .loop-test .taken) in
@@ -127,7 +125,7 @@ add-i c =
     let w = a .plan .now in
     let f = well w (p .0 .formed) in
     let l = c .before .before .before .before .before .before .before .before .before .before .before .before .before .before .before .before .loop in
-    let q = c .before .before .before .before .before .before .before .before .before .before .before .before .before .before .before .before .before .info-count in
+    let q = c .before .before .before .before .before .before .before .before .before .before .before .before .before .before .before .before .before .steps-at in
     let last = c .before .before .before .before .before .before .before .before .before .within in
     let r = found w (q .result) (l .i) (c .before .before .before .before .before .before .before .before .before .before .before .before .before .decode .ensures) (c .before .before .before .before .before .before .before .before .before .before .before .before .target .ensures) (c .before .before .before .before .before .before .before .before .before .before .before .is-clear .ensures) (c .before .before .before .before .before .before .before .before .before .before .skipped .ensures) in
     let more : l .i < last .result = omega (arith, last .ensures, c .before .before .before .before .before .before .before .before .before .before .before .before .before .before .before .loop-test .taken) in
@@ -143,7 +141,7 @@ loop-less c =
     let w = a .plan .now in
     let f = well w (p .0 .formed) in
     let l = c .before .before .before .before .before .before .before .before .before .before .before .before .before .before .before .before .loop in
-    let q = c .before .before .before .before .before .before .before .before .before .before .before .before .before .before .before .before .before .info-count in
+    let q = c .before .before .before .before .before .before .before .before .before .before .before .before .before .before .before .before .before .steps-at in
     let last = c .before .before .before .before .before .before .before .before .before .within in
     let r = found w (q .result) (l .i) (c .before .before .before .before .before .before .before .before .before .before .before .before .before .decode .ensures) (c .before .before .before .before .before .before .before .before .before .before .before .before .target .ensures) (c .before .before .before .before .before .before .before .before .before .before .before .is-clear .ensures) (c .before .before .before .before .before .before .before .before .before .before .skipped .ensures) in
     let more : l .i < last .result = omega (arith, last .ensures, c .before .before .before .before .before .before .before .before .before .before .before .before .before .before .before .loop-test .taken) in
@@ -158,7 +156,7 @@ loop-again c =
     let w = a .plan .now in
     let f = well w (p .0 .formed) in
     let l = c .before .before .before .before .before .before .before .before .before .before .before .before .before .before .before .before .loop in
-    let q = c .before .before .before .before .before .before .before .before .before .before .before .before .before .before .before .before .before .info-count in
+    let q = c .before .before .before .before .before .before .before .before .before .before .before .before .before .before .before .before .before .steps-at in
     let last = c .before .before .before .before .before .before .before .before .before .within in
     let r = found w (q .result) (l .i) (c .before .before .before .before .before .before .before .before .before .before .before .before .before .decode .ensures) (c .before .before .before .before .before .before .before .before .before .before .before .before .target .ensures) (c .before .before .before .before .before .before .before .before .before .before .before .is-clear .ensures) (c .before .before .before .before .before .before .before .before .before .before .skipped .ensures) in
     let more : l .i < last .result = omega (arith, last .ensures, c .before .before .before .before .before .before .before .before .before .before .before .before .before .before .before .loop-test .taken) in
@@ -187,8 +185,7 @@ run-spec =
     Inv-loop
     μ-loop
     places-requires
-    info-count-requires
-    add-at
+    steps-at-requires
     loop-holds
     add-decode
     mul-decode

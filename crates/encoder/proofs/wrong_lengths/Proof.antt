@@ -1,5 +1,5 @@
 -- `encoder::wrong_lengths` meets its contract: the three lengths in order.
-use Rattle.encoder.proofs.RunLaws.{well}
+use Rattle.plan.specs.LayoutLaws.{well}
 use Rattle.encoder.proofs.CallLaws.{product-small, lengths-information, lengths-block, lengths-scratch}
 use mathlib.Core.Bool.{not}
 use lib.Dec.{eqb}

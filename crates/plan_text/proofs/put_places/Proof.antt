@@ -5,10 +5,9 @@ use native.Mathlib.Omega.{arith}
 use borrow.Author.Needs.{needs}
 use lib.ListN.{drop}
 use Rattle.plan.specs.Layout.{infoCount, infoIn}
-use Rattle.plan.specs.LayoutLaws.{info-length}
+use Rattle.plan.specs.LayoutLaws.{well, info-length}
 use Rattle.text.specs.Lines.{bytes, decimal, wordsAfterBlanks}
 use Rattle.text.specs.LinesLaws.{Left, left-all, left-room, left-next, left-last}
-use Rattle.plan_text.proofs.Counts.{counts-of}
 use Rattle.plan_text.proofs.Turns.{next-place, last-place}
 use Rattle.plan_text.proofs.put_places.Statement.{statement}
 use Rattle.plan_text.proofs.put_places.Tie as tie
@@ -24,24 +23,24 @@ loop-holds : tie.Need-loop-holds Inv-loop μ-loop
 loop-holds c = (omega arith, left-all _ _ _ (c .before .before .pre .1))
 
 info-count-requires : tie.Need-info-count-requires Inv-loop μ-loop
-info-count-requires c κs = let f = counts-of (c .before .before .before .args .plan .now) (c .before .before .before .pre .0) .counts in omega (arith, f .whole, f .info, f .few-places)
+info-count-requires c κs = let f = well (c .before .before .before .args .plan .now) (c .before .before .before .pre .0) .counts in omega (arith, f .whole, f .info, f .few-places)
 
 slice-aggregate-put-count : tie.Need-slice-aggregate-put-count Inv-loop μ-loop
 slice-aggregate-put-count c = search needs
 
 info-place-requires : tie.Need-info-place-requires Inv-loop μ-loop
-info-place-requires c κs = let f = counts-of (c .before .before .before .before .before .before .before .args .plan .now) (c .before .before .before .before .before .before .before .pre .0) .counts in omega (arith, f .whole, f .info, f .few-places, c .before .before .before .info-count .ensures)
+info-place-requires c κs = let f = well (c .before .before .before .before .before .before .before .args .plan .now) (c .before .before .before .before .before .before .before .pre .0) .counts in omega (arith, f .whole, f .info, f .few-places, c .before .before .before .info-count .ensures)
 
 put-count-requires : tie.Need-put-count-requires Inv-loop μ-loop
 put-count-requires c κs =
     let w = c .before .before .before .before .before .before .before .before .args .plan .now in
-    let l = info-length w (counts-of w (c .before .before .before .before .before .before .before .before .pre .0)) in
+    let l = info-length w (well w (c .before .before .before .before .before .before .before .before .pre .0)) in
     let s = c .before .before .before .before .before .loop in
     left-room (bytes " " ++ decimal (c .info-place .result)) _
     (next-place (infoIn w) (s .k) (c .info-place .result) (omega (arith, c .before .before .before .before .info-count .ensures)) (c .info-place .ensures) (s .inv .1))
 
 add-k : tie.Need-add-k Inv-loop μ-loop
-add-k c = let f = counts-of (c .before .before .before .before .before .before .before .before .before .before .before .args .plan .now) (c .before .before .before .before .before .before .before .before .before .before .before .pre .0) .counts in omega (arith, f .info, f .few-places)
+add-k c = let f = well (c .before .before .before .before .before .before .before .before .before .before .before .args .plan .now) (c .before .before .before .before .before .before .before .before .before .before .before .pre .0) .counts in omega (arith, f .info, f .few-places)
 
 loop-less : tie.Need-loop-less Inv-loop μ-loop
 loop-less c = omega (arith, c .before .before .before .before .before .before .before .info-count .ensures)
@@ -49,7 +48,7 @@ loop-less c = omega (arith, c .before .before .before .before .before .before .b
 loop-again : tie.Need-loop-again Inv-loop μ-loop
 loop-again c =
     let w = c .before .before .before .before .before .before .before .before .before .before .before .args .plan .now in
-    let l = info-length w (counts-of w (c .before .before .before .before .before .before .before .before .before .before .before .pre .0)) in
+    let l = info-length w (well w (c .before .before .before .before .before .before .before .before .before .before .before .pre .0)) in
     let s = c .before .before .before .before .before .before .before .before .loop in (
       omega (arith, c .before .before .before .before .before .before .before .info-count .ensures),
       left-next (wordsAfterBlanks (map decimal (drop (s .k + 1) (infoIn w)))) (c .before .before .put-count .ensures)
@@ -62,7 +61,7 @@ slice-aggregate-put c = search needs
 put-requires : tie.Need-put-requires Inv-loop μ-loop
 put-requires c κs =
     let w = c .before .before .before .before .before .before .before .args .plan .now in
-    let n = info-length w (counts-of w (c .before .before .before .before .before .before .before .pre .0)) in
+    let n = info-length w (well w (c .before .before .before .before .before .before .before .pre .0)) in
     let s = c .before .before .before .before .loop in
     last-place (infoIn w) (s .k) (omega (arith, c .before .before .before .info-count .ensures)) (s .inv .1) .room
 
@@ -72,7 +71,7 @@ same-length c = omega (arith, c .before .before .before .before .before .before 
 returns : tie.Need-returns Inv-loop μ-loop
 returns c =
     let w = c .before .before .before .before .before .before .before .before .before .before .args .plan .now in
-    let n = info-length w (counts-of w (c .before .before .before .before .before .before .before .before .before .before .pre .0)) in
+    let n = info-length w (well w (c .before .before .before .before .before .before .before .before .before .before .pre .0)) in
     let s = c .before .before .before .before .before .before .before .loop in
     left-last (last-place (infoIn w) (s .k) (omega (arith, c .before .before .before .before .before .before .info-count .ensures)) (s .inv .1)) (c .before .before .put .ensures)
 

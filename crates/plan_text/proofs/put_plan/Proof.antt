@@ -9,22 +9,22 @@ use Rattle.plan.specs.Layout.{planPlaces, planSize, planGap, planKept, infoIn, 
 use Rattle.text.specs.Lines.{decimal}
 use Rattle.text.specs.LinesLaws.{left-all, left-room, left-next, left-last, same-word}
 use Rattle.plan_text.specs.PlanText.{heading, planTextOf, infoLine, stepLines, addsLine}
-use Rattle.plan_text.proofs.Counts.{counts-of}
+use Rattle.plan.specs.LayoutLaws.{well}
 use Rattle.plan_text.proofs.Rests.{fromInfo, fromSteps, fromAdds, same-heading}
 use Rattle.plan_text.proofs.put_plan.Statement.{statement}
 use Rattle.plan_text.proofs.put_plan.Tie as tie
 
 places-requires : tie.Need-places-requires
-places-requires c κs = let f = counts-of (c .before .before .before .args .plan .now) (c .before .before .before .pre .0) .counts in omega (arith, f .whole)
+places-requires c κs = let f = well (c .before .before .before .args .plan .now) (c .before .before .before .pre .0) .counts in omega (arith, f .whole)
 
 size-requires : tie.Need-size-requires
-size-requires c κs = let f = counts-of (c .before .before .before .before .args .plan .now) (c .before .before .before .before .pre .0) .counts in omega (arith, f .whole)
+size-requires c κs = let f = well (c .before .before .before .before .args .plan .now) (c .before .before .before .before .pre .0) .counts in omega (arith, f .whole)
 
 kept-requires : tie.Need-kept-requires
-kept-requires c κs = let f = counts-of (c .before .before .before .before .before .args .plan .now) (c .before .before .before .before .before .pre .0) .counts in omega (arith, f .whole)
+kept-requires c κs = let f = well (c .before .before .before .before .before .args .plan .now) (c .before .before .before .before .before .pre .0) .counts in omega (arith, f .whole)
 
 gap-requires : tie.Need-gap-requires
-gap-requires c κs = let f = counts-of (c .before .before .before .before .before .before .args .plan .now) (c .before .before .before .before .before .before .pre .0) .counts in omega (arith, f .whole)
+gap-requires c κs = let f = well (c .before .before .before .before .before .before .args .plan .now) (c .before .before .before .before .before .before .pre .0) .counts in omega (arith, f .whole)
 
 put-heading-requires : tie.Need-put-heading-requires
 put-heading-requires c κs =

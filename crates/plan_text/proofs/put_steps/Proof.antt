@@ -6,7 +6,7 @@ use Rattle.plan.specs.Step.{unpackAll, unpack}
 use Rattle.plan.specs.Layout.{stepsOf}
 use Rattle.text.specs.LinesLaws.{Left, left-all, left-room, left-next, left-none}
 use Rattle.plan_text.specs.PlanText.{stepLines, numberText}
-use Rattle.plan_text.proofs.Counts.{counts-of}
+use Rattle.plan.specs.LayoutLaws.{well}
 use Rattle.plan_text.proofs.Turns.{next-step, last-step}
 use Rattle.plan_text.proofs.put_steps.Statement.{statement}
 use Rattle.plan_text.proofs.put_steps.Tie as tie
@@ -18,16 +18,13 @@ Inv-loop out₀ at plan end₀ i₀ out end i = (i ≤ length plan)
 abbrev μ-loop : tie.MeasureT-loop
 μ-loop out₀ at plan end₀ i₀ out end i = length plan - i
 
-info-count-requires : tie.Need-info-count-requires Inv-loop μ-loop
-info-count-requires c κs = let f = counts-of (c .before .before .args .plan .now) (c .before .before .pre .0) .counts in omega (arith, f .whole)
-
-add-i : tie.Need-add-i Inv-loop μ-loop
-add-i c = let f = counts-of (c .before .before .before .args .plan .now) (c .before .before .before .pre .0) .counts in omega (arith, f .whole, c .info-count .ensures)
+steps-at-requires : tie.Need-steps-at-requires Inv-loop μ-loop
+steps-at-requires c κs = let f = well (c .before .before .args .plan .now) (c .before .before .pre .0) .counts in omega (arith, f .whole)
 
 loop-holds : tie.Need-loop-holds Inv-loop μ-loop
 loop-holds c =
-    let f = counts-of (c .before .before .before .args .plan .now) (c .before .before .before .pre .0) .counts in
-    (omega (arith, f .whole, c .info-count .ensures), rw (c .info-count .ensures) (left-all _ _ _ (c .before .before .before .pre .1)))
+    let f = well (c .before .before .before .args .plan .now) (c .before .before .before .pre .0) .counts in
+    (omega (arith, f .whole, c .steps-at .ensures), rw (c .steps-at .ensures) (left-all _ _ _ (c .before .before .before .pre .1)))
 
 mul-put-number : tie.Need-mul-put-number Inv-loop μ-loop
 mul-put-number c = omega arith
@@ -41,8 +38,8 @@ put-number-requires c κs =
     let w = c .before .before .before .before .before .before .before .args .plan .now in
     left-room (numberText (unpack (getD w (s .i) 0))) _ (next-step w (s .i) (c .before .before .loop-test .taken) (s .inv .1))
 
-add-i-2 : tie.Need-add-i-2 Inv-loop μ-loop
-add-i-2 c = omega arith
+add-i : tie.Need-add-i Inv-loop μ-loop
+add-i c = omega arith
 
 loop-less : tie.Need-loop-less Inv-loop μ-loop
 loop-less c = omega arith
@@ -65,13 +62,12 @@ put-steps-spec =
     (tie.spec
     Inv-loop
     μ-loop
-    info-count-requires
-    add-i
+    steps-at-requires
     loop-holds
     mul-put-number
     shared-slice-read-put-number
     put-number-requires
-    add-i-2
+    add-i
     loop-less
     loop-again
     same-length

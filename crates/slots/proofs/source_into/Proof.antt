@@ -7,17 +7,11 @@ use Rattle.slots.proofs.source_into.Tie as tie
 enum-told : tie.Need-enum-told
 enum-told c = search needs
 
-cast-result : tie.Need-cast-result
-cast-result c = search needs
-
 enum-known-x : tie.Need-enum-known-x
 enum-known-x c = search needs
 
 returns : tie.Need-returns
 returns c = let e = c .before .before .x .given in rw (e .1, eq-eqb (e .0 .0) (c .before .before .before .before .args .to) (c .if1 .taken))
-
-cast-result-2 : tie.Need-cast-result-2
-cast-result-2 c = search needs
 
 returns-2 : tie.Need-returns-2
 returns-2 c = search needs
@@ -28,4 +22,4 @@ returns-3 c = let e = c .before .before .x .given in rw (e .1, ne-eqb (e .0 .0) 
 pub source-into-spec : {M : Type 1} → statement M
 source-into-spec =
     tie.close
-    (tie.spec enum-told cast-result enum-known-x returns cast-result-2 returns-2 returns-3)
+    (tie.spec enum-told enum-known-x returns returns-2 returns-3)

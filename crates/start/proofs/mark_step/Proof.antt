@@ -1,9 +1,9 @@
--- `encoder::mark_step` meets its contract: by the kind of the step.
+-- `start::mark_step` meets its contract: by the kind of the step.
 use lib.ListN.{length-set}
-use Rattle.encoder.proofs.ClearLaws.{mark-clear, mark-add}
+use Rattle.start.proofs.MarkLaws.{mark-clear, mark-add}
 use borrow.Author.Needs.{needs}
-use Rattle.encoder.proofs.mark_step.Statement.{statement}
-use Rattle.encoder.proofs.mark_step.Tie as tie
+use Rattle.start.proofs.mark_step.Statement.{statement}
+use Rattle.start.proofs.mark_step.Tie as tie
 
 enum-known-x : tie.Need-enum-known-x
 enum-known-x c = search needs

@@ -1,10 +1,10 @@
--- `encoder::prepare` meets its contract: slots cleared, and the information copied.
+-- `start::prepare` meets its contract: slots cleared, and the information copied.
 use mathlib.Core.Path.{_∙_}
-use Rattle.encoder.proofs.RunLaws.{well}
-use Rattle.encoder.proofs.StartLaws.{prepared-for}
+use Rattle.plan.specs.LayoutLaws.{well}
+use Rattle.start.proofs.CopyLaws.{prepared-for}
 use borrow.Author.Needs.{needs}
-use Rattle.encoder.proofs.prepare.Statement.{statement}
-use Rattle.encoder.proofs.prepare.Tie as tie
+use Rattle.start.proofs.prepare.Statement.{statement}
+use Rattle.start.proofs.prepare.Tie as tie
 
 clear-slots-requires : tie.Need-clear-slots-requires
 clear-slots-requires c κs = search needs

@@ -2,15 +2,25 @@
 use mathlib.Core.Path.{_≡_}
 use mathlib.Core.Bool.{Bool, true, false, cond, not, _||_, _&&_}
 use mathlib.Core.List.{List, [], _∷_, _++_}
-use Prim.Native.Nat.{ℕ, suc, _+_, _<_, _≤_}
+use Prim.Native.Nat.{ℕ, suc, _+_, _*_, _<_, _≤_}
 use lib.Dec.{eqb}
 use lib.ListN.{length, getD, replicate}
-use Rattle.table.specs.Packets.{packets}
+use Rattle.table.specs.Packets.{packets, joined}
 use Rattle.plan.specs.declared.Step.{Step}
 use Rattle.plan.specs.declared.Step.the-variants.{Clear, Add}
-use Rattle.plan.specs.Layout.{planPlaces, planGap, slots}
+use Rattle.plan.specs.Layout.{planPlaces, planGap, infoCount, infoIn, slots, planRefusal}
 use Rattle.plan.specs.LookOver.{isMarked}
-use Rattle.encoder.specs.Phases.{startOf}
+use Rattle.plan.specs.Steps.{withPackets, atStart}
+
+-- a well-formed plan, and a block of b bytes and a scratch of c bytes for it, at s bytes a packet
+pub record Lent (w : List ℕ) (s b c : ℕ) : Type 0 where
+  pub formed : planRefusal w ≡ 0
+  pub block : b ≡ planPlaces w * s
+  pub scratch : c ≡ planGap w * s
+
+-- the slots at the start
+abbrev pub startOf : List ℕ → ℕ → List ℕ → List (List ℕ)
+startOf w s information = atStart (slots w) s (infoIn w) (packets s (infoCount w) information)
 
 -- the first step that names slot p clears it
 abbrev pub clearsFirst : List Step → ℕ → Bool
@@ -39,8 +49,8 @@ pub record Unmarked (marks : List ℕ) (first i count r : ℕ) : Type 0 where
   pub none : (k : ℕ) → i ≤ k → k < r → isMarked marks (first + k) ≡ false
   pub stops : r < count → isMarked marks (first + r) ≡ true
 
--- ---- block and scratch
--- the slots that they hold
+-- ---- clearing
+-- the slots that block and scratch hold
 abbrev pub slotsIn : List ℕ → ℕ → List ℕ → List ℕ → List (List ℕ)
 slotsIn w s block scratch = packets s (planPlaces w) block ++ packets s (planGap w) scratch
 
@@ -48,6 +58,12 @@ slotsIn w s block scratch = packets s (planPlaces w) block ++ packets s (planGap
 pub record ClearedFor (w : List ℕ) (s : ℕ) (xs : List Step) (block scratch : List ℕ) : Type 0 where
   pub zero : (p : ℕ) → p < slots w → clearsFirst xs p ≡ false → getD (slotsIn w s block scratch) p [] ≡ replicate s 0
 
+-- ---- the information
+-- the block b with the information packets at their places
+abbrev pub withInformation : List ℕ → ℕ → List ℕ → List ℕ → List ℕ
+withInformation w s information b = joined (withPackets (packets s (planPlaces w) b) (infoIn w) (packets s (infoCount w) information))
+
+-- ---- both
 -- as at the start, but for those
 pub record PreparedFor (w : List ℕ) (s : ℕ) (xs : List Step) (information block scratch : List ℕ) : Type 0 where
   pub agrees : (p : ℕ) → clearsFirst xs p ≡ false → getD (slotsIn w s block scratch) p [] ≡ getD (startOf w s information) p []

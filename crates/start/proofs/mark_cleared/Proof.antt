@@ -1,13 +1,14 @@
--- `encoder::mark_cleared` meets its contract: the marks are those of the steps from i on.
+-- `start::mark_cleared` meets its contract: the marks are those of the steps from i on.
 use Prim.Native.Nat.{_-_, _≤_}
 use mathlib.Core.Path.{_≡_, refl, _∙_}
 use lib.ListN.{length, take, drop}
 use Rattle.plan.specs.Layout.{stepsOf}
-use Rattle.encoder.specs.Start.{Marked}
-use Rattle.encoder.proofs.RunLaws.{well, step-in-front, step-below, no-more-steps}
+use Rattle.start.specs.Start.{Marked}
+use Rattle.plan.specs.LayoutLaws.{well}
+use Rattle.start.proofs.MarkLaws.{step-in-front, step-below, no-more-steps}
 use native.Mathlib.Omega.{arith}
-use Rattle.encoder.proofs.mark_cleared.Statement.{statement}
-use Rattle.encoder.proofs.mark_cleared.Tie as tie
+use Rattle.start.proofs.mark_cleared.Statement.{statement}
+use Rattle.start.proofs.mark_cleared.Tie as tie
 
 abbrev Inv-loop : tie.InvT-loop
 Inv-loop plan steps marks₀ at i₀ marks i = Marked (drop i (take steps (stepsOf plan))) marks × (i ≤ steps) × (length marks ≡ length marks₀)
@@ -15,11 +16,8 @@ Inv-loop plan steps marks₀ at i₀ marks i = Marked (drop i (take steps (steps
 abbrev μ-loop : tie.MeasureT-loop
 μ-loop plan steps marks₀ at i₀ marks i = i
 
-info-count-requires : tie.Need-info-count-requires Inv-loop μ-loop
-info-count-requires c κs = let k = well (c .before .before .args .plan .now) (c .before .before .pre .0) .counts in omega arith
-
-add-at : tie.Need-add-at Inv-loop μ-loop
-add-at c = let k = well (c .before .before .before .args .plan .now) (c .before .before .before .pre .0) .counts in omega arith
+steps-at-requires : tie.Need-steps-at-requires Inv-loop μ-loop
+steps-at-requires c κs = let k = well (c .before .before .args .plan .now) (c .before .before .pre .0) .counts in omega arith
 
 loop-holds : tie.Need-loop-holds Inv-loop μ-loop
 loop-holds c =
@@ -36,14 +34,14 @@ mul-decode : tie.Need-mul-decode Inv-loop μ-loop
 mul-decode c = let k = well (c .before .before .before .before .before .args .plan .now) (c .before .before .before .before .before .pre .0) .counts in omega arith
 
 shared-slice-read-decode : tie.Need-shared-slice-read-decode Inv-loop μ-loop
-shared-slice-read-decode c = let k = well (c .before .before .before .before .before .before .args .plan .now) (c .before .before .before .before .before .before .pre .0) .counts in let e = c .before .before .before .info-count .ensures in omega arith
+shared-slice-read-decode c = let k = well (c .before .before .before .before .before .before .args .plan .now) (c .before .before .before .before .before .before .pre .0) .counts in let e = c .before .before .before .steps-at .ensures in omega arith
 
 decode-requires : tie.Need-decode-requires Inv-loop μ-loop
 decode-requires c κs = tt
 
 mark-step-requires : tie.Need-mark-step-requires Inv-loop μ-loop
 mark-step-requires c κs =
-    let a = c .before .before .before .before .before .before .before .before .args in let p = c .before .before .before .before .before .before .before .before .pre in let w = a .plan .now in let l = c .before .before .before .before .loop in let q = c .before .before .before .before .before .info-count in
+    let a = c .before .before .before .before .before .before .before .before .args in let p = c .before .before .before .before .before .before .before .before .pre in let w = a .plan .now in let l = c .before .before .before .before .loop in let q = c .before .before .before .before .before .steps-at in
     step-below w (well w (p .0)) (q .result) (q .ensures) _ (l .i - 1) (omega arith) (c .before .decode .ensures) (omega arith)
 
 loop-less : tie.Need-loop-less Inv-loop μ-loop
@@ -51,7 +49,7 @@ loop-less c = omega arith
 
 loop-again : tie.Need-loop-again Inv-loop μ-loop
 loop-again c =
-    let a = c .before .before .before .before .before .before .before .before .before .before .before .args in let p = c .before .before .before .before .before .before .before .before .before .before .before .pre in let w = a .plan .now in let l = c .before .before .before .before .before .before .before .loop in let q = c .before .before .before .before .before .before .before .before .info-count in (
+    let a = c .before .before .before .before .before .before .before .before .before .before .before .args in let p = c .before .before .before .before .before .before .before .before .before .before .before .pre in let w = a .plan .now in let l = c .before .before .before .before .before .before .before .loop in let q = c .before .before .before .before .before .before .before .before .steps-at in (
       rw (← step-in-front w (well w (p .0)) (q .result) (q .ensures) _ (a .steps) (l .i) (p .1 .0) (c .before .before .before .before .before .before .loop-test .taken) (l .inv .1) (c .before .before .before .before .decode .ensures))
           (c .before .before .mark-step .ensures _ (l .inv .0)),
       omega arith,
@@ -70,8 +68,7 @@ mark-cleared-spec =
     (tie.spec
     Inv-loop
     μ-loop
-    info-count-requires
-    add-at
+    steps-at-requires
     loop-holds
     sub-i
     add-decode

@@ -1,4 +1,4 @@
--- `encoder::clear_unmarked` meets its contract: the packets below i are done, the others as they were.
+-- `start::clear_unmarked` meets its contract: the packets below i are done, the others as they were.
 use Prim.Native.Nat.{_+_, _-_, _≤_}
 use mathlib.Core.Path.{_≡_, refl, sym, ap, _∙_}
 use lib.ListN.{length}
@@ -6,10 +6,10 @@ use Rattle.table.specs.BufferLaws.{place-fits}
 use Rattle.table.specs.PacketLaws.{packets-length, packets-joined}
 use Rattle.table.specs.Packets.{packets, joined}
 use Rattle.plan.specs.LookOver.{isMarked}
-use Rattle.encoder.proofs.ClearLaws.{half, half-all, run-bytes, clear-turn}
+use Rattle.start.proofs.ClearLaws.{half, half-all, run-bytes, clear-turn}
 use native.Mathlib.Omega.{arith}
-use Rattle.encoder.proofs.clear_unmarked.Statement.{statement}
-use Rattle.encoder.proofs.clear_unmarked.Tie as tie
+use Rattle.start.proofs.clear_unmarked.Statement.{statement}
+use Rattle.start.proofs.clear_unmarked.Tie as tie
 
 abbrev Inv-loop : tie.InvT-loop
 Inv-loop b₀ marks first count s i₀ b i = (b ≡ joined (half (isMarked marks) s first (packets s count b₀) i)) × (i ≤ count + 1) × (length b ≡ length b₀)

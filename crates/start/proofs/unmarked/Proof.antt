@@ -1,4 +1,4 @@
--- `encoder::unmarked` meets its contract: no packet passed has a mark.
+-- `start::unmarked` meets its contract: no packet passed has a mark.
 use Prim.Native.Nat.{ℕ, _+_, _-_, _<_, _≤_}
 use mathlib.Core.Path.{_≡_}
 use mathlib.Core.Bool.{false}
@@ -7,8 +7,8 @@ use borrow.Author.Tests.{eq-eqb, ne-eqb}
 use lib.ListN.{getD}
 use Rattle.plan.specs.LookOver.{isMarked}
 use native.Mathlib.Omega.{arith}
-use Rattle.encoder.proofs.unmarked.Statement.{statement}
-use Rattle.encoder.proofs.unmarked.Tie as tie
+use Rattle.start.proofs.unmarked.Statement.{statement}
+use Rattle.start.proofs.unmarked.Tie as tie
 
 abbrev Inv-loop : tie.InvT-loop
 Inv-loop marks first i count r₀ r = (i ≤ r) × (r ≤ count) × ((k : ℕ) → k < r → i ≤ k → isMarked marks (first + k) ≡ false)

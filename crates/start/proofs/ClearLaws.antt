@@ -1,106 +1,23 @@
--- What need not be cleared: marks, packets cleared by marks, and steps from slots that differ only where they are cleared first.
+-- Clearing: packets cleared by marks, run by run, and the slots that are zero then.
 use mathlib.Core.Path.{_≡_, refl, sym, ap, ap₂, _∙_}
-use mathlib.Core.Bool.{Bool, true, false, cond, _||_, true≢false}
+use mathlib.Core.Bool.{Bool, true, false, cond, true≢false}
 use mathlib.Core.List.{List, [], _∷_, _++_, append-assoc, append-nil}
 use mathlib.Core.Logic.{⊎-elim}
 use Prim.Native.Nat.{ℕ, zero, suc, _+_, _*_, _-_, _<_, _≤_}
 use native.Mathlib.Nat.{mul-le-mul-right}
 use native.Mathlib.Omega.{arith}
-use borrow.Author.Tests.{eqb-true, eqb-false, eq-eqb, ne-eqb}
-use lib.Dec.{eqb}
-use lib.ListN.{length, getD, set, take, drop, replicate, length-set, length-append, length-drop, length-replicate, getD-replicate, List·getD-append, List·getD-eq-default, drop-of-length-le, replicate-append-replicate}
-use lib.Seq.{ext-getD, getD-take, getD-drop, getD-append-add, getD-set-same, getD-set-other, take-all, length-take-le, take-append-add, drop-append-add}
-use Rattle.gf2.specs.Gf2.{XorGroup, add}
-use Rattle.lists.specs.ListLaws.{getD-zeros}
+use lib.ListN.{length, getD, take, drop, replicate, length-append, length-drop, length-replicate, getD-replicate, List·getD-append, drop-of-length-le, replicate-append-replicate}
+use lib.Seq.{ext-getD, getD-take, getD-drop, getD-append-add, take-all, length-take-le, take-append-add, drop-append-add}
 use Rattle.lists.specs.Tests.{byBool, side}
 use Rattle.lists.specs.Lists.{All.nil, All.cons, written}
 use Rattle.table.specs.PacketLaws.{packets-length, packets-sized}
 use Rattle.table.specs.Packets.{Packets, packets, joined}
 use Rattle.plan.specs.declared.Step.{Step}
-use Rattle.plan.specs.declared.Step.the-variants.{Clear, Add}
+use Rattle.plan.specs.Layout.{planPlaces, planGap}
 use Rattle.plan.specs.LookOver.{isMarked}
-use Rattle.plan.specs.Steps.{carryOutAll, withPackets}
-use Rattle.encoder.specs.Start.{clearsFirst, cleared, Marked, MarkedOnly, Unmarked}
 use Rattle.slots.specs.SlotLaws.{all-take, all-drop, all-append}
-
--- ---- steps from slots that agree but where they are cleared first
--- a slot written alike
-set-alike : (st st′ : List (List ℕ)) (i : ℕ) (v : List ℕ) (p : ℕ) → length st ≡ length st′ → ((p ≡ i → ⊥) → getD st p [] ≡ getD st′ p [])
-    → getD (set st i v) p [] ≡ getD (set st′ i v) p []
-set-alike st st′ i v p l e = byBool (eqb p i)
-    (λ h. rw (eqb-true p i h) (⊎-elim
-    (λ a. getD-set-same st i v [] a ∙ sym (getD-set-same st′ i v [] (omega arith)))
-    (λ a. List·getD-eq-default (set st i v) [] (let b = length-set st i v in omega arith) ∙ sym (List·getD-eq-default (set st′ i v) [] (let b = length-set st′ i v in omega arith)))
-    (side i (length st))))
-    (λ h. getD-set-other st i p v [] (eqb-false p i h) ∙ e (eqb-false p i h) ∙ sym (getD-set-other st′ i p v [] (eqb-false p i h)))
-
-lengths-alike : (st st′ : List (List ℕ)) (i : ℕ) (v : List ℕ) → length st ≡ length st′ → length (set st i v) ≡ length (set st′ i v)
-lengths-alike st st′ i v l = length-set st i v ∙ l ∙ sym (length-set st′ i v)
-
-add-first : (to from p : ℕ) (xs : List Step) → eqb p to || eqb p from ≡ true → clearsFirst (Add to from ∷ xs) p ≡ false
-add-first to from p xs h = rw h
-
-not-first : (to from p : ℕ) (xs : List Step) → clearsFirst xs p ≡ false → clearsFirst (Add to from ∷ xs) p ≡ false
-not-first to from p xs h = byBool (eqb p to || eqb p from) (λ e. rw e) (λ e. rw (e, h))
-
-pub steps-alike : (s : ℕ) (xs : List Step) (st st′ : List (List ℕ)) → length st ≡ length st′
-    → ((p : ℕ) → clearsFirst xs p ≡ false → getD st p [] ≡ getD st′ p []) → carryOutAll s st xs ≡ carryOutAll s st′ xs
-steps-alike s [] st st′ l e = ext-getD [] st st′ l (λ p h. e p refl)
-steps-alike s (Clear to ∷ xs) st st′ l e =
-    let o : List ℕ = replicate s 0 in
-    steps-alike s xs (set st to o) (set st′ to o) (lengths-alike st st′ to o l) (λ p h.
-    set-alike st st′ to o p l (λ n. e p (rw (ne-eqb p to n) h)))
-steps-alike s (Add to from ∷ xs) st st′ l e =
-    let v = add XorGroup (getD st to []) (getD st from []) in
-    let same : v ≡ add XorGroup (getD st′ to []) (getD st′ from []) =
-    ap₂ (add XorGroup) (e to (add-first to from to xs (rw (eq-eqb to to refl)))) (e from (add-first to from from xs (byBool (eqb from to) (λ h. rw h) (λ h. rw (h, eq-eqb from from refl))))) in
-    steps-alike s xs (set st to v) (set st′ to v) (lengths-alike st st′ to v l) (λ p h. set-alike st st′ to v p l (λ n. e p (not-first to from p xs h)))
-    ∙ ap (λ y. carryOutAll s (set st′ to y) xs) same
-
--- packets put at places
-pub packets-alike : (I : List ℕ) (ps st st′ : List (List ℕ)) (p : ℕ) → length st ≡ length st′ → getD st p [] ≡ getD st′ p []
-    → getD (withPackets st I ps) p [] ≡ getD (withPackets st′ I ps) p []
-packets-alike [] ps st st′ p l e = e
-packets-alike (i ∷ I) [] st st′ p l e = e
-packets-alike (i ∷ I) (q ∷ ps) st st′ p l e = packets-alike I ps (set st i q) (set st′ i q) p (lengths-alike st st′ i q l) (set-alike st st′ i q p l (λ n. e))
-
--- ---- marks
-marked-at : (m : List ℕ) (i v p : ℕ) → i < length m → isMarked (set m i v) p ≡ cond (eqb p i) (eqb v 1) (isMarked m p)
-marked-at m i v p h = byBool (eqb p i)
-    (λ e. rw (e, eqb-true p i e) (ap (λ (x : ℕ). eqb x 1) (getD-set-same m i v 0 h)))
-    (λ e. rw e (ap (λ (x : ℕ). eqb x 1) (getD-set-other m i p v 0 (eqb-false p i e))))
-
-pub marked-none : (n : ℕ) → Marked [] (replicate n 0)
-marked-none n = record { each = λ p h. ap (λ (x : ℕ). eqb x 1) (getD-zeros n p) }
-
--- past their end there is none
-unmarked-past : (m : List ℕ) (p : ℕ) → length m ≤ p → isMarked m p ≡ false
-unmarked-past m p l = ap (λ (x : ℕ). eqb x 1) (List·getD-eq-default m 0 l)
-
-pub only-marked : {xs : List Step} {m : List ℕ} → Marked xs m → MarkedOnly xs m
-only-marked {xs} {m} k = record {
-  only = λ p h. ⊎-elim (λ l. sym (k .each p l) ∙ h) (λ l. absurd (true≢false (sym h ∙ unmarked-past m p l))) (side p (length m));
-}
-
-pub only-none : (xs : List Step) {m : List ℕ} → Marked [] m → MarkedOnly xs m
-only-none xs {m} k = record {
-  only = λ p h. absurd (true≢false (sym h ∙ ⊎-elim (λ l. k .each p l) (λ l. unmarked-past m p l) (side p (length m))));
-}
-
--- one step more in front
-pub mark-clear : {xs : List Step} {m : List ℕ} (to : ℕ) → to < length m → Marked xs m → Marked (Clear to ∷ xs) (set m to 1)
-mark-clear {xs} {m} to h k = record {
-  each = λ p l. marked-at m to 1 p h ∙ byBool (eqb p to) (λ e. rw e) (λ e. rw e (k .each p (let z = length-set m to 1 in omega arith)));
-}
-
-pub mark-add : {xs : List Step} {m : List ℕ} (to from : ℕ) → to < length m → from < length m → Marked xs m → Marked (Add to from ∷ xs) (set (set m to 0) from 0)
-mark-add {xs} {m} to from h g k = record {
-  each = λ p l.
-      let z = length-set m to 0 in let y = length-set (set m to 0) from 0 in
-      marked-at (set m to 0) from 0 p (omega arith) ∙ ap (cond (eqb p from) false) (marked-at m to 0 p h)
-      ∙ byBool (eqb p to) (λ e. byBool (eqb p from) (λ f. rw (e, f)) (λ f. rw (e, f)))
-      (λ e. byBool (eqb p from) (λ f. rw (e, f)) (λ f. rw (e, f) (k .each p (omega arith))));
-}
+use Rattle.start.specs.Start.{cleared, MarkedOnly, Unmarked, slotsIn, ClearedFor}
+use Rattle.start.specs.StartLaws.{cut-again, slots-length}
 
 -- ---- packets cleared
 pub cleared-length : (keep : ℕ → Bool) (s i : ℕ) (ps : List (List ℕ)) → length (cleared keep s i ps) ≡ length ps
@@ -266,3 +183,36 @@ clear-turn marks s first count i r b₀ b b′ bytes more u e f =
     let room : i + (r - i) ≤ length now = omega (arith, half-length keep s first ps i (omega arith), u .from, u .upto) in
     f ∙ ap (λ x. written x (i * s) (replicate ((r - i) * s) 0)) e ∙ sym (zeroed-written s i (r - i) whole room)
     ∙ ap joined (half-turn keep s first ps i r (u .from) (omega (arith, u .upto)) (u .none) (λ h. u .stops (omega arith)))
+
+-- ---- block and scratch, cleared by marks
+module _ (w : List ℕ) (s : ℕ) (b c : List ℕ) (lb : length b ≡ planPlaces w * s) (lc : length c ≡ planGap w * s)
+    (xs : List Step) (marks : List ℕ) (only : MarkedOnly xs marks) where
+  abbrev front : List (List ℕ)
+  front = packets s (planPlaces w) b
+
+  abbrev back : List (List ℕ)
+  back = packets s (planGap w) c
+
+  front-long : length front ≡ planPlaces w
+  front-long = packets-length s (planPlaces w) b
+
+  abbrev keep : ℕ → Bool
+  keep = isMarked marks
+
+  slots-cleared : (b′ c′ : List ℕ) → b′ ≡ joined (cleared keep s 0 front) → c′ ≡ joined (cleared keep s (planPlaces w) back)
+      → slotsIn w s b′ c′ ≡ cleared keep s 0 (slotsIn w s b c)
+  slots-cleared b′ c′ e f =
+      let x = cleared keep s 0 front in let y = cleared keep s (planPlaces w) back in
+      ap₂ _++_
+      (ap (packets s (planPlaces w)) e ∙ cut-again s (planPlaces w) (cleared-sized keep s 0 (packets-sized s (planPlaces w) b lb)) (cleared-length keep s 0 front ∙ front-long))
+      (ap (packets s (planGap w)) f
+      ∙ cut-again s (planGap w) (cleared-sized keep s (planPlaces w) (packets-sized s (planGap w) c lc)) (cleared-length keep s (planPlaces w) back ∙ packets-length s (planGap w) c))
+      ∙ ap (λ (k : ℕ). x ++ cleared keep s k back) {x = planPlaces w} {y = 0 + length front} (omega (arith, front-long)) ∙ sym (cleared-append keep s 0 front back)
+
+  pub cleared-for : (b′ c′ : List ℕ) → b′ ≡ joined (cleared keep s 0 front) → c′ ≡ joined (cleared keep s (planPlaces w) back) → ClearedFor w s xs b′ c′
+  cleared-for b′ c′ e f = record {
+    zero = λ p h none.
+        let out : isMarked marks p ≡ false = byBool (isMarked marks p) (λ z. absurd (true≢false (sym (only .only p z) ∙ none))) (λ z. z) in
+        ap (λ st. getD st p []) (slots-cleared b′ c′ e f) ∙ cleared-clears keep s 0 (slotsIn w s b c) p (omega (arith, slots-length w s b c lb lc))
+        (ap keep {x = 0 + p} {y = p} (omega arith) ∙ out);
+  }

@@ -1,8 +1,8 @@
--- `encoder::mark_slots` meets its contract: all marks, or none.
-use Rattle.encoder.proofs.ClearLaws.{only-marked, only-none}
+-- `start::mark_slots` meets its contract: all marks, or none.
+use Rattle.start.proofs.MarkLaws.{only-marked, only-none}
 use borrow.Author.Needs.{needs}
-use Rattle.encoder.proofs.mark_slots.Statement.{statement}
-use Rattle.encoder.proofs.mark_slots.Tie as tie
+use Rattle.start.proofs.mark_slots.Statement.{statement}
+use Rattle.start.proofs.mark_slots.Tie as tie
 
 mark-cleared-requires : tie.Need-mark-cleared-requires
 mark-cleared-requires c κs = search needs

@@ -1,0 +1,2 @@
+pub mod Start
+pub mod StartLaws
