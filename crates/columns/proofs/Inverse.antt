@@ -16,7 +16,8 @@ use Rattle.lists.specs.ListLaws.{all-in, getD-zeros, getD-has, append-nil, leng
 use Rattle.gf2.specs.Span.{span-zero, isSum-complete}
 use Rattle.gf2.specs.Unique.{mask-unique}
 use Rattle.gf2.specs.Rank.{Zero}
-use Rattle.table.specs.Checks.{check, offset, Places}
+use Rattle.table.specs.Accepted.{Located, by-number}
+use Rattle.table.specs.Checks.{check}
 use Rattle.table.specs.Table.{number, places, checks}
 use Rattle.table.specs.TableLaws.{accepted}
 use Rattle.rule.specs.Rule.{Solved, putInAll, reduced, owns, restricted, inverse}
@@ -176,7 +177,7 @@ map-reduced T (c ∷ Z) = ap (λ r. putInAll T (rowOf c) ∷ r) (map-reduced T Z
 pub fits-table : {t : List ℕ} {m n : ℕ} {starts order owns : List ℕ} {taken : ℕ} {aside : List ℕ} {g : ℕ} → Ready t m n starts order owns taken aside g
     → Ends n (solved (check t m) order owns taken) (map (check t m) (take g aside)) g
 fits-table {t} {m} {n} {starts} {order} {owns} {taken} {aside} {g} y =
-    let ok = accepted t (y .accepted) in
+    let ok = accepted t (y .located .table .accepted) in
     let rm = y .chosen .room .1 .1 in
     let T = solved (check t (number t)) order owns taken in
     let Z = map (check t (number t)) (take g aside) in
@@ -186,34 +187,28 @@ fits-table {t} {m} {n} {starts} {order} {owns} {taken} {aside} {g} y =
     let b : Ends (places t) T Z (length Z) = subst (λ (x : List (List ℕ)). Ends (places t) T x (length x)) (y .chosen .set-aside)
     (subst (λ (x : List Solved). Ends (places t) x (az (places t) (checks t) (ok .distinct) (ok .low)) (length (az (places t) (checks t) (ok .distinct) (ok .low)))) (y .chosen .took) a) in
     let e : Ends (places t) T Z g = subst (Ends (places t) T Z) len b in
-    let h : Ends n T Z g = subst (λ (x : ℕ). Ends x T Z g) (sym (y .size)) e in
-    subst (λ (x : ℕ). Ends n (solved (check t x) order owns taken) (map (check t x) (take g aside)) g) (sym (y .count)) h
+    let h : Ends n T Z g = subst (λ (x : ℕ). Ends x T Z g) (sym (y .located .table .places-are)) e in
+    subst (λ (x : ℕ). Ends n (solved (check t x) order owns taken) (map (check t x) (take g aside)) g) (sym (y .located .table .number-is)) h
 
--- ---- what each call asks, with columns for 1,024 places
-wide-places : {t : List ℕ} {at wt n : ℕ} (k : ℕ) → n ≤ k → Places t at wt n → Places t at wt k
-wide-places k h v = record { room = v .room; below = λ i l. let b = v .below i l in omega arith; rising = v .rising }
+-- ---- what each call asks
+module _ {t : List ℕ} {m n : ℕ} {starts order owns : List ℕ} {taken : ℕ} {aside : List ℕ} {g : ℕ} (y : Ready t m n starts order owns taken aside g) where
+  located : Located t m (places t) starts
+  located = record { table = by-number _ _ _ _ (y .located .table); starts-at = y .located .starts-at }
 
-module _ {t : List ℕ} {m n : ℕ} {starts order owns : List ℕ} {taken : ℕ} {aside : List ℕ} {g : ℕ} (k : ℕ) (y : Ready t m n starts order owns taken aside g) (h : k ≡ 1024) where
-  wide-check : (j : ℕ) → j < m → Places t (5 + m + offset t j) (getD t (4 + j) 0) k
-  wide-check j l = let z = y .checks .narrow in wide-places k (omega arith) (y .checks .each j l)
-
-  pub asks-aside : Aside t m k starts aside g
+  pub asks-aside : Aside t m starts aside g
   asks-aside = record {
-    checks = record { few = y .checks .few; narrow = omega arith; weights = y .checks .weights; each = wide-check };
-    starts-at = y .starts-at;
+    located = located;
     few = y .few;
     room = y .chosen .room .1 .1;
-    numbers = λ i l. rw (y .count) (y .chosen .asides i l);
+    numbers = λ i l. rw (y .located .table .number-is) (y .chosen .asides i l);
   }
 
-  pub asks-taken : Taken t m k starts order owns taken
+  pub asks-taken : Taken t m starts order owns taken
   asks-taken = record {
-    head = y .checks .weights;
-    enough = (y .chosen .room .0, y .chosen .room .1 .0, y .starts-at .room);
-    starts-at = y .starts-at .each;
-    places = wide-check;
-    checks = λ i l. rw (y .count) (y .chosen .numbers i l);
-    own = λ i l. let a = y .chosen .own i l in let b = y .size in let c = y .checks .narrow in omega arith;
+    located = located;
+    enough = (y .chosen .room .0, y .chosen .room .1 .0);
+    checks = λ i l. rw (y .located .table .number-is) (y .chosen .numbers i l);
+    own = y .chosen .own;
   }
 
 pub no-columns : (k : ℕ) → Columns [] (replicate k 0)

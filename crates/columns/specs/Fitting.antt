@@ -9,15 +9,14 @@ use lib.ListN.{length, getD}
 use lib.Seq.{slice}
 use Rattle.gf2.specs.Gf2.{XorGroup, isZero, choose}
 use Rattle.lists.specs.Lists.{below, rev}
-use Rattle.table.specs.Checks.{Checks, Starts}
-use Rattle.table.specs.Table.{number, places, refusal}
+use Rattle.table.specs.Accepted.{Located}
+use Rattle.table.specs.Table.{places}
 use Rattle.rule.specs.Buffers.{Chosen}
 use Rattle.columns.specs.Dot.{dot}
 
 -- g checks set aside, by number
-pub record Aside (t : List ℕ) (m n : ℕ) (starts aside : List ℕ) (g : ℕ) : Type 0 where
-  pub checks : Checks t m n
-  pub starts-at : Starts t m starts
+pub record Aside (t : List ℕ) (m : ℕ) (starts aside : List ℕ) (g : ℕ) : Type 0 where
+  pub located : Located t m (places t) starts
   pub few : g ≤ 32
   pub room : g ≤ length aside
   pub numbers : (i : ℕ) → i < g → getD aside i 0 < m
@@ -61,10 +60,6 @@ pub record Scan (f : ℕ → ℕ) (W : List ℕ) (g p free : ℕ) (M F : List �
 
 -- what the phases before leave of an accepted table: m checks, n places, g of the kept checks set aside
 pub record Ready (t : List ℕ) (m n : ℕ) (starts order owns : List ℕ) (taken : ℕ) (aside : List ℕ) (g : ℕ) : Type 0 where
-  pub accepted : refusal t ≡ 0
-  pub count : m ≡ number t
-  pub size : n ≡ places t
-  pub checks : Checks t m n
-  pub starts-at : Starts t m starts
+  pub located : Located t m n starts
   pub chosen : Chosen t order owns aside taken g
   pub few : g ≤ 32

@@ -7,6 +7,7 @@ ghost use lib.Bits.{bitXor};
 ghost use Rattle.rule.specs.Rule.{putInAll};
 ghost use Rattle.rule.specs.Buffers.{solved, Fitted};
 ghost use Rattle.table.specs.Checks.{check, Places};
+ghost use Rattle.table.specs.Table.{places};
 ghost use Rattle.live.specs.Live.{Upd};
 ghost use Rattle.columns.specs.Dot.{dot};
 ghost use Rattle.columns.specs.Cols.{Columns, Taken};
@@ -28,7 +29,9 @@ fn spread(col: &mut [u32], t: &[u16], at: usize, weight: usize, c: u32)
 
 // bit i of a place's column: whether the i-th set-aside check holds the place
 pub fn fill_columns(col: &mut [u32], t: &[u16], m: usize, starts: &[u16], aside: &[u16], g: usize)
-    requires { ⌜ Aside (now t) m (length (now col)) (now starts) (now aside) g × Columns [] (now col) ⌝ }
+    requires aside { ⌜ Aside (now t) m (now starts) (now aside) g ⌝ }
+    requires room { ⌜ places (now t) ≤ length (now col) ⌝ }
+    requires empty { ⌜ Columns [] (now col) ⌝ }
     ensures { λ _. ⌜ Columns (map rowOf (map (check (now (t .entry)) m) (take g (now (aside .entry))))) (now (col .exit)) ⌝ }
 {
     let mut i = 0;
@@ -64,7 +67,8 @@ pub fn push_all(
     owns: &[u16],
     taken: usize,
 )
-    requires { ⌜ Taken (now t) m (length (now col)) (now starts) (now order) (now owns) taken ⌝ }
+    requires taken { ⌜ Taken (now t) m (now starts) (now order) (now owns) taken ⌝ }
+    requires room { ⌜ places (now t) ≤ length (now col) ⌝ }
     ensures { λ _. ⌜ ((E : List ℕ) → Columns E (now (col .entry))
         → Columns (map (putInAll (solved (check (now (t .entry)) m) (now (order .entry)) (now (owns .entry)) taken)) E) (now (col .exit))) ⌝ }
 {
@@ -201,7 +205,9 @@ pub fn fit_places(
     fitted: &mut [u16],
     rows: &mut [u32],
 )
-    requires { ⌜ Ready (now t) m n (now starts) (now order) (now owns) taken (now aside) g × (g ≤ length (now fitted)) × (g ≤ length (now rows)) ⌝ }
+    requires ready { ⌜ Ready (now t) m n (now starts) (now order) (now owns) taken (now aside) g ⌝ }
+    requires fitted { ⌜ g ≤ length (now fitted) ⌝ }
+    requires rows { ⌜ g ≤ length (now rows) ⌝ }
     ensures { λ _. ⌜ Fitted n (solved (check (now (t .entry)) m) (now (order .entry)) (now (owns .entry)) taken)
         (map (check (now (t .entry)) m) (take g (now (aside .entry)))) g (now (fitted .exit)) (now (rows .exit)) ⌝ }
 {

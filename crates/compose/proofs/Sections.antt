@@ -9,12 +9,13 @@ use lib.Seq.{length-take-le}
 use Rattle.lists.specs.Lists.{below, rev, has, filter, minus}
 use Rattle.lists.specs.ListLaws.{length-below, length-rev, append-nil}
 use Rattle.lists.specs.Tests.{byBool}
+use Rattle.table.specs.Accepted.{few-places}
 use Rattle.table.specs.Checks.{check}
 use Rattle.table.specs.Table.{mostPlaces, places, number}
 use Rattle.plan.specs.declared.Step.{Step}
 use Rattle.plan.specs.Step.{pack}
 use Rattle.rule.specs.Rule.{Solved, solvingSteps, scratchSteps, fittingSteps, planSteps, fittedPlaces, inverse, reduced}
-use Rattle.emit.specs.Emit.{Room, WroteSteps, marked, marking, solvedIn, asideIn, solveSteps, wholeSteps, asideSteps, fittingRows, Below, Readable}
+use Rattle.emit.specs.Emit.{Room, WroteSteps, marked, marking, solvedIn, asideIn, solveSteps, wholeSteps, asideSteps, fittingRows, Numbers, Below, Readable}
 use Rattle.emit.specs.MarkLaws.{minus-same, solving-same, scratch-same, none-marked, marked-more, marking-length, below-more}
 use Rattle.emit.specs.WroteLaws.{packed-append, packed-length, Left, left-all, left-is, left-more, left-steps, left-done}
 use Rattle.compose.specs.Compose.{gapSteps, Phases}
@@ -55,6 +56,16 @@ module _ {t starts order us : List ℕ} {taken : ℕ} {aside : List ℕ} {g : �
   abbrev n : ℕ
   n = places t
 
+  -- the numbers of the checks and their own places
+  pub solved-checks : Numbers t order taken
+  solved-checks = record { room = ph .chosen .room .0; each = ph .chosen .numbers }
+
+  pub own-places : Below n us taken
+  own-places = record { room = ph .chosen .room .1 .0; each = ph .chosen .own }
+
+  pub set-aside : Numbers t aside g
+  set-aside = record { room = ph .chosen .room .1 .1; each = ph .chosen .asides }
+
   pub fitted-below : Below n fs g
   fitted-below = fitted-low (ph .fits)
 
@@ -64,7 +75,7 @@ module _ {t starts order us : List ℕ} {taken : ℕ} {aside : List ℕ} {g : �
     skip-long = ap length e ∙ marking-length (replicate mostPlaces 0) (take g fs) ∙ length-replicate {A = ℕ} mostPlaces 0
 
     skip-is : (p : ℕ) → has p (marked skip) ≡ has p (fittedPlaces n T Z)
-    skip-is p = let h = ph .each .narrow in
+    skip-is p = let h = few-places _ _ _ _ (ph .located .table) in
         ap (λ m. has p (marked m)) e ∙ marked-more (replicate mostPlaces 0) fs g (below-more fitted-below (omega (arith, length-replicate {A = ℕ} mostPlaces 0))) [] (none-marked mostPlaces) p
         ∙ ap (has p) (append-nil (take g fs) ∙ ph .fits .places)
 
@@ -133,7 +144,7 @@ module _ {t starts order us : List ℕ} {taken : ℕ} {aside : List ℕ} {g : �
             all-parts d = left-done (left-more fits (map pack D) [] left-D d)
 
     pub readable : Readable t starts skip
-    readable = let h = skip-long in record { each = ph .each; first = ph .first; all = omega arith }
+    readable = let h = skip-long in record { located = ph .located; all = omega arith }
 
   -- nothing set aside, or something
   pub steps-none : g ≡ 0 → planSteps n T Z ≡ solvingSteps [] (rev T)
@@ -144,7 +155,7 @@ module _ {t starts order us : List ℕ} {taken : ℕ} {aside : List ℕ} {g : �
   steps-cons (c ∷ z) h = refl
 
   pub aside-length : length Z ≡ g
-  aside-length = length-map (take g aside) (check t (number t)) ∙ length-take-le g aside (ph .set-aside .room)
+  aside-length = length-map (take g aside) (check t (number t)) ∙ length-take-le g aside (ph .chosen .room .1 .1)
 
   pub steps-some : (g ≡ 0 → ⊥) → planSteps n T Z ≡ gapSteps n T Z
   steps-some h = let l = aside-length in steps-cons Z (omega arith)

@@ -6,7 +6,6 @@ use native.Mathlib.Omega.{arith}
 use lib.ListN.{length, getD, take, drop, length-append}
 use lib.Seq.{take-suc, length-take-le}
 use Rattle.table.specs.Checks.{check}
-use Rattle.table.specs.ChecksLaws.{each-check}
 use Rattle.lists.specs.Lists.{written}
 use Rattle.table.specs.Table.{mostChecks, places, size, number, checks}
 use Rattle.table.specs.TableLaws.{accepted}
@@ -20,7 +19,7 @@ use Rattle.rule.specs.PlanOf.{planOf, numbersOf}
 use Rattle.rule.specs.Rule.{Solved, owns, planSteps, fittedPlaces, solvedOf, setAsideOf}
 use Rattle.emit.specs.Emit.{Wrote, Room, solvedIn, asideIn}
 use Rattle.emit.specs.WroteLaws.{wrote-is, wrote-length, wrote-append, packed-length}
-use Rattle.compose.specs.Compose.{planStepsIn, clearCount, freePlaces, infoPlaces, Phases, Composable, Composed}
+use Rattle.compose.specs.Compose.{planStepsIn, clearCount, freePlaces, infoPlaces, Phases, Composed}
 use Rattle.compose.proofs.ClearSteps.{clears-are}
 use Rattle.compose.proofs.Sections.{aside-length}
 
@@ -44,18 +43,7 @@ solved-length f order us zero = refl
 solved-length f order us (suc k) = let h = solved-length f order us k in length-append (solved f order us k) _ ∙ (omega arith)
 
 -- ---- an accepted table
-module _ {t starts order us : List ℕ} {taken : ℕ} {aside : List ℕ} {g : ℕ} {fs rows : List ℕ} {kept : ℕ} (q : Composable t starts order us taken aside g fs rows kept) where
-  pub phases : Phases t starts order us taken aside g fs rows
-  phases = let c = q .chosen in record {
-    each = each-check t (q .accepted);
-    first = q .first;
-    solved-checks = record { room = c .room .0; each = c .numbers };
-    own-places = record { room = c .room .1 .0; each = c .own };
-    set-aside = record { room = c .room .1 .1; each = c .asides };
-    few = let f = q .few in omega arith;
-    fits = q .fits;
-  }
-
+module _ {t starts order us : List ℕ} {taken : ℕ} {aside : List ℕ} {g : ℕ} {fs rows : List ℕ} (q : Phases t starts order us taken aside g fs rows) where
   -- the steps and the information places
   abbrev pub steps : List Step
   steps = planStepsIn t order us taken aside g
@@ -77,42 +65,42 @@ module _ {t starts order us : List ℕ} {taken : ℕ} {aside : List ℕ} {g : �
 
   gap-are : planOf t .g ≡ g
   unfolding planOf
-  gap-are = ap length (q .chosen .set-aside) ∙ aside-length phases
+  gap-are = ap length (q .chosen .set-aside) ∙ aside-length q
 
   -- the numbers, section by section
-  numbers-are : planNumbers (places t) (size t) g kept info steps ≡ numbersOf t
+  numbers-are : {kept : ℕ} → kept ≡ planOf t .M → planNumbers (places t) (size t) g kept info steps ≡ numbersOf t
   unfolding numbersOf
-  numbers-are = ap₂ (λ x y. planNumbers (places t) (size t) x y info steps) (sym gap-are) (q .number-kept)
+  numbers-are e = ap₂ (λ x y. planNumbers (places t) (size t) x y info steps) (sym gap-are) e
       ∙ ap₂ (planNumbers (places t) (size t) (planOf t .g) (planOf t .M)) (sym info-are) (sym steps-are)
 
   -- within the limits
   pub steps-few : length steps ≤ mostSteps
   unfolding planOf
-  steps-few = let d = accepted t (q .accepted) in let f = q .few in
+  steps-few = let d = accepted t (q .located .table .accepted) in let f = q .few in
       let h = steps-limit (places t) (checks t) (d .distinct) (d .low) (d .few-ones) (omega (arith, gap-are)) in omega (arith, ap length steps-are)
 
   numbers-few : leastNumbers + length info + length steps ≤ leastPlan
   unfolding planOf
-  numbers-few = let d = accepted t (q .accepted) in let f = q .few in
+  numbers-few = let d = accepted t (q .located .table .accepted) in let f = q .few in
       let h = numbers-limit (places t) (checks t) (d .distinct) (d .low) (d .few-places) (d .few-ones) (omega (arith, gap-are)) in omega (arith, ap length steps-are, ap length info-are)
 
-  kept-low : kept ≤ mostChecks
+  kept-low : {kept : ℕ} → kept ≡ planOf t .M → kept ≤ mostChecks
   unfolding planOf
-  kept-low = let d = accepted t (q .accepted) in let h = kept-length (places t) (checks t) in let e = q .number-kept in let n = d .few-checks in omega arith
+  kept-low e = let d = accepted t (q .located .table .accepted) in let h = kept-length (places t) (checks t) in let n = d .few-checks in omega arith
 
-  pub head-fits : {w : List ℕ} {n s : ℕ} → leastPlan ≤ length w → n ≡ places t → s ≡ size t → HeadFits w n s g kept
-  head-fits r a b = let d = accepted t (q .accepted) in record {
+  pub head-fits : {w : List ℕ} {n s kept : ℕ} → kept ≡ planOf t .M → leastPlan ≤ length w → n ≡ places t → s ≡ size t → HeadFits w n s g kept
+  head-fits e r a b = let d = accepted t (q .located .table .accepted) in record {
     room = omega arith;
     few-places = let h = d .few-places in omega arith;
     few-bytes = let h = d .few-bytes in omega arith;
     few-aside = q .few;
-    few-kept = kept-low;
+    few-kept = kept-low e;
   }
 
   -- add steps and clear steps
   pub clears-count : length steps ≡ addSteps (planOf t .steps) + clearCount taken g
   clears-count =
-      let z = aside-length phases in
+      let z = aside-length q in
       let l = solved-length (check t (number t)) order us taken in
       let T = solvedIn t order us taken in
       let Z = asideIn t aside g in
@@ -127,7 +115,7 @@ module _ {t starts order us : List ℕ} {taken : ℕ} {aside : List ℕ} {g : �
       most a (suc b) h = omega arith
 
   -- ---- the three sections, one after the other
-  module _ (l : List ℕ) (big : leastPlan ≤ length l) {n s : ℕ} {e₁ : List ℕ} (en : n ≡ places t) (es : s ≡ size t) (h : e₁ ≡ written l 0 (planHead n s g kept)) where
+  module _ (l : List ℕ) (big : leastPlan ≤ length l) {n s kept : ℕ} {e₁ : List ℕ} (en : n ≡ places t) (es : s ≡ size t) (h : e₁ ≡ written l 0 (planHead n s g kept)) where
     head-wrote : Wrote l 0 (planHead (places t) (size t) g kept) e₁ infoCountAt
     head-wrote = record { list = h ∙ ap₂ (λ x y. written l 0 (planHead x y g kept)) en es; next = refl }
 
@@ -151,10 +139,10 @@ module _ {t starts order us : List ℕ} {taken : ℕ} {aside : List ℕ} {g : �
         pub steps-end : r ≡ k + 1 + length steps
         steps-end = let a = w .next in let p = packed-length steps in omega arith
 
-        pub composed : {adds : ℕ} → adds + clearCount taken g ≡ length steps → Composed t l e₃ r adds
-        composed e =
+        pub composed : {adds : ℕ} → kept ≡ planOf t .M → adds + clearCount taken g ≡ length steps → Composed t l e₃ r adds
+        composed nk e =
             let a = info-wrote .next in
             let f = numbers-few in
-            let all = wrote-is (wrote-append (omega arith) two-wrote w) numbers-are in
+            let all = wrote-is (wrote-append (omega arith) two-wrote w) (numbers-are nk) in
             let c = clears-count in
             record { list = wrote-whole all; numbers = all .next ∙ (omega arith); additions = omega arith }

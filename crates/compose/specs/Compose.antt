@@ -4,15 +4,15 @@ use mathlib.Core.List.{List, _++_}
 use Prim.Native.Nat.{ℕ, zero, suc, _+_, _*_, _≤_}
 use lib.ListN.{length, take}
 use Rattle.lists.specs.Lists.{below, rev, minus}
-use Rattle.table.specs.Checks.{Checks, Starts}
-use Rattle.table.specs.Table.{places, number, refusal}
+use Rattle.table.specs.Accepted.{Located}
+use Rattle.table.specs.Table.{places, number}
 use Rattle.plan.specs.declared.Step.{Step}
 use Rattle.plan.specs.Layout.{mostAside}
 use Rattle.plan.specs.Step.{addSteps}
-use Rattle.rule.specs.Buffers.{maskWidth, Chosen, Fitted}
+use Rattle.rule.specs.Buffers.{Chosen, Fitted}
 use Rattle.rule.specs.PlanOf.{planOf, numbersOf, withNumbers}
 use Rattle.rule.specs.Rule.{Solved, stepsWithGap, fittedPlaces, inverse, reduced, planSteps}
-use Rattle.emit.specs.Emit.{solvedIn, asideIn, Numbers, Below}
+use Rattle.emit.specs.Emit.{solvedIn, asideIn}
 
 -- ---- the steps
 -- where checks were set aside
@@ -40,26 +40,14 @@ abbrev pub infoPlaces : ℕ → List ℕ → ℕ → List ℕ → ℕ → List �
 infoPlaces n owns taken fitted g = freePlaces n (take taken owns ++ take g fitted)
 
 -- ---- what code may read
--- the checks taken, those set aside, the fitted places and the rows of the inverse
+-- what the earlier phases leave of an accepted table: the checks chosen, the fitted places and the rows of the inverse
 pub record Phases (t starts order owns : List ℕ) (taken : ℕ) (aside : List ℕ) (g : ℕ) (fitted rows : List ℕ) : Type 0 where
-  pub each : Checks t (number t) (places t)
-  pub first : Starts t (number t) starts
-  pub solved-checks : Numbers t order taken
-  pub own-places : Below (places t) owns taken
-  pub set-aside : Numbers t aside g
-  pub few : g ≤ maskWidth
-  pub fits : Fitted (places t) (solvedIn t order owns taken) (asideIn t aside g) g fitted rows
-
--- ---- the whole
--- what the earlier phases leave of an accepted table
-pub record Composable (t starts order owns : List ℕ) (taken : ℕ) (aside : List ℕ) (g : ℕ) (fitted rows : List ℕ) (kept : ℕ) : Type 0 where
-  pub accepted : refusal t ≡ 0
-  pub first : Starts t (number t) starts
+  pub located : Located t (number t) (places t) starts
   pub chosen : Chosen t order owns aside taken g
   pub few : g ≤ mostAside
   pub fits : Fitted (places t) (solvedIn t order owns taken) (asideIn t aside g) g fitted rows
-  pub number-kept : kept ≡ planOf t .M
 
+-- ---- the whole
 -- the plan's numbers are written and the rest is kept; their count, and the number of add steps
 pub record Composed (t before after : List ℕ) (count adds : ℕ) : Type 0 where
   pub list : after ≡ withNumbers t before

@@ -6,8 +6,9 @@ ghost use Prim.Native.Nat.{_+_, _≤_};
 ghost use lib.ListN.{length};
 ghost use Rattle.table.specs.Table.{mostPlaces};
 ghost use Rattle.plan.specs.Layout.{mostAside, mostSteps, leastPlan, infoNumbers, stepNumbers};
+ghost use Rattle.rule.specs.PlanOf.{planOf};
 ghost use Rattle.emit.specs.Emit.{Wrote, WroteSteps, Room, marked, Below};
-ghost use Rattle.compose.specs.Compose.{gapStepsIn, planStepsIn, clearCount, freePlaces, infoPlaces, Phases, Composable, Composed};
+ghost use Rattle.compose.specs.Compose.{gapStepsIn, planStepsIn, clearCount, freePlaces, infoPlaces, Phases, Composed};
 
 // ---- the steps, from plan[at] on; the place behind them is returned
 
@@ -195,7 +196,8 @@ pub fn write_plan(
     kept: usize,
     plan: &mut [u32],
 ) -> Written
-    requires phases { ⌜ Composable (now t) (now starts) (now order) (now owns) taken (now aside) g (now fitted) (now rows) kept ⌝ }
+    requires phases { ⌜ Phases (now t) (now starts) (now order) (now owns) taken (now aside) g (now fitted) (now rows) ⌝ }
+    requires kept { ⌜ kept ≡ planOf (now t) .M ⌝ }
     requires room { ⌜ leastPlan ≤ length (now plan) ⌝ }
     ensures { λ r. ⌜ Composed (now (t .entry)) (now (plan .entry)) (now (plan .exit)) (r .length) (r .additions) ⌝ }
 {

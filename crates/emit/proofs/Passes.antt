@@ -8,8 +8,9 @@ use lib.ListN.{length, getD, take, drop, drop-of-length-le, replicate}
 use lib.Seq.{drop-cons, getD-take, length-take-le}
 use Rattle.lists.specs.Lists.{rev, has, minus}
 use Rattle.lists.specs.Tests.{eqb-lt, byBool}
-use Rattle.table.specs.Checks.{check, offset, Places, Checks}
-use Rattle.table.specs.Table.{mostPlaces, places, number}
+use Rattle.table.specs.Accepted.{Accepted, few-places, each-places, places-wide}
+use Rattle.table.specs.Checks.{check, offset, Places}
+use Rattle.table.specs.Table.{mostPlaces, places, size, number}
 use Rattle.plan.specs.Step.{pack}
 use Rattle.rule.specs.Buffers.{solved, maskBits}
 use Rattle.rule.specs.Rule.{Solved, clearAndAdd, solvingSteps, scratchSteps, slotsNamed}
@@ -23,20 +24,18 @@ check-is : (t : List ℕ) (m j start weight : ℕ) → start ≡ 5 + m + offset 
 unfolding check
 check-is t m j start weight a b = ap₂ (λ s w. take w (drop s t)) a b
 
-wider : {t : List ℕ} {at weight n : ℕ} → Places t at weight n → n ≤ mostPlaces → Places t at weight mostPlaces
-wider p h = record { room = p .room; below = λ i l. let b = p .below i l in omega arith; rising = p .rising }
-
 pub check-read : {t starts marks : List ℕ} (start weight j : ℕ) → Readable t starts marks → j < number t → start ≡ getD starts j 0 → weight ≡ getD t (4 + j) 0
     → (take weight (drop start t) ≡ check t (number t) j) × Places t start weight mostPlaces
 check-read {t} start weight j r h a b =
-    let s : start ≡ 5 + number t + offset t j = a ∙ r .first .each j h in
-    (check-is t (number t) j start weight s b, rw (s, b) (wider (r .each .each j h) (r .each .narrow)))
+    let s : start ≡ 5 + number t + offset t j = a ∙ r .located .starts-at .each j h in
+    let k = r .located .table in
+    (check-is t (number t) j start weight s b, places-wide _ _ _ _ k j h start weight s b mostPlaces (few-places _ _ _ _ k))
 
 -- its places are below n
-check-low : (t : List ℕ) (n j : ℕ) → Checks t (number t) n → j < number t → (i : ℕ) → i < length (check t (number t) j) → getD (check t (number t) j) i 0 < n
+check-low : (t : List ℕ) (n j : ℕ) → Accepted t (number t) n (size t) → j < number t → (i : ℕ) → i < length (check t (number t) j) → getD (check t (number t) j) i 0 < n
 unfolding check
 check-low t n j c h i l =
-    let p = c .each j h in
+    let p = each-places _ _ _ _ c j h in
     let at = 5 + number t + offset t j in
     let e = part-length t at (getD t (4 + j) 0) (p .room) in
     let b = p .below i (omega arith) in
@@ -83,7 +82,7 @@ pub scratches-none : (skip t aside : List ℕ) (g : ℕ) → g ≤ length aside 
 scratches-none skip t aside g h = let l = length-take-le g aside h in
     ap (λ x. map pack (scratchSteps (places t + g) (marked skip) (map (check t (number t)) x))) (drop-of-length-le (take g aside) {i = g} (omega arith))
 
-pub scratches-next : (skip t aside : List ℕ) (g i : ℕ) → Checks t (number t) (places t) → g ≤ length aside → i < g → getD aside i 0 < number t
+pub scratches-next : (skip t aside : List ℕ) (g i : ℕ) → Accepted t (number t) (places t) (size t) → g ≤ length aside → i < g → getD aside i 0 < number t
     → scratches skip t aside g i ≡ one skip t (getD aside i 0) (places t + i) ++ scratches skip t aside g (i + 1)
 scratches-next skip t aside g i c r h k =
     let l = length-take-le g aside r in

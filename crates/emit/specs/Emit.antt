@@ -6,7 +6,8 @@ use Prim.Native.Nat.{ℕ, zero, suc, _+_, _<_, _≤_}
 use lib.Dec.{eqb}
 use lib.ListN.{length, getD, set, take}
 use Rattle.lists.specs.Lists.{rev, filter, minus, written}
-use Rattle.table.specs.Checks.{check, from, Checks, Starts}
+use Rattle.table.specs.Accepted.{Located}
+use Rattle.table.specs.Checks.{check, from}
 use Rattle.table.specs.Table.{mostPlaces, places, number}
 use Rattle.plan.specs.declared.Step.{Step}
 use Rattle.plan.specs.Step.{pack}
@@ -77,10 +78,9 @@ fittingRows n g fitted rows j zero = []
 fittingRows n g fitted rows j (suc c) = fitSteps n g (getD fitted j 0) (getD rows j 0) ++ fittingRows n g fitted rows (suc j) c
 
 -- ---- what code may read
--- the table's checks, where they start, and a mark for each place
+-- an accepted table, where its checks start, and a mark for each place
 pub record Readable (t starts marks : List ℕ) : Type 0 where
-  pub each : Checks t (number t) (places t)
-  pub first : Starts t (number t) starts
+  pub located : Located t (number t) (places t) starts
   pub all : mostPlaces ≤ length marks
 
 -- the numbers of some checks

@@ -5,7 +5,8 @@ use table::wide;
 ghost use mathlib.Core.Path.{_≡_};
 ghost use Prim.Native.Nat.{_≤_, _<_};
 ghost use lib.ListN.{length, take, drop};
-ghost use Rattle.table.specs.Checks.{Places, Checks, Starts};
+ghost use Rattle.table.specs.Accepted.{Located};
+ghost use Rattle.table.specs.Checks.{Places};
 ghost use Rattle.table.specs.Table.{mostPlaces, number, places};
 ghost use Rattle.rule.specs.Buffers.{maskWidth};
 ghost use Rattle.emit.specs.Emit.{Room, WroteSteps, marking, Readable, Numbers, Below};
@@ -122,8 +123,7 @@ pub fn solve_whole(
     taken: usize,
 ) -> usize
     requires room { ⌜ Room (now plan) at (wholeSteps (now t) (now order) (now owns) taken) ⌝ }
-    requires table { ⌜ Checks (now t) (number (now t)) (places (now t)) ⌝ }
-    requires starts { ⌜ Starts (now t) (number (now t)) (now starts) ⌝ }
+    requires table { ⌜ Located (now t) (number (now t)) (places (now t)) (now starts) ⌝ }
     requires checks { ⌜ Numbers (now t) (now order) taken ⌝ }
     requires own { ⌜ Below (places (now t)) (now owns) taken ⌝ }
     ensures { λ r. ⌜ WroteSteps (now (plan .entry)) at

@@ -3,7 +3,8 @@ ghost use mathlib.Core.Path.{_≡_};
 ghost use Prim.Native.Nat.{ℕ, _+_, _*_, _≤_, _<_};
 ghost use lib.ListN.{length, getD, take, drop, replicate};
 ghost use Rattle.gf2.specs.Gf2.{rowOf};
-ghost use Rattle.table.specs.Checks.{Valid};
+ghost use Rattle.table.specs.Accepted.{Accepted};
+ghost use Rattle.table.specs.Table.{size};
 ghost use Rattle.bits.specs.Front.{Front};
 ghost use Rattle.rows.specs.Leads.{Owners, Lowered};
 ghost use Rattle.keep.specs.Kept.{keptOf};
@@ -30,7 +31,7 @@ fn eliminate(
 
 // the numbers of the kept checks, and how many
 fn keep(t: &[u16], m: usize, n: usize, w: &mut [u64], owner: &mut [u16], ids: &mut [u16]) -> usize
-    requires table { ⌜ Valid (now t) m n ⌝ }
+    requires table { ⌜ Accepted (now t) m n (size (now t)) ⌝ }
     requires room { ⌜ (m * 16 ≤ length (now w)) × (n ≤ length (now owner)) × (m ≤ length (now ids)) ⌝ }
     requires unowned { ⌜ ((p : ℕ) → getD (now owner) p 0 ≡ 0) ⌝ }
     ensures { λ r. ⌜ Front (keptOf (now (t .entry)) m) (now (ids .entry)) (now (ids .exit)) r ⌝ }
@@ -55,7 +56,7 @@ fn keep(t: &[u16], m: usize, n: usize, w: &mut [u64], owner: &mut [u16], ids: &m
 
 // step 1: the numbers of the kept checks, and how many; the work is zero afterwards
 pub fn keep_checks(t: &[u16], m: usize, n: usize, work: &mut [u64], ids: &mut [u16]) -> usize
-    requires table { ⌜ Valid (now t) m n ⌝ }
+    requires table { ⌜ Accepted (now t) m n (size (now t)) ⌝ }
     requires room { ⌜ (m * 16 ≤ length (now work)) × (m ≤ length (now ids)) ⌝ }
     ensures kept { λ r. ⌜ Front (keptOf (now (t .entry)) m) (now (ids .entry)) (now (ids .exit)) r ⌝ }
     ensures work { λ _. ⌜ now (work .exit) ≡ replicate (length (now (work .entry))) 0 ⌝ }

@@ -13,7 +13,9 @@ use lib.Bits.{bitXor, xor-zero-r, xor-zero-l}
 use lib.Dec.{eqb, leb}
 use borrow.Author.Tests.{leb-true, leb-false, le-leb, lt-leb, eq-eqb, ne-eqb}
 use Rattle.gf2.specs.Gf2.{XorGroup, sumOver}
-use Rattle.table.specs.Checks.{check, offset, Checks}
+use Rattle.table.specs.Accepted.{Accepted, each-places}
+use Rattle.table.specs.Checks.{check, offset}
+use Rattle.table.specs.Table.{size}
 use Rattle.lists.specs.Tests.{eqb-true, eqb-false, eqb-self, byBool}
 use Rattle.lists.specs.Lists.{highest, has, All, All.nil, All.cons}
 use Rattle.lists.specs.ListLaws.{highest-is}
@@ -138,9 +140,9 @@ unfolding weight
 weight-is t i = refl
 
 -- ---- the picking
-pub check-length : (t : List ℕ) (m n j : ℕ) → Checks t m n → j < m → weight t j ≡ length (check t m j)
+pub check-length : (t : List ℕ) (m n j : ℕ) → Accepted t m n (size t) → j < m → weight t j ≡ length (check t m j)
 unfolding weight check
-check-length t m n j v h = let r = v .each j h .room in sym (simp (length-take, length-drop) (omega arith))
+check-length t m n j v h = let r = each-places _ _ _ _ v j h .room in sym (simp (length-take, length-drop) (omega arith))
 
 pub all-lives : {P : ℕ → Type 0} (live : List ℕ) (i c : ℕ) → ((j : ℕ) → i ≤ j → j < i + c → P j) → All P (lives live i c)
 unfolding lives
@@ -169,7 +171,7 @@ pub picked-place : (g : ℕ → List ℕ) (n p : ℕ) {JS c x : List ℕ} → Ta
 picked-place g n p {JS} {c} {x} s e =
     by-place (sym (single-is g JS c x n s) ∙ e) (tally-pick g p s (eqb-true (getD c p 0) 1 (highest-is n (λ q. eqb (getD c q 0) 1) p e)))
 
-pub picked-weight : (t : List ℕ) (m n : ℕ) (live : List ℕ) {c x : List ℕ} → Checks t m n → Tally (check t m) (lives live 0 m) c x → 0 < length (lives live 0 m)
+pub picked-weight : (t : List ℕ) (m n : ℕ) (live : List ℕ) {c x : List ℕ} → Accepted t m n (size t) → Tally (check t m) (lives live 0 m) c x → 0 < length (lives live 0 m)
     → highest n (λ q. eqb (getD c q 0) 1) ≡ none → Picked (check t m) (lives live 0 m) n (Aside (heaviestFrom (weight t) m 0 (lives live 0 m)))
 picked-weight t m n live {c} {x} v s h e =
     by-weight (sym (single-is (check t m) (lives live 0 m) c x n s) ∙ e)
@@ -231,13 +233,13 @@ has-at [] i h = absurd (omega arith)
 has-at (a ∷ l) zero h = rw (eqb-self a)
 has-at (a ∷ l) (suc i) h = byBool (eqb (getD l i 0) a) (λ e. rw e) (λ e. rw e (has-at l i (omega arith)))
 
-pub counted : (t : List ℕ) (m n j i : ℕ) {JS c x : List ℕ} → Checks t m n → Tally (check t m) JS c x → In j JS → j < m → i < getD t (4 + j) 0
+pub counted : (t : List ℕ) (m n j i : ℕ) {JS c x : List ℕ} → Accepted t m n (size t) → Tally (check t m) JS c x → In j JS → j < m → i < getD t (4 + j) 0
     → 0 < getD c (getD t (5 + m + offset t j + i) 0) 0
 unfolding check
 counted t m n j i {JS} {c} v s h k l =
     let at = 5 + m + offset t j in
     let wt = getD t (4 + j) 0 in
-    let r = v .each j k .room in
+    let r = each-places _ _ _ _ v j k .room in
     let len : i < length (take wt (drop at t)) = simp (length-take, length-drop) (omega arith) in
     let e : getD (take wt (drop at t)) i 0 ≡ getD t (at + i) 0 = getD-take wt (drop at t) i 0 l ∙ getD-drop at t i 0 in
     let y : has (getD t (at + i) 0) (take wt (drop at t)) ≡ true = rw e at (has-at (take wt (drop at t)) i len) in

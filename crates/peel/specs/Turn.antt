@@ -8,7 +8,7 @@ use lib.ListN.{length, getD, set, take}
 use lib.Dec.{eqb, leb}
 use Rattle.lists.specs.Lists.{highest, has}
 use Rattle.rule.specs.Buffers.{solved}
-use Rattle.table.specs.Checks.{check, Checks, Starts}
+use Rattle.table.specs.Checks.{check}
 use Rattle.rule.specs.Rule.{count, inOneOnly, first, without, heaviest, peel, solvedOf, setAsideOf}
 use Rattle.live.specs.Live.{Tally, Noted}
 use Rattle.keep.specs.Kept.{keptOf}
@@ -46,11 +46,6 @@ pub record Pick (g : ℕ → List ℕ) (f : List ℕ → Bool) (JS : List ℕ) (
 pub data Picked (g : ℕ → List ℕ) (JS : List ℕ) (n : ℕ) : Event → Type 0 where
   by-place : {p j : ℕ} → highest n (inOneOnly (map g JS)) ≡ some p → Pick g (has p) JS j → Picked g JS n (Took p j)
   by-weight : {j : ℕ} → highest n (inOneOnly (map g JS)) ≡ none → Pick g (heaviest (map g JS)) JS j → Picked g JS n (Aside j)
-
--- the checks of t, and where each one's places start
-pub record Located (t : List ℕ) (m n : ℕ) (starts : List ℕ) : Type 0 where
-  pub checks : Checks t m n
-  pub starts-at : Starts t m starts
 
 -- flags, counts and names tell which checks are live
 pub record Ready (t : List ℕ) (m n : ℕ) (live count names : List ℕ) : Type 0 where

@@ -4,12 +4,13 @@ ghost use mathlib.Core.Path.{_≡_};
 ghost use mathlib.Core.List.{map};
 ghost use Prim.Native.Nat.{ℕ, _+_, _≤_, _<_};
 ghost use lib.ListN.{length, getD, replicate};
-ghost use Rattle.table.specs.Checks.{check, Checks, Starts};
-ghost use Rattle.table.specs.Table.{total, number, places, refusal};
+ghost use Rattle.table.specs.Accepted.{Accepted, Located};
+ghost use Rattle.table.specs.Checks.{check};
+ghost use Rattle.table.specs.Table.{total, places, size};
 ghost use Rattle.keep.specs.Kept.{keptOf};
 ghost use Rattle.live.specs.Live.{Calm};
 ghost use Rattle.peel.specs.Choice.{ChoiceOf};
-ghost use Rattle.peel.specs.Turn.{lives, heaviestFrom, weight, In, Located, Ready, Picked, Removed, Room, Peeled};
+ghost use Rattle.peel.specs.Turn.{lives, heaviestFrom, weight, In, Ready, Picked, Removed, Room, Peeled};
 ghost use Rattle.peel.specs.Turn.{Numbers, Fresh, Entered, First};
 
 pub enum Event {
@@ -19,7 +20,8 @@ pub enum Event {
 
 // the first live check of greatest weight, or m
 fn heaviest_of(t: &[u16], m: usize, live: &[u8]) -> usize
-    requires { ⌜ (5 + m ≤ length (now t)) × (m ≤ length (now live)) ⌝ }
+    requires table { ⌜ Accepted (now t) m (places (now t)) (size (now t)) ⌝ }
+    requires flags { ⌜ m ≤ length (now live) ⌝ }
     ensures { λ r. ⌜ r ≡ heaviestFrom (weight (now (t .entry))) m 0 (lives (now (live .entry)) 0 m) ⌝ }
 {
     let mut best = m;
@@ -48,7 +50,7 @@ fn pick(
     names: &[u16],
     top: usize,
 ) -> Event
-    requires checks { ⌜ Checks (now t) m n ⌝ }
+    requires table { ⌜ Accepted (now t) m n (size (now t)) ⌝ }
     requires ready { ⌜ Ready (now t) m n (now live) (now count) (now names) ⌝ }
     requires live { ⌜ 0 < length (lives (now live) 0 m) ⌝ }
     requires calm { ⌜ Calm (now count) top ⌝ }
@@ -192,7 +194,8 @@ fn first_tally(
 
 // the ones of the kept checks
 fn ones_of(t: &[u16], m: usize, ids: &[u16], k: usize) -> usize
-    requires { ⌜ (m ≤ 512) × (5 + m ≤ length (now t)) × Numbers (now t) m (now ids) k ⌝ }
+    requires table { ⌜ Accepted (now t) m (places (now t)) (size (now t)) ⌝ }
+    requires kept { ⌜ Numbers (now t) m (now ids) k ⌝ }
     ensures { λ r. ⌜ r ≡ total (map (weight (now (t .entry))) (keptOf (now (t .entry)) m)) ⌝ }
 {
     let mut sum = 0;
@@ -286,8 +289,9 @@ pub fn choose_checks(
     owns: &mut [u16],
     aside: &mut [u16],
 ) -> Choice
-    requires { ⌜ (refusal (now t) ≡ 0) × (m ≡ number (now t)) × (n ≡ places (now t)) × Starts (now t) m (now starts)
-        × (length (now work) ≡ 8192) × (512 ≤ length (now order)) × (512 ≤ length (now owns)) × (512 ≤ length (now aside)) ⌝ }
+    requires located { ⌜ Located (now t) m n (now starts) ⌝ }
+    requires work { ⌜ length (now work) ≡ 8192 ⌝ }
+    requires room { ⌜ Room 512 (now order) (now owns) (now aside) ⌝ }
     ensures choice { λ r. ⌜ ChoiceOf (now (t .entry)) (now (order .exit)) (now (owns .exit)) (now (aside .exit))
         (r .kept) (r .ones) (r .taken) (r .aside) ⌝ }
     ensures work { λ _. ⌜ now (work .exit) ≡ replicate 8192 0 ⌝ }

@@ -4,8 +4,8 @@ use mathlib.Core.List.{List, [], _∷_, map}
 use Prim.Native.Nat.{ℕ, _+_, _≤_}
 use native.Mathlib.Omega.{arith}
 use lib.ListN.{length, take}
-use Rattle.table.specs.Checks.{check, Starts}
-use Rattle.table.specs.ChecksLaws.{each-check}
+use Rattle.table.specs.Accepted.{Located}
+use Rattle.table.specs.Checks.{check}
 use Rattle.table.specs.Table.{mostChecks, mostOnes, places, size, checks, ones, refusal, number}
 use Rattle.table.specs.TableLaws.{accepted}
 use Rattle.plan.specs.declared.Step.{Step}
@@ -19,7 +19,7 @@ use Rattle.rule.specs.PlanOf.{planOf, numbersOf, withNumbers}
 use Rattle.rule.specs.Rule.{kept}
 use Rattle.peel.specs.Choice.{ChoiceOf}
 use Rattle.columns.specs.Fitting.{Ready}
-use Rattle.compose.specs.Compose.{Composable, Composed}
+use Rattle.compose.specs.Compose.{Phases, Composed}
 use Rattle.planner.specs.Planning.{answerAt, Answer}
 use Rattle.planner.proofs.Refusals.{gap-is}
 
@@ -63,51 +63,51 @@ module _ (t : List ℕ) (ok : refusal t ≡ 0) where
   pub adds-most : planOf t .g ≤ mostAside → addSteps (planOf t .steps) ≤ leastPlan
   adds-most h = let a = adds-few (planOf t .steps) in let b = numbers-fit h in omega arith
 
-  -- ---- what the next phases ask
-  module _ {starts order owns aside : List ℕ} {M W taken put : ℕ} (st : Starts t (number t) starts) (ch : ChoiceOf t order owns aside M W taken put) (few : put ≤ mostAside) where
-    pub fit-ready : {m n : ℕ} → m ≡ number t → n ≡ places t → Ready t m n starts order owns taken aside put
-    fit-ready em en = record {
-      accepted = ok;
-      count = em;
-      size = en;
-      checks = rw (em, en) (each-check t ok);
-      starts-at = rw em st;
-      chosen = ch .chosen;
-      few = omega arith;
-    }
+-- ---- what the next phases ask
+module _ {t starts order owns aside : List ℕ} {M W taken put : ℕ} (lo : Located t (number t) (places t) starts) (ch : ChoiceOf t order owns aside M W taken put) (few : put ≤ mostAside) where
+  ok : refusal t ≡ 0
+  ok = lo .table .accepted
 
-    pub plan-ready : {m n : ℕ} {fitted rows : List ℕ} → m ≡ number t → n ≡ places t
-        → Fitted n (solved (check t m) order owns taken) (map (check t m) (take put aside)) put fitted rows
-        → Composable t starts order owns taken aside put fitted rows M
-    plan-ready {m} {n} {fitted} {rows} em en f = record {
-      accepted = ok;
-      first = st;
-      chosen = ch .chosen;
-      few = few;
-      fits = subst (λ (i : ℕ). Fitted (places t) (solved (check t i) order owns taken) (map (check t i) (take put aside)) put fitted rows) em
-          (subst (λ (i : ℕ). Fitted i (solved (check t m) order owns taken) (map (check t m) (take put aside)) put fitted rows) en f);
-      number-kept = ch .keeps ∙ sym kept-is;
-    }
+  pub fit-ready : {m n : ℕ} → m ≡ number t → n ≡ places t → Ready t m n starts order owns taken aside put
+  fit-ready em en = record {
+    located = rw (em, en) lo;
+    chosen = ch .chosen;
+    few = omega arith;
+  }
 
-    gap-few : planOf t .g ≤ mostAside
-    gap-few = let a = gap-is t in let b = ch .gap in omega arith
+  pub plan-ready : {m n : ℕ} {fitted rows : List ℕ} → m ≡ number t → n ≡ places t
+      → Fitted n (solved (check t m) order owns taken) (map (check t m) (take put aside)) put fitted rows
+      → Phases t starts order owns taken aside put fitted rows
+  plan-ready {m} {n} {fitted} {rows} em en f = record {
+    located = lo;
+    chosen = ch .chosen;
+    few = few;
+    fits = subst (λ (i : ℕ). Fitted (places t) (solved (check t i) order owns taken) (map (check t i) (take put aside)) put fitted rows) em
+        (subst (λ (i : ℕ). Fitted i (solved (check t m) order owns taken) (map (check t m) (take put aside)) put fitted rows) en f);
+  }
 
-    pub kept-fits : M ≤ mostChecks
-    kept-fits = let a = kept-is in let b = ch .keeps in let c = kept-few in omega arith
+  pub number-kept : M ≡ planOf t .M
+  number-kept = ch .keeps ∙ sym (kept-is t ok)
 
-    pub ones-fit : W ≤ mostOnes
-    ones-fit = let a = ones-is in let b = ch .with-ones in let c = ones-few in omega arith
+  gap-few : planOf t .g ≤ mostAside
+  gap-few = let a = gap-is t in let b = ch .gap in omega arith
 
-    pub length-fits : {before after : List ℕ} {count adds : ℕ} → Composed t before after count adds → count ≤ leastPlan
-    length-fits e = let a = length-few gap-few in let b = e .numbers in omega arith
+  pub kept-fits : M ≤ mostChecks
+  kept-fits = let a = kept-is t ok in let b = ch .keeps in let c = kept-few t ok in omega arith
 
-    pub adds-fit : {before after : List ℕ} {count adds : ℕ} → Composed t before after count adds → adds ≤ leastPlan
-    adds-fit e = let a = adds-most gap-few in let b = e .additions in omega arith
+  pub ones-fit : W ≤ mostOnes
+  ones-fit = let a = ones-is t ok in let b = ch .with-ones in let c = ones-few t ok in omega arith
 
-    pub written-out : {before after : List ℕ} {count adds : ℕ} → Composed t before after count adds
-        → (_≡_ {A = Answer} (record { refusal = 0; length = count; kept = M; ones = W; gap = put; additions = adds }) (answerAt 0 t))
-        × (after ≡ withNumbers t before)
-    written-out {before} {after} {count} {adds} e = (
-      same-answer refl (e .numbers) (ch .keeps ∙ sym kept-is) (ch .with-ones ∙ sym ones-is) (ch .gap ∙ sym (gap-is t)) (e .additions),
-      e .list,
-    )
+  pub length-fits : {before after : List ℕ} {count adds : ℕ} → Composed t before after count adds → count ≤ leastPlan
+  length-fits e = let a = length-few t ok gap-few in let b = e .numbers in omega arith
+
+  pub adds-fit : {before after : List ℕ} {count adds : ℕ} → Composed t before after count adds → adds ≤ leastPlan
+  adds-fit e = let a = adds-most t ok gap-few in let b = e .additions in omega arith
+
+  pub written-out : {before after : List ℕ} {count adds : ℕ} → Composed t before after count adds
+      → (_≡_ {A = Answer} (record { refusal = 0; length = count; kept = M; ones = W; gap = put; additions = adds }) (answerAt 0 t))
+      × (after ≡ withNumbers t before)
+  written-out {before} {after} {count} {adds} e = (
+    same-answer refl (e .numbers) (ch .keeps ∙ sym (kept-is t ok)) (ch .with-ones ∙ sym (ones-is t ok)) (ch .gap ∙ sym (gap-is t)) (e .additions),
+    e .list,
+  )

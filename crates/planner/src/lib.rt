@@ -5,8 +5,8 @@ use table::wide;
 ghost use mathlib.Core.Path.{_≡_};
 ghost use Prim.Native.Nat.{_≤_};
 ghost use lib.ListN.{length};
-ghost use Rattle.table.specs.Checks.{Starts};
-ghost use Rattle.table.specs.Table.{number, refusal};
+ghost use Rattle.table.specs.Accepted.{Located};
+ghost use Rattle.table.specs.Table.{places, number, refusal};
 ghost use Rattle.peel.specs.Choice.{ChoiceOf};
 ghost use Rattle.plan.specs.Layout.{mostAside, leastPlan};
 ghost use Rattle.rule.specs.PlanOf.{withNumbers};
@@ -54,8 +54,7 @@ fn write_out(
     aside: &[u16],
     c: Choice,
 ) -> Planned
-    requires table { ⌜ refusal (now t) ≡ 0 ⌝ }
-    requires starts { ⌜ Starts (now t) (number (now t)) (now starts) ⌝ }
+    requires table { ⌜ Located (now t) (number (now t)) (places (now t)) (now starts) ⌝ }
     requires choice { ⌜ ChoiceOf (now t) (now order) (now owns) (now aside) (c .kept) (c .ones) (c .taken) (c .aside) ⌝ }
     requires few { ⌜ c .aside ≤ mostAside ⌝ }
     requires room { ⌜ leastPlan ≤ length (now plan) ⌝ }

@@ -7,8 +7,8 @@ use native.Mathlib.Numerals.{add-one}
 use native.Mathlib.Omega.{arith}
 use lib.ListN.{length, getD, take, drop}
 use lib.Seq.{drop-cons}
-use Rattle.table.specs.Checks.{offset, check, Places, CheckIn}
-use Rattle.table.specs.ChecksLaws.{limits, short, offset-all, checks-length, checks-at, check-places, weight-small, each-check}
+use Rattle.table.specs.Checks.{offset, check, Places, Starts, CheckIn}
+use Rattle.table.specs.ChecksLaws.{limits, short, offset-all, checks-length, checks-at, check-places, weight-small}
 use Rattle.table.specs.SumLaws.{places-in}
 use Rattle.table.specs.Table.{places, size, number, onesCount, checks, refusal}
 
@@ -19,14 +19,23 @@ pub record Accepted (t : List ℕ) (m n s : ℕ) : Type 0 where
   pub places-are : n ≡ places t
   pub size-is : s ≡ size t
 
+-- and where each check's places start
+pub record Located (t : List ℕ) (m n : ℕ) (starts : List ℕ) : Type 0 where
+  pub table : Accepted t m n (size t)
+  pub starts-at : Starts t m starts
+
 -- what a look at the table and its first words tell
 pub looked-over : (t : List ℕ) (r m n s : ℕ) → r ≡ refusal t → r ≡ 0 → m ≡ number t → n ≡ places t → s ≡ size t → Accepted t m n s
 looked-over t r m n s look ok em en es = record { accepted = sym look ∙ ok; number-is = em; places-are = en; size-is = es }
 
 pub words : (t : List ℕ) (r : ℕ) → r ≡ refusal t → r ≡ 0 → 5 ≤ length t
-words t r look ok = let h = each-check t (sym look ∙ ok) .weights in omega arith
+words t r look ok = let l = limits t (sym look ∙ ok) .long in omega arith
 
 module _ (t : List ℕ) (m n s : ℕ) (k : Accepted t m n s) where
+  -- for code that reads neither the places nor the packet size
+  pub by-number : Accepted t m (places t) (size t)
+  by-number = record { accepted = k .accepted; number-is = k .number-is; places-are = refl; size-is = refl }
+
   pub few-places : n ≤ 1024
   few-places = rw (k .places-are) (limits t (k .accepted) .few-places)
 
@@ -48,7 +57,7 @@ module _ (t : List ℕ) (m n s : ℕ) (k : Accepted t m n s) where
   check-count = checks-length t (k .accepted) ∙ sym (k .number-is)
 
   pub has-weights : 5 + m ≤ length t
-  has-weights = let c = each-check t (k .accepted) .weights in let e = k .number-is in omega arith
+  has-weights = let l = limits t (k .accepted) .long in let e = k .number-is in omega arith
 
   pub light : (j : ℕ) → j < m → getD t (4 + j) 0 ≤ 64
   light j h = weight-small t (k .accepted) j (subst (λ x. j < x) (k .number-is) h)
@@ -70,6 +79,9 @@ module _ (t : List ℕ) (m n s : ℕ) (k : Accepted t m n s) where
 
     pub check-in : (b : List ℕ) → length b ≡ n * s → CheckIn t a w b n s
     check-in b e = places-in t a w b n s (places-at n refl) e
+
+  pub each-places : (j : ℕ) → j < m → Places t (5 + m + offset t j) (getD t (4 + j) 0) n
+  each-places j h = places-at j h (5 + m + offset t j) (getD t (4 + j) 0) refl refl n refl
 
 -- the last check ends where the table does
 pub offset-last : (t : List ℕ) (m n s : ℕ) → Accepted t m n s → 5 + m + offset t m ≡ length t

@@ -20,26 +20,11 @@ unfoldable pub from : ℕ → ℕ → List ℕ
 from i zero = []
 from i (suc c) = i ∷ from (suc i) c
 
--- a table that code may read without a look at its bounds
-pub record Valid (t : List ℕ) (m n : ℕ) : Type 0 where
-  pub few : m ≤ 512
-  pub narrow : n ≤ 1024
-  pub weights : 5 + m ≤ length t
-  pub room : (i : ℕ) → i < m → 5 + m + offset t i + getD t (4 + i) 0 ≤ length t
-  pub below : (j : ℕ) → 5 + m ≤ j → j < length t → getD t j 0 < n
-
 -- weight places of t from at: inside t, below n, ascending
 pub record Places (t : List ℕ) (at weight n : ℕ) : Type 0 where
   pub room : at + weight ≤ length t
   pub below : (i : ℕ) → i < weight → getD t (at + i) 0 < n
   pub rising : (i k : ℕ) → i < k → k < weight → getD t (at + i) 0 < getD t (at + k) 0
-
--- every check's places
-pub record Checks (t : List ℕ) (m n : ℕ) : Type 0 where
-  pub few : m ≤ 512
-  pub narrow : n ≤ 1024
-  pub weights : 5 + m ≤ length t
-  pub each : (j : ℕ) → j < m → Places t (5 + m + offset t j) (getD t (4 + j) 0) n
 
 -- where each check's places start
 pub record Starts (t : List ℕ) (m : ℕ) (starts : List ℕ) : Type 0 where

@@ -11,7 +11,7 @@ use lib.ListN.{length, getD, take, drop, length-map, length-take, length-drop}
 use lib.Seq.{length-take-le, getD-take, getD-drop, drop-cons, drop-drop, take-suc}
 use Rattle.lists.specs.Lists.{allPass, anyOf}
 use Rattle.lists.specs.Tests.{or-false-l, or-false-r, byBool}
-use Rattle.table.specs.Checks.{offset, check, from, Valid, Places, Checks}
+use Rattle.table.specs.Checks.{offset, check, from, Places}
 use Rattle.table.specs.Table.{places, size, number, weights, onesCount, total, cutUp, checks, rising, tooShort, beyondLimits, badLengths, badPlaces, refusal, outside}
 
 -- ---- the limits and the length
@@ -177,19 +177,6 @@ rising-up n b (p ∷ c) a i zero l h = absurd (omega arith)
 rising-up n b (p ∷ c) a zero (suc k) l h = rising-at n (suc p) c (and-r (leb b p && ltb p n) (rising n (suc p) c) a) k (omega arith) .0
 rising-up n b (p ∷ c) a (suc i) (suc k) l h = rising-up n (suc p) c (and-r (leb b p && ltb p n) (rising n (suc p) c) a) i k (omega arith) (omega arith)
 
--- places cut up into ascending checks, none left over: all lie below n
-cut-low : (n : ℕ) (ws ps : List ℕ) → length ps ≤ total ws → allPass (rising n 0) (cutUp ws ps) ≡ true → (j : ℕ) → j < length ps → getD ps j 0 < n
-cut-low n [] ps e a j h = absurd (omega arith)
-cut-low n (w ∷ ws) ps e a j h = byBool (ltb j w)
-    (λ b. let l = ltb-true j w b in
-    let k : j < length (take w ps) = simp length-take (omega arith) in
-    subst (λ (x : ℕ). x < n) (getD-take w ps j 0 l) (rising-at n 0 (take w ps) (and-l (rising n 0 (take w ps)) _ a) j k .1))
-    (λ b. let l = ltb-false j w b in
-    let d = length-drop w ps in
-    let z : w + (j - w) ≡ j = omega arith in
-    let r = cut-low n ws (drop w ps) (omega arith) (and-r (rising n 0 (take w ps)) _ a) (j - w) (omega arith) in
-    subst (λ (x : ℕ). x < n) (getD-drop w ps (j - w) 0 ∙ ap (λ k. getD ps k 0) z) r)
-
 -- ---- an accepted table
 module _ (t : List ℕ) (ok : refusal t ≡ 0) where
   pub has-weights : 5 + number t ≤ length t
@@ -262,19 +249,3 @@ module _ (t : List ℕ) (ok : refusal t ≡ 0) where
         rising = λ i k a b. subst (λ (x : ℕ). x < getD t (5 + number t + offset t j + k) 0) (check-at j i (omega arith))
             (subst (λ (x : ℕ). getD (check t (number t) j) i 0 < x) (check-at j k b) (rising-up (places t) 0 (check t (number t) j) r i k a (omega arith)));
       }
-
-  pub each-check : Checks t (number t) (places t)
-  each-check = record { few = limits t ok .few-checks; narrow = limits t ok .few-places; weights = has-weights; each = check-places }
-
-  -- every word behind the weights is a place
-  pub place-low : (j : ℕ) → 5 + number t ≤ j → j < length t → getD t j 0 < places t
-  place-low j a b =
-      let m = 5 + number t in
-      let d = length-drop m t in
-      let l = limits t ok in
-      let z : m + (j - m) ≡ j = omega arith in
-      let e : length (drop m t) ≤ total (weights t) = omega (arith, l .long, l .ones-are) in
-      subst (λ (x : ℕ). x < places t) (getD-drop m t (j - m) 0 ∙ ap (λ k. getD t k 0) z) (cut-low (places t) (weights t) (drop m t) e (l .rises) (j - m) (omega arith))
-
-  pub valid : Valid t (number t) (places t)
-  valid = record { few = limits t ok .few-checks; narrow = limits t ok .few-places; weights = has-weights; room = check-room; below = place-low }

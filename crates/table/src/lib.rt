@@ -4,10 +4,11 @@ ghost use Prim.Native.Nat.{_+_, _*_, _≤_};
 ghost use lib.ListN.{length, take, drop};
 ghost use denote.Ref.{ptr};
 ghost use Rattle.lists.specs.Lists.{allPass};
+ghost use Rattle.table.specs.Accepted.{Accepted};
 ghost use Rattle.table.specs.Checks.{Starts};
 ghost use Rattle.table.specs.LookOver.{weighed};
 ghost use Rattle.table.specs.PacketCall.{packetRefusal, partAt, packetPart, partStart};
-ghost use Rattle.table.specs.Table.{number, weights, total, cutUp, rising, beyondLimits, badLengths, badPlaces, refusal};
+ghost use Rattle.table.specs.Table.{places, size, number, weights, total, cutUp, rising, beyondLimits, badLengths, badPlaces, refusal};
 ghost use Rattle.table.specs.Table.{outside as isOutside};
 
 // ---- the table
@@ -164,7 +165,8 @@ pub fn look_over(t: &[u16]) -> u32
 
 // where the places of each of the m checks start
 pub fn fill_starts(t: &[u16], m: usize, starts: &mut [u16])
-    requires { ⌜ (refusal (now t) ≡ 0) × (m ≡ number (now t)) × (m ≤ length (now starts)) ⌝ }
+    requires table { ⌜ Accepted (now t) m (places (now t)) (size (now t)) ⌝ }
+    requires room { ⌜ m ≤ length (now starts) ⌝ }
     ensures { λ _. ⌜ Starts (now (t .entry)) m (now (starts .exit)) ⌝ }
 {
     let mut at = 5 + m;

@@ -1,7 +1,8 @@
 -- `columns::fill_columns` meets its contract: the columns are those of the first i set-aside checks.
 use mathlib.Core.List.{map}
 use Rattle.gf2.specs.Gf2.{rowOf}
-use Rattle.table.specs.Checks.{check, offset, Places}
+use Rattle.table.specs.Accepted.{has-weights, each-places, places-wide}
+use Rattle.table.specs.Checks.{check, offset}
 use Rattle.columns.specs.Cols.{Columns}
 use Rattle.columns.proofs.Pushing.{fill-turn, unit-word}
 use Prim.Native.Nat.{_+_, _-_, _≤_, _<_}
@@ -18,7 +19,7 @@ abbrev μ-loop : tie.MeasureT-loop
 μ-loop col₀ t m starts aside g i₀ col i = g - i
 
 loop-holds : tie.Need-loop-holds Inv-loop μ-loop
-loop-holds c = (omega arith, refl, c .before .before .before .before .pre .1)
+loop-holds c = (omega arith, refl, c .before .before .before .before .pre .1 .1)
 
 mul-wide : tie.Need-mul-wide Inv-loop μ-loop
 mul-wide c =
@@ -28,8 +29,8 @@ mul-wide c =
     let jm = v .numbers (s .i) less in
     let few = v .few in
     let room = v .room in
-    let wts = v .checks .weights in
-    let sr = v .starts-at .room in
+    let wts = has-weights _ _ _ _ (v .located .table) in
+    let sr = v .located .starts-at .room in
     omega arith
 
 shared-slice-read-wide : tie.Need-shared-slice-read-wide Inv-loop μ-loop
@@ -40,8 +41,8 @@ shared-slice-read-wide c =
     let jm = v .numbers (s .i) less in
     let few = v .few in
     let room = v .room in
-    let wts = v .checks .weights in
-    let sr = v .starts-at .room in
+    let wts = has-weights _ _ _ _ (v .located .table) in
+    let sr = v .located .starts-at .room in
     omega arith
 
 wide-requires : tie.Need-wide-requires Inv-loop μ-loop
@@ -55,8 +56,8 @@ mul-wide-2 c =
     let jm = v .numbers (s .i) less in
     let few = v .few in
     let room = v .room in
-    let wts = v .checks .weights in
-    let sr = v .starts-at .room in
+    let wts = has-weights _ _ _ _ (v .located .table) in
+    let sr = v .located .starts-at .room in
     omega arith
 
 shared-slice-read-wide-2 : tie.Need-shared-slice-read-wide-2 Inv-loop μ-loop
@@ -67,8 +68,8 @@ shared-slice-read-wide-2 c =
     let jm = v .numbers (s .i) less in
     let few = v .few in
     let room = v .room in
-    let wts = v .checks .weights in
-    let sr = v .starts-at .room in
+    let wts = has-weights _ _ _ _ (v .located .table) in
+    let sr = v .located .starts-at .room in
     omega arith
 
 wide-requires-2 : tie.Need-wide-requires-2 Inv-loop μ-loop
@@ -82,8 +83,8 @@ add-wide c =
     let jm = v .numbers (s .i) less in
     let few = v .few in
     let room = v .room in
-    let wts = v .checks .weights in
-    let sr = v .starts-at .room in
+    let wts = has-weights _ _ _ _ (v .located .table) in
+    let sr = v .located .starts-at .room in
     omega arith
 
 mul-wide-3 : tie.Need-mul-wide-3 Inv-loop μ-loop
@@ -94,8 +95,8 @@ mul-wide-3 c =
     let jm = v .numbers (s .i) less in
     let few = v .few in
     let room = v .room in
-    let wts = v .checks .weights in
-    let sr = v .starts-at .room in
+    let wts = has-weights _ _ _ _ (v .located .table) in
+    let sr = v .located .starts-at .room in
     omega arith
 
 shared-slice-read-wide-3 : tie.Need-shared-slice-read-wide-3 Inv-loop μ-loop
@@ -106,8 +107,8 @@ shared-slice-read-wide-3 c =
     let jm = v .numbers (s .i) less in
     let few = v .few in
     let room = v .room in
-    let wts = v .checks .weights in
-    let sr = v .starts-at .room in
+    let wts = has-weights _ _ _ _ (v .located .table) in
+    let sr = v .located .starts-at .room in
     omega arith
 
 wide-requires-3 : tie.Need-wide-requires-3 Inv-loop μ-loop
@@ -121,8 +122,8 @@ cast-spread c =
     let jm = v .numbers (s .i) less in
     let few = v .few in
     let room = v .room in
-    let wts = v .checks .weights in
-    let sr = v .starts-at .room in
+    let wts = has-weights _ _ _ _ (v .located .table) in
+    let sr = v .located .starts-at .room in
     omega arith
 
 shl-spread : tie.Need-shl-spread Inv-loop μ-loop
@@ -133,8 +134,8 @@ shl-spread c =
     let jm = v .numbers (s .i) less in
     let few = v .few in
     let room = v .room in
-    let wts = v .checks .weights in
-    let sr = v .starts-at .room in
+    let wts = has-weights _ _ _ _ (v .located .table) in
+    let sr = v .located .starts-at .room in
     omega arith
 
 spread-requires : tie.Need-spread-requires Inv-loop μ-loop
@@ -145,15 +146,15 @@ spread-requires c κs =
     let jm = v .numbers (s .i) less in
     let few = v .few in
     let room = v .room in
-    let wts = v .checks .weights in
-    let sr = v .starts-at .room in
+    let wts = has-weights _ _ _ _ (v .located .table) in
+    let sr = v .located .starts-at .room in
     let a = c .before .before .before .before .before .before .before .before .before .before .before .before .before .args in
     let j = c .before .before .before .before .before .wide .result in
     let jl : j < a .m = omega (arith, c .before .before .before .before .before .wide .ensures) in
-    let e1 : c .before .before .wide2 .result ≡ 5 + a .m + offset (a .t .now) j = c .before .before .wide2 .ensures ∙ v .starts-at .each j jl in
+    let e1 : c .before .before .wide2 .result ≡ 5 + a .m + offset (a .t .now) j = c .before .before .wide2 .ensures ∙ v .located .starts-at .each j jl in
     let e2 : c .wide3 .result ≡ getD (a .t .now) (4 + j) 0 = c .wide3 .ensures in
-    let pl : Places (a .t .now) (5 + a .m + offset (a .t .now) j) (getD (a .t .now) (4 + j) 0) (length (s .col)) = rw (s .inv .1) (v .checks .each j jl) in
-    rw (e1, e2) pl
+    let wide = c .before .before .before .before .before .before .before .before .before .before .before .before .before .pre .1 .0 in
+    places-wide _ _ _ _ (v .located .table) j jl _ _ e1 e2 (length (s .col)) (omega (arith, s .inv .1))
 
 add-i : tie.Need-add-i Inv-loop μ-loop
 add-i c = omega arith
@@ -169,14 +170,14 @@ loop-again c =
     let jm = v .numbers (s .i) less in
     let few = v .few in
     let room = v .room in
-    let wts = v .checks .weights in
-    let sr = v .starts-at .room in
+    let wts = has-weights _ _ _ _ (v .located .table) in
+    let sr = v .located .starts-at .room in
     let a = c .before .before .before .before .before .before .before .before .before .before .before .before .before .before .before .before .args in
     let j = c .before .before .before .before .before .before .before .before .wide .result in
     let jl : j < a .m = omega (arith, c .before .before .before .before .before .before .before .before .wide .ensures) in
-    let e1 : c .before .before .before .before .before .wide2 .result ≡ 5 + a .m + offset (a .t .now) j = c .before .before .before .before .before .wide2 .ensures ∙ v .starts-at .each j jl in
+    let e1 : c .before .before .before .before .before .wide2 .result ≡ 5 + a .m + offset (a .t .now) j = c .before .before .before .before .before .wide2 .ensures ∙ v .located .starts-at .each j jl in
     let e2 : c .before .before .before .wide3 .result ≡ getD (a .t .now) (4 + j) 0 = c .before .before .before .wide3 .ensures in
-    (omega arith, c .before .col .given ∙ s .inv .1, fill-turn _ _ _ j _ _ (s .i) _ _ (v .checks .each j jl) (omega arith) (c .before .before .before .before .before .before .before .before .wide .ensures) e1 e2 (unit-word (s .i) (omega arith)) (s .inv .2) (c .before .before .spread .ensures))
+    (omega arith, c .before .col .given ∙ s .inv .1, fill-turn _ _ _ j _ _ (s .i) _ _ (each-places _ _ _ _ (v .located .table) j jl) (omega arith) (c .before .before .before .before .before .before .before .before .wide .ensures) e1 e2 (unit-word (s .i) (omega arith)) (s .inv .2) (c .before .before .spread .ensures))
 
 same-length : tie.Need-same-length Inv-loop μ-loop
 same-length c = c .before .loop .inv .1

@@ -1,5 +1,6 @@
 -- `columns::fit_places` meets its contract.
 use Rattle.columns.proofs.Inverse.{asks-aside, asks-taken, no-columns, all-fitted}
+use Rattle.table.specs.Accepted.{few-places}
 use native.Mathlib.Omega.{arith}
 use borrow.Author.Needs.{needs}
 use Rattle.columns.proofs.fit_places.Statement.{statement}
@@ -9,13 +10,21 @@ slice-aggregate-fill-columns : tie.Need-slice-aggregate-fill-columns
 slice-aggregate-fill-columns c = search needs
 
 fill-columns-requires : tie.Need-fill-columns-requires
-fill-columns-requires c κs = (asks-aside _ (c .before .before .before .before .before .before .before .before .pre .0) (omega arith), no-columns 1024)
+fill-columns-requires c κs =
+    let y = c .before .before .before .before .before .before .before .before .pre .0 in
+    let e = y .located .table .places-are in
+    let f = few-places _ _ _ _ (y .located .table) in
+    (asks-aside y, (omega arith, no-columns 1024))
 
 slice-aggregate-push-all : tie.Need-slice-aggregate-push-all
 slice-aggregate-push-all c = search needs
 
 push-all-requires : tie.Need-push-all-requires
-push-all-requires c κs = asks-taken _ (c .before .before .before .before .before .before .before .before .before .before .before .pre .0) (omega arith)
+push-all-requires c κs =
+    let y = c .before .before .before .before .before .before .before .before .before .before .before .pre .0 in
+    let e = y .located .table .places-are in
+    let f = few-places _ _ _ _ (y .located .table) in
+    (asks-taken y, omega arith)
 
 units-requires : tie.Need-units-requires
 units-requires c κs = search needs
@@ -24,7 +33,7 @@ slice-aggregate-fit : tie.Need-slice-aggregate-fit
 slice-aggregate-fit c = search needs
 
 fit-requires : tie.Need-fit-requires
-fit-requires c κs = search needs
+fit-requires c κs = let f = few-places _ _ _ _ (c .before .before .before .before .before .before .before .before .before .before .before .before .before .before .before .before .before .before .before .before .pre .0 .located .table) in search needs
 
 same-length : tie.Need-same-length
 same-length c = search needs

@@ -2,7 +2,8 @@
 use mathlib.Core.List.{map, List}
 use Rattle.rule.specs.Rule.{putInAll}
 use Rattle.rule.specs.Buffers.{solved}
-use Rattle.table.specs.Checks.{check, offset, Places}
+use Rattle.table.specs.Accepted.{has-weights, each-places, places-wide}
+use Rattle.table.specs.Checks.{check, offset}
 use Rattle.columns.specs.Cols.{Columns}
 use Rattle.columns.proofs.Pushing.{start, turn}
 use Prim.Native.Nat.{ℕ, _+_, _-_, _≤_, _<_}
@@ -25,12 +26,12 @@ mul-wide : tie.Need-mul-wide Inv-loop μ-loop
 mul-wide c =
     let s = c .before .loop in
     let less = c .loop-test .taken in
-    let v = c .before .before .before .before .before .before .before .pre in
+    let v = c .before .before .before .before .before .before .before .pre .0 in
     let en = v .enough in
     let en0 = en .0 in
     let en1 = en .1 in
-    let en2 = en .2 in
-    let hd = v .head in
+    let en2 = v .located .starts-at .room in
+    let hd = has-weights _ _ _ _ (v .located .table) in
     let jm = v .checks (s .k) less in
     let om = v .own (s .k) less in
     let ln = s .inv .1 in
@@ -40,12 +41,12 @@ shared-slice-read-wide : tie.Need-shared-slice-read-wide Inv-loop μ-loop
 shared-slice-read-wide c =
     let s = c .before .before .loop in
     let less = c .before .loop-test .taken in
-    let v = c .before .before .before .before .before .before .before .before .pre in
+    let v = c .before .before .before .before .before .before .before .before .pre .0 in
     let en = v .enough in
     let en0 = en .0 in
     let en1 = en .1 in
-    let en2 = en .2 in
-    let hd = v .head in
+    let en2 = v .located .starts-at .room in
+    let hd = has-weights _ _ _ _ (v .located .table) in
     let jm = v .checks (s .k) less in
     let om = v .own (s .k) less in
     let ln = s .inv .1 in
@@ -58,12 +59,12 @@ mul-wide-2 : tie.Need-mul-wide-2 Inv-loop μ-loop
 mul-wide-2 c =
     let s = c .before .before .before .before .loop in
     let less = c .before .before .before .loop-test .taken in
-    let v = c .before .before .before .before .before .before .before .before .before .before .pre in
+    let v = c .before .before .before .before .before .before .before .before .before .before .pre .0 in
     let en = v .enough in
     let en0 = en .0 in
     let en1 = en .1 in
-    let en2 = en .2 in
-    let hd = v .head in
+    let en2 = v .located .starts-at .room in
+    let hd = has-weights _ _ _ _ (v .located .table) in
     let jm = v .checks (s .k) less in
     let om = v .own (s .k) less in
     let ln = s .inv .1 in
@@ -73,12 +74,12 @@ shared-slice-read-wide-2 : tie.Need-shared-slice-read-wide-2 Inv-loop μ-loop
 shared-slice-read-wide-2 c =
     let s = c .before .before .before .before .before .loop in
     let less = c .before .before .before .before .loop-test .taken in
-    let v = c .before .before .before .before .before .before .before .before .before .before .before .pre in
+    let v = c .before .before .before .before .before .before .before .before .before .before .before .pre .0 in
     let en = v .enough in
     let en0 = en .0 in
     let en1 = en .1 in
-    let en2 = en .2 in
-    let hd = v .head in
+    let en2 = v .located .starts-at .room in
+    let hd = has-weights _ _ _ _ (v .located .table) in
     let jm = v .checks (s .k) less in
     let om = v .own (s .k) less in
     let ln = s .inv .1 in
@@ -91,12 +92,12 @@ add-wide : tie.Need-add-wide Inv-loop μ-loop
 add-wide c =
     let s = c .before .before .before .before .before .before .loop in
     let less = c .before .before .before .before .before .loop-test .taken in
-    let v = c .before .before .before .before .before .before .before .before .before .before .before .before .pre in
+    let v = c .before .before .before .before .before .before .before .before .before .before .before .before .pre .0 in
     let en = v .enough in
     let en0 = en .0 in
     let en1 = en .1 in
-    let en2 = en .2 in
-    let hd = v .head in
+    let en2 = v .located .starts-at .room in
+    let hd = has-weights _ _ _ _ (v .located .table) in
     let jm = v .checks (s .k) less in
     let om = v .own (s .k) less in
     let ln = s .inv .1 in
@@ -106,12 +107,12 @@ mul-wide-3 : tie.Need-mul-wide-3 Inv-loop μ-loop
 mul-wide-3 c =
     let s = c .before .before .before .before .before .before .loop in
     let less = c .before .before .before .before .before .loop-test .taken in
-    let v = c .before .before .before .before .before .before .before .before .before .before .before .before .pre in
+    let v = c .before .before .before .before .before .before .before .before .before .before .before .before .pre .0 in
     let en = v .enough in
     let en0 = en .0 in
     let en1 = en .1 in
-    let en2 = en .2 in
-    let hd = v .head in
+    let en2 = v .located .starts-at .room in
+    let hd = has-weights _ _ _ _ (v .located .table) in
     let jm = v .checks (s .k) less in
     let om = v .own (s .k) less in
     let ln = s .inv .1 in
@@ -121,12 +122,12 @@ shared-slice-read-wide-3 : tie.Need-shared-slice-read-wide-3 Inv-loop μ-loop
 shared-slice-read-wide-3 c =
     let s = c .before .before .before .before .before .before .before .loop in
     let less = c .before .before .before .before .before .before .loop-test .taken in
-    let v = c .before .before .before .before .before .before .before .before .before .before .before .before .before .pre in
+    let v = c .before .before .before .before .before .before .before .before .before .before .before .before .before .pre .0 in
     let en = v .enough in
     let en0 = en .0 in
     let en1 = en .1 in
-    let en2 = en .2 in
-    let hd = v .head in
+    let en2 = v .located .starts-at .room in
+    let hd = has-weights _ _ _ _ (v .located .table) in
     let jm = v .checks (s .k) less in
     let om = v .own (s .k) less in
     let ln = s .inv .1 in
@@ -139,12 +140,12 @@ mul-wide-4 : tie.Need-mul-wide-4 Inv-loop μ-loop
 mul-wide-4 c =
     let s = c .before .before .before .before .before .before .before .before .loop in
     let less = c .before .before .before .before .before .before .before .loop-test .taken in
-    let v = c .before .before .before .before .before .before .before .before .before .before .before .before .before .before .pre in
+    let v = c .before .before .before .before .before .before .before .before .before .before .before .before .before .before .pre .0 in
     let en = v .enough in
     let en0 = en .0 in
     let en1 = en .1 in
-    let en2 = en .2 in
-    let hd = v .head in
+    let en2 = v .located .starts-at .room in
+    let hd = has-weights _ _ _ _ (v .located .table) in
     let jm = v .checks (s .k) less in
     let om = v .own (s .k) less in
     let ln = s .inv .1 in
@@ -154,12 +155,12 @@ shared-slice-read-wide-4 : tie.Need-shared-slice-read-wide-4 Inv-loop μ-loop
 shared-slice-read-wide-4 c =
     let s = c .before .before .before .before .before .before .before .before .before .loop in
     let less = c .before .before .before .before .before .before .before .before .loop-test .taken in
-    let v = c .before .before .before .before .before .before .before .before .before .before .before .before .before .before .before .pre in
+    let v = c .before .before .before .before .before .before .before .before .before .before .before .before .before .before .before .pre .0 in
     let en = v .enough in
     let en0 = en .0 in
     let en1 = en .1 in
-    let en2 = en .2 in
-    let hd = v .head in
+    let en2 = v .located .starts-at .room in
+    let hd = has-weights _ _ _ _ (v .located .table) in
     let jm = v .checks (s .k) less in
     let om = v .own (s .k) less in
     let ln = s .inv .1 in
@@ -172,22 +173,22 @@ push-requires : tie.Need-push-requires Inv-loop μ-loop
 push-requires c κs =
     let s = c .before .before .before .before .before .before .before .before .before .before .loop in
     let less = c .before .before .before .before .before .before .before .before .before .loop-test .taken in
-    let v = c .before .before .before .before .before .before .before .before .before .before .before .before .before .before .before .before .pre in
+    let v = c .before .before .before .before .before .before .before .before .before .before .before .before .before .before .before .before .pre .0 in
     let en = v .enough in
     let en0 = en .0 in
     let en1 = en .1 in
-    let en2 = en .2 in
-    let hd = v .head in
+    let en2 = v .located .starts-at .room in
+    let hd = has-weights _ _ _ _ (v .located .table) in
     let jm = v .checks (s .k) less in
     let om = v .own (s .k) less in
     let ln = s .inv .1 in
     let a = c .before .before .before .before .before .before .before .before .before .before .before .before .before .before .before .before .args in
     let j = c .before .before .before .before .before .before .before .wide .result in
     let jl : j < a .m = omega (arith, c .before .before .before .before .before .before .before .wide .ensures) in
-    let e1 : c .before .before .before .before .wide2 .result ≡ 5 + a .m + offset (a .t .now) j = c .before .before .before .before .wide2 .ensures ∙ v .starts-at j jl in
+    let e1 : c .before .before .before .before .wide2 .result ≡ 5 + a .m + offset (a .t .now) j = c .before .before .before .before .wide2 .ensures ∙ v .located .starts-at .each j jl in
     let e2 : c .before .before .wide3 .result ≡ getD (a .t .now) (4 + j) 0 = c .before .before .wide3 .ensures in
-    let pl : Places (a .t .now) (5 + a .m + offset (a .t .now) j) (getD (a .t .now) (4 + j) 0) (length (s .col)) = rw ln (v .places j jl) in
-    rw (e1, e2) (pl, omega arith)
+    let wide = c .before .before .before .before .before .before .before .before .before .before .before .before .before .before .before .before .pre .1 in
+    (places-wide _ _ _ _ (v .located .table) j jl _ _ e1 e2 (length (s .col)) (omega arith), omega arith)
 
 add-k : tie.Need-add-k Inv-loop μ-loop
 add-k c = omega arith
@@ -199,21 +200,21 @@ loop-again : tie.Need-loop-again Inv-loop μ-loop
 loop-again c =
     let s = c .before .before .before .before .before .before .before .before .before .before .before .before .before .loop in
     let less = c .before .before .before .before .before .before .before .before .before .before .before .before .loop-test .taken in
-    let v = c .before .before .before .before .before .before .before .before .before .before .before .before .before .before .before .before .before .before .before .pre in
+    let v = c .before .before .before .before .before .before .before .before .before .before .before .before .before .before .before .before .before .before .before .pre .0 in
     let en = v .enough in
     let en0 = en .0 in
     let en1 = en .1 in
-    let en2 = en .2 in
-    let hd = v .head in
+    let en2 = v .located .starts-at .room in
+    let hd = has-weights _ _ _ _ (v .located .table) in
     let jm = v .checks (s .k) less in
     let om = v .own (s .k) less in
     let ln = s .inv .1 in
     let a = c .before .before .before .before .before .before .before .before .before .before .before .before .before .before .before .before .before .before .before .args in
     let j = c .before .before .before .before .before .before .before .before .before .before .wide .result in
     let jl : j < a .m = omega (arith, c .before .before .before .before .before .before .before .before .before .before .wide .ensures) in
-    let e1 : c .before .before .before .before .before .before .before .wide2 .result ≡ 5 + a .m + offset (a .t .now) j = c .before .before .before .before .before .before .before .wide2 .ensures ∙ v .starts-at j jl in
+    let e1 : c .before .before .before .before .before .before .before .wide2 .result ≡ 5 + a .m + offset (a .t .now) j = c .before .before .before .before .before .before .before .wide2 .ensures ∙ v .located .starts-at .each j jl in
     let e2 : c .before .before .before .before .before .wide3 .result ≡ getD (a .t .now) (4 + j) 0 = c .before .before .before .before .before .wide3 .ensures in
-    (omega arith, c .before .col .given ∙ ln, λ E h. turn _ _ _ j _ _ _ _ _ E (s .k) (v .places j jl) (c .before .before .before .before .before .before .before .before .before .before .wide .ensures) (c .before .before .before .wide4 .ensures) e1 e2 (s .inv .2 E h) (c .before .before .push .ensures))
+    (omega arith, c .before .col .given ∙ ln, λ E h. turn _ _ _ j _ _ _ _ _ E (s .k) (each-places _ _ _ _ (v .located .table) j jl) (c .before .before .before .before .before .before .before .before .before .before .wide .ensures) (c .before .before .before .wide4 .ensures) e1 e2 (s .inv .2 E h) (c .before .before .push .ensures))
 
 same-length : tie.Need-same-length Inv-loop μ-loop
 same-length c = c .before .loop .inv .1

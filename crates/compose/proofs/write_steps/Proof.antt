@@ -5,7 +5,7 @@ use native.Mathlib.Omega.{arith}
 use lib.ListN.{length}
 use Rattle.plan.specs.Step.{pack}
 use Rattle.emit.specs.WroteLaws.{wrote-is}
-use Rattle.compose.proofs.Sections.{steps-none, steps-some}
+use Rattle.compose.proofs.Sections.{solved-checks, own-places, steps-none, steps-some}
 use borrow.Author.Needs.{needs}
 use Rattle.compose.proofs.write_steps.Statement.{statement}
 use Rattle.compose.proofs.write_steps.Tie as tie
@@ -15,7 +15,7 @@ solve-whole-requires c κs =
     let s = c .before .before .before .before .before .before .before .before .before .before in
     let p = s .pre .1 in
     let e = ap length (steps-none p (c .before .if1 .taken)) in
-    (omega (arith, s .pre .0), (p .each, (p .first, (p .solved-checks, p .own-places))))
+    (omega (arith, s .pre .0), (p .located, (solved-checks p, own-places p)))
 
 same-length : tie.Need-same-length
 same-length c = search needs

@@ -3,6 +3,7 @@ use mathlib.Core.Path.{ap}
 use mathlib.Core.List.{map, _∷_}
 use native.Mathlib.Omega.{arith}
 use Rattle.lists.specs.Lists.{minus}
+use Rattle.table.specs.Accepted.{has-weights}
 use Rattle.plan.specs.Step.{pack}
 use Rattle.rule.specs.Rule.{clearAndAdd}
 use Rattle.emit.specs.Emit.{marked}
@@ -15,12 +16,12 @@ use Rattle.emit.proofs.check_into.Tie as tie
 mul-wide : tie.Need-mul-wide
 mul-wide c =
     let start = c .before .before .before .before .before in
-    let r = start .pre .1 .0 .first .room in let j = start .pre .1 .1 .0 in omega arith
+    let r = start .pre .1 .0 .located .starts-at .room in let j = start .pre .1 .1 .0 in omega arith
 
 shared-slice-read-wide : tie.Need-shared-slice-read-wide
 shared-slice-read-wide c =
     let start = c .before .before .before .before .before .before in
-    let r = start .pre .1 .0 .first .room in let j = start .pre .1 .1 .0 in omega arith
+    let r = start .pre .1 .0 .located .starts-at .room in let j = start .pre .1 .1 .0 in omega arith
 
 wide-requires : tie.Need-wide-requires
 wide-requires c κs = search needs
@@ -28,17 +29,17 @@ wide-requires c κs = search needs
 add-wide : tie.Need-add-wide
 add-wide c =
     let start = c .before .before .before .before .before .before .before in
-    let r = start .pre .1 .0 .each .weights in let j = start .pre .1 .1 .0 in omega arith
+    let r = has-weights _ _ _ _ (start .pre .1 .0 .located .table) in let j = start .pre .1 .1 .0 in omega arith
 
 mul-wide-2 : tie.Need-mul-wide-2
 mul-wide-2 c =
     let start = c .before .before .before .before .before .before .before in
-    let r = start .pre .1 .0 .each .weights in let j = start .pre .1 .1 .0 in omega arith
+    let r = has-weights _ _ _ _ (start .pre .1 .0 .located .table) in let j = start .pre .1 .1 .0 in omega arith
 
 shared-slice-read-wide-2 : tie.Need-shared-slice-read-wide-2
 shared-slice-read-wide-2 c =
     let start = c .before .before .before .before .before .before .before .before in
-    let r = start .pre .1 .0 .each .weights in let j = start .pre .1 .1 .0 in omega arith
+    let r = has-weights _ _ _ _ (start .pre .1 .0 .located .table) in let j = start .pre .1 .1 .0 in omega arith
 
 wide-requires-2 : tie.Need-wide-requires-2
 wide-requires-2 c κs = search needs

@@ -5,6 +5,7 @@ use Prim.Native.Nat.{_+_, _-_, _≤_}
 use native.Mathlib.Omega.{arith}
 use lib.ListN.{length}
 use Rattle.lists.specs.Lists.{minus}
+use Rattle.table.specs.Accepted.{few-places, has-weights}
 use Rattle.table.specs.Checks.{check}
 use Rattle.table.specs.Table.{number, places}
 use Rattle.rule.specs.Rule.{clearAndAdd, scratchSteps}
@@ -21,7 +22,7 @@ abbrev μ-loop : tie.MeasureT-loop
 μ-loop plan₀ at t starts aside g skip n k₀ i₀ plan k i = g - i
 
 shared-slice-read-wide : tie.Need-shared-slice-read-wide Inv-loop μ-loop
-shared-slice-read-wide c = let r = c .before .before .before .before .before .before .pre .1 .0 .each .weights in omega arith
+shared-slice-read-wide c = let r = has-weights _ _ _ _ (c .before .before .before .before .before .before .pre .1 .0 .located .table) in omega arith
 
 wide-requires : tie.Need-wide-requires Inv-loop μ-loop
 wide-requires c κs = omega arith
@@ -39,7 +40,7 @@ wide-requires-2 : tie.Need-wide-requires-2 Inv-loop μ-loop
 wide-requires-2 c κs = omega arith
 
 add-check-into : tie.Need-add-check-into Inv-loop μ-loop
-add-check-into c = let n = c .before .before .before .before .before .before .before .before .before .before .before .before .pre .1 .0 .each .narrow in let e = c .before .before .before .before .before .wide .ensures in omega arith
+add-check-into c = let n = few-places _ _ _ _ (c .before .before .before .before .before .before .before .before .before .before .before .before .pre .1 .0 .located .table) in let e = c .before .before .before .before .before .wide .ensures in omega arith
 
 check-into-requires : tie.Need-check-into-requires Inv-loop μ-loop
 check-into-requires c κs =
@@ -54,10 +55,10 @@ check-into-requires c κs =
     let rest = scratches sk t ids (a .g) (s .i + 1) in
     let j = c .wide2 .result in
     let to = c .before .before .before .before .before .wide .result + s .i in
-    let next = scratches-next sk t ids (a .g) (s .i) (start .pre .1 .0 .each) (start .pre .1 .1 .0 .room) (c .before .before .before .loop-test .taken) (start .pre .1 .1 .0 .each (s .i) (c .before .before .before .loop-test .taken)) ∙ ap₂ (λ x y. one sk t x (y + s .i) ++ rest) (sym (c .wide2 .ensures)) (sym (c .before .before .before .before .before .wide .ensures)) in
+    let next = scratches-next sk t ids (a .g) (s .i) (start .pre .1 .0 .located .table) (start .pre .1 .1 .0 .room) (c .before .before .before .loop-test .taken) (start .pre .1 .1 .0 .each (s .i) (c .before .before .before .loop-test .taken)) ∙ ap₂ (λ x y. one sk t x (y + s .i) ++ rest) (sym (c .wide2 .ensures)) (sym (c .before .before .before .before .before .wide .ensures)) in
     let w = left-is (one sk t j to ++ rest) (s .inv .1) next in
     let b = start .pre .1 .1 .0 .each (s .i) (omega arith) in
-    let n = start .pre .1 .0 .each .narrow in
+    let n = few-places _ _ _ _ (start .pre .1 .0 .located .table) in
     let e = c .before .before .before .before .before .wide .ensures in
     let f = c .wide2 .ensures in
     (left-steps room (clearAndAdd to (minus (check t (number t) j) (to ∷ marked sk))) rest w, (start .pre .1 .0, (omega arith, omega arith)))
@@ -81,7 +82,7 @@ loop-again c =
     let rest = scratches sk t ids (a .g) (s .i + 1) in
     let j = c .before .before .before .wide2 .result in
     let to = c .before .before .before .before .before .before .before .before .wide .result + s .i in
-    let next = scratches-next sk t ids (a .g) (s .i) (start .pre .1 .0 .each) (start .pre .1 .1 .0 .room) (c .before .before .before .before .before .before .loop-test .taken) (start .pre .1 .1 .0 .each (s .i) (c .before .before .before .before .before .before .loop-test .taken)) ∙ ap₂ (λ x y. one sk t x (y + s .i) ++ rest) (sym (c .before .before .before .wide2 .ensures)) (sym (c .before .before .before .before .before .before .before .before .wide .ensures)) in
+    let next = scratches-next sk t ids (a .g) (s .i) (start .pre .1 .0 .located .table) (start .pre .1 .1 .0 .room) (c .before .before .before .before .before .before .loop-test .taken) (start .pre .1 .1 .0 .each (s .i) (c .before .before .before .before .before .before .loop-test .taken)) ∙ ap₂ (λ x y. one sk t x (y + s .i) ++ rest) (sym (c .before .before .before .wide2 .ensures)) (sym (c .before .before .before .before .before .before .before .before .wide .ensures)) in
     let w = left-is (one sk t j to ++ rest) (s .inv .1) next in
     (omega arith, left-more room (one sk t j to) rest w (c .before .before .check-into .ensures))
 

@@ -5,6 +5,7 @@ use Prim.Native.Nat.{_+_, _-_, _≤_}
 use native.Mathlib.Omega.{arith}
 use lib.ListN.{length}
 use Rattle.lists.specs.Lists.{rev, minus}
+use Rattle.table.specs.Accepted.{few-places}
 use Rattle.table.specs.Checks.{check}
 use Rattle.table.specs.Table.{number}
 use Rattle.rule.specs.Rule.{clearAndAdd, solvingSteps}
@@ -59,7 +60,7 @@ check-into-requires c κs =
     let w = left-is (one sk t j to ++ rest) (s .inv .1) next in
     let b = start .pre .1 .1 .0 .each (s .i - 1) (omega arith) in
     let o = start .pre .1 .1 .1 .each (s .i - 1) (omega arith) in
-    let n = start .pre .1 .0 .each .narrow in
+    let n = few-places _ _ _ _ (start .pre .1 .0 .located .table) in
     let e = c .before .before .wide .ensures in
     let f = c .wide2 .ensures in
     (left-steps room (clearAndAdd to (minus (check t (number t) j) (to ∷ marked sk))) rest w, (start .pre .1 .0, (omega arith, omega arith)))

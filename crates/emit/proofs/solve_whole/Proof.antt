@@ -22,7 +22,7 @@ solve-all-requires c κs =
     let start = c .before .before .before .before .before .before .before in
     let a = start .args in
     let w = whole-is (rev (solvedIn (a .t .now) (a .order .now) (a .owns .now) (a .taken))) in
-    (rw w (start .pre .0), (record { each = start .pre .1 .0; first = start .pre .1 .1 .0; all = omega (arith, length-replicate {A = ℕ} mostPlaces 0) }, (start .pre .1 .1 .1 .0, start .pre .1 .1 .1 .1)))
+    (rw w (start .pre .0), (record { located = start .pre .1 .0; all = omega (arith, length-replicate {A = ℕ} mostPlaces 0) }, start .pre .1 .1))
 
 same-length : tie.Need-same-length
 same-length c = search needs

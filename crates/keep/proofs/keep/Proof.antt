@@ -4,6 +4,7 @@ use mathlib.Core.Path.{_≡_, refl, sym, ap, _∙_}
 use mathlib.Core.Logic.{⊎-elim}
 use native.Mathlib.Omega.{arith}
 use lib.ListN.{length, length-set}
+use Rattle.table.specs.Accepted.{few-places, few-checks, has-weights, places-at, check-fits}
 use Rattle.bits.specs.Front.{front-length}
 use Rattle.keep.proofs.Keeping.{Keeps, start, owners, turn-hit, turn-miss, stop, told}
 use Rattle.keep.proofs.keep.Statement.{statement}
@@ -17,19 +18,19 @@ abbrev μ-loop : tie.MeasureT-loop
 μ-loop t m n w₀ owner₀ ids₀ noted₀ k₀ i₀ at₀ w owner ids noted k i at = m - i
 
 add-at : tie.Need-add-at Inv-loop μ-loop
-add-at c = let f = c .before .before .before .before .pre .0 .few in omega arith
+add-at c = let f = few-checks _ _ _ _ (c .before .before .before .before .pre .0) in omega arith
 
 loop-holds : tie.Need-loop-holds Inv-loop μ-loop
 loop-holds c = (omega arith, refl, refl, refl, start _ _ _ _ _ _ (c .before .before .before .before .pre .1 .1))
 
 add-wide : tie.Need-add-wide Inv-loop μ-loop
-add-wide c = let v = c .before .before .before .before .before .before .pre .0 .weights in omega arith
+add-wide c = let v = has-weights _ _ _ _ (c .before .before .before .before .before .before .pre .0) in omega arith
 
 mul-wide : tie.Need-mul-wide Inv-loop μ-loop
-mul-wide c = let v = c .before .before .before .before .before .before .pre .0 .weights in omega arith
+mul-wide c = let v = has-weights _ _ _ _ (c .before .before .before .before .before .before .pre .0) in omega arith
 
 shared-slice-read-wide : tie.Need-shared-slice-read-wide Inv-loop μ-loop
-shared-slice-read-wide c = let v = c .before .before .before .before .before .before .before .pre .0 .weights in omega arith
+shared-slice-read-wide c = let v = has-weights _ _ _ _ (c .before .before .before .before .before .before .before .pre .0) in omega arith
 
 wide-requires : tie.Need-wide-requires Inv-loop μ-loop
 wide-requires c κs = omega arith
@@ -41,18 +42,15 @@ eliminate-requires : tie.Need-eliminate-requires Inv-loop μ-loop
 eliminate-requires c κs =
     let s = c .before .before .before .before .before .before .loop in
     let p = c .before .before .before .before .before .before .before .before .before .before .before .pre in
-    let v = p .0 in
     let less = c .before .before .before .before .before .loop-test .taken in
-    let r = v .room (s .i) less in
-    let h = s .inv .4 .here in
+    let v = places-at _ _ _ _ (p .0) (s .i) less _ _ (s .inv .4 .here) (c .before .before .before .wide .ensures) _ refl in
     let f = s .inv .4 .few in
-    let nar = v .narrow in
+    let nar = few-places _ _ _ _ (p .0) in
     let room = p .1 .0 in
-    let w = c .before .before .before .wide .ensures in
     let l1 = s .inv .1 in
     let l2 = s .inv .2 in
     let l3 = s .inv .3 in
-    ((omega arith, nar, omega arith, omega arith), (owners (s .inv .4) (omega arith), (omega arith, λ j z. v .below (s .at + j) (omega arith) (omega arith))))
+    ((omega arith, nar, omega arith, omega arith), (owners (s .inv .4) (omega arith), (v .room, v .below)))
 
 -- a row more: its number and its lead are in range
 in-range : (c : tie.Then1 Inv-loop μ-loop) → (c .before .before .before .before .before .before .before .before .before .before .before .loop .k < 512) × (c .before .before .before .before .eliminate .result ≤ length (c .before .before .before .before .before .before .before .before .before .before .before .loop .owner)) × (c .before .before .before .before .before .before .before .before .before .before .before .loop .k < length (c .before .before .before .before .before .before .before .before .before .before .before .loop .ids))
@@ -62,7 +60,7 @@ in-range c =
     let room = p .1 .0 in
     let less = c .before .before .before .before .before .before .before .before .before .before .loop-test .taken in
     let few = s .inv .4 .few in
-    let most = p .0 .few in
+    let most = few-checks _ _ _ _ (p .0) in
     let own = s .inv .2 in
     let lead = c .before .before .before .before .eliminate .ensures .most in
     let long = front-length (s .inv .4 .front) (omega arith) in
@@ -84,7 +82,7 @@ slice-write-owner : tie.Need-slice-write-owner Inv-loop μ-loop
 slice-write-owner c = let b = in-range c in omega (arith, c .if1 .taken)
 
 cast-ids : tie.Need-cast-ids Inv-loop μ-loop
-cast-ids c = let f = c .before .before .before .before .before .before .before .before .before .before .before .before .before .before .before .before .pre .0 .few in omega (arith, c .before .before .before .before .before .before .before .before .before .before .loop-test .taken)
+cast-ids c = let f = few-checks _ _ _ _ (c .before .before .before .before .before .before .before .before .before .before .before .before .before .before .before .before .pre .0) in omega (arith, c .before .before .before .before .before .before .before .before .before .before .loop-test .taken)
 
 mul-ids : tie.Need-mul-ids Inv-loop μ-loop
 mul-ids c = let b = in-range c in omega arith
@@ -99,9 +97,8 @@ add-at-2 : tie.Need-add-at-2 Inv-loop μ-loop
 add-at-2 c =
     let s = c .before .before .before .before .before .before .before .before .before .before .before .loop in
     let less = c .before .before .before .before .before .before .before .before .before .before .loop-test .taken in
-    let r = c .before .before .before .before .before .before .before .before .before .before .before .before .before .before .before .before .pre .0 .room (s .i) less in
-    let h = s .inv .4 .here in
-    let w = c .before .before .before .before .before .before .before .before .wide .ensures in
+    let p = c .before .before .before .before .before .before .before .before .before .before .before .before .before .before .before .before .pre in
+    let r = check-fits _ _ _ _ (p .0) (s .i) less _ _ (s .inv .4 .here) (c .before .before .before .before .before .before .before .before .wide .ensures) in
     omega arith
 
 add-i : tie.Need-add-i Inv-loop μ-loop

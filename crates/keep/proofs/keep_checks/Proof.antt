@@ -4,6 +4,7 @@ use mathlib.Core.Path.{ap, _∙_}
 use lib.ListN.{replicate}
 use borrow.Author.Needs.{needs}
 use Rattle.lists.specs.ListLaws.{getD-zeros}
+use Rattle.table.specs.Accepted.{few-places}
 use Rattle.keep.proofs.keep_checks.Statement.{statement}
 use Rattle.keep.proofs.keep_checks.Tie as tie
 
@@ -13,7 +14,7 @@ slice-aggregate-keep c = search needs
 keep-requires : tie.Need-keep-requires
 keep-requires c κs =
     let p = c .before .before .before .before .before .before .pre in
-    (p .0, ((p .1 .0, p .0 .narrow, p .1 .1), getD-zeros 1024))
+    (p .0, ((p .1 .0, few-places _ _ _ _ (p .0), p .1 .1), getD-zeros 1024))
 
 clear-work-requires : tie.Need-clear-work-requires
 clear-work-requires c κs = search needs

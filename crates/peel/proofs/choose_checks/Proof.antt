@@ -1,5 +1,6 @@
 -- `peel::choose_checks` meets its contract.
-use Rattle.peel.proofs.Choosing.{numbers-of, table-valid, table-checks, choice}
+use Rattle.peel.proofs.Choosing.{numbers-of, choice}
+use Rattle.table.specs.Accepted.{by-number, few-checks}
 use Prim.Native.Nat.{ℕ}
 use mathlib.Core.Path.{ap, _∙_}
 use native.Mathlib.Omega.{arith}
@@ -14,11 +15,9 @@ slice-aggregate-keep-checks c = search needs
 keep-checks-requires : tie.Need-keep-checks-requires
 keep-checks-requires c κs =
     let p = c .before .before .before .before .before .before .before .before .pre in
-    let t = c .before .before .before .before .before .before .before .before .args .t .now in
-    let v = table-valid t (p .0) (p .1) (p .2) in
-    let f = v .few in
-    let l = p .4 in
-    (v, (omega arith, f))
+    let f = few-checks _ _ _ _ (p .0 .table) in
+    let l = p .1 .0 in
+    (p .0 .table, (omega arith, f))
 
 slice-aggregate-ones-of : tie.Need-slice-aggregate-ones-of
 slice-aggregate-ones-of c = search needs
@@ -26,9 +25,7 @@ slice-aggregate-ones-of c = search needs
 ones-of-requires : tie.Need-ones-of-requires
 ones-of-requires c κs =
     let p = c .before .before .before .before .before .before .before .before .before .before .before .before .before .pre in
-    let t = c .before .before .before .before .before .before .before .before .before .before .before .before .before .args .t .now in
-    let v = table-valid t (p .0) (p .1) (p .2) in
-    (v .few, v .weights, numbers-of (c .before .before .before .before .keep-checks .ensures .0))
+    (by-number _ _ _ _ (p .0 .table), numbers-of (c .before .before .before .before .keep-checks .ensures .0))
 
 slice-aggregate-peel-kept : tie.Need-slice-aggregate-peel-kept
 slice-aggregate-peel-kept c = search needs
@@ -36,10 +33,9 @@ slice-aggregate-peel-kept c = search needs
 peel-kept-requires : tie.Need-peel-kept-requires
 peel-kept-requires c κs =
     let p = c .before .before .before .before .before .before .before .before .before .before .before .before .before .before .before .before .before .before .pre in
-    let t = c .before .before .before .before .before .before .before .before .before .before .before .before .before .before .before .before .before .before .args .t .now in
-    let v = table-checks t (p .0) (p .1) (p .2) in
-    let f = v .few in
-    (record { checks = v; starts-at = p .3 }, (numbers-of (c .before .before .before .before .before .before .before .before .before .keep-checks .ensures .0), record { taken = omega arith; places = omega arith; put = omega arith }))
+    let f = few-checks _ _ _ _ (p .0 .table) in
+    let r = p .1 .1 in
+    (p .0, (numbers-of (c .before .before .before .before .before .before .before .before .before .keep-checks .ensures .0), record { taken = omega arith; places = omega arith; put = omega arith }))
 
 same-length : tie.Need-same-length
 same-length c = search needs
@@ -56,15 +52,12 @@ same-length-4 c = search needs
 returns : tie.Need-returns
 returns c =
     let p = c .before .before .before .before .before .before .before .before .before .before .before .before .before .before .before .before .before .before .before .before .before .before .before .before .before .pre in
-    let t = c .before .before .before .before .before .before .before .before .before .before .before .before .before .before .before .before .before .before .before .before .before .before .before .before .before .args .t .now in
-    let l5 = p .5 in
-    let l6 = p .6 in
-    let l7 = p .7 in
+    let r = p .1 .1 in
     let e5 = c .before .before .before .before .before .order .given in
     let e6 = c .before .before .before .owns .given in
     let e7 = c .before .aside .given in (
-      choice t (p .0) (p .1) (p .2) (c .before .before .before .before .before .before .before .before .before .before .before .before .before .before .before .before .keep-checks .ensures .0 .count) (c .before .before .before .before .before .before .before .before .before .before .before .ones-of .ensures) (c .before .before .before .before .before .before .peel-kept .ensures) (omega arith) (omega arith) (omega arith),
-      c .before .before .before .before .before .before .before .before .before .before .before .before .before .before .before .before .keep-checks .ensures .1 ∙ ap (λ (k : ℕ). replicate k 0) (p .4),
+      choice (p .0 .table) (c .before .before .before .before .before .before .before .before .before .before .before .before .before .before .before .before .keep-checks .ensures .0 .count) (c .before .before .before .before .before .before .before .before .before .before .before .ones-of .ensures) (c .before .before .before .before .before .before .peel-kept .ensures) (record { taken = omega arith; places = omega arith; put = omega arith }),
+      c .before .before .before .before .before .before .before .before .before .before .before .before .before .before .before .before .keep-checks .ensures .1 ∙ ap (λ (k : ℕ). replicate k 0) (p .1 .0),
     )
 
 pub choose-checks-spec : {M : Type 1} → statement M

@@ -44,7 +44,7 @@ enter-requires c κs =
     let named = p .1 .1 .named in
     let low = number-low (c .before .before .before .before .before .before .loop .i - 1) (p .1 .0) (omega arith) in
     let w = c .before .before .before .wide .ensures in
-    (record { checks = rw l1 (p .0 .checks); starts-at = p .0 .starts-at }, ((omega arith, omega arith, omega arith), counts-few (s .4)))
+    (rw l1 (p .0), ((omega arith, omega arith, omega arith), counts-few (s .4)))
 
 loop-less : tie.Need-loop-less Inv-loop μ-loop
 loop-less c = omega arith

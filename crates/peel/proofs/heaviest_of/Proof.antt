@@ -1,4 +1,5 @@
 -- `peel::heaviest_of` meets its contract: the rest of the scan decides.
+use Rattle.table.specs.Accepted.{has-weights}
 use Rattle.peel.specs.Turn.{lives, heaviestFrom, weight}
 use Rattle.peel.proofs.Turns.{lives-hit, lives-miss, lives-end, hv-up, hv-keep, weight-is}
 use Prim.Native.Nat.{_+_, _-_, _≤_}
@@ -21,13 +22,13 @@ shared-slice-read-if1 : tie.Need-shared-slice-read-if1 Inv-loop μ-loop
 shared-slice-read-if1 c = omega arith
 
 add-wide : tie.Need-add-wide Inv-loop μ-loop
-add-wide c = omega arith
+add-wide c = let w = has-weights _ _ _ _ (c .before .before .before .before .before .before .pre .0) in omega arith
 
 mul-wide : tie.Need-mul-wide Inv-loop μ-loop
-mul-wide c = omega arith
+mul-wide c = let w = has-weights _ _ _ _ (c .before .before .before .before .before .before .pre .0) in omega arith
 
 shared-slice-read-wide : tie.Need-shared-slice-read-wide Inv-loop μ-loop
-shared-slice-read-wide c = omega arith
+shared-slice-read-wide c = let w = has-weights _ _ _ _ (c .before .before .before .before .before .before .before .pre .0) in omega arith
 
 wide-requires : tie.Need-wide-requires Inv-loop μ-loop
 wide-requires c κs = omega arith

@@ -1,4 +1,5 @@
 -- `peel::ones_of` meets its contract: the sum is that of the kept checks from i on.
+use Rattle.table.specs.Accepted.{few-checks, has-weights}
 use Rattle.table.specs.Table.{total}
 use Rattle.keep.specs.Kept.{keptOf}
 use Rattle.peel.specs.Turn.{weight}
@@ -18,35 +19,38 @@ abbrev μ-loop : tie.MeasureT-loop
 μ-loop t m ids k sum₀ i₀ sum i = i
 
 loop-holds : tie.Need-loop-holds Inv-loop μ-loop
-loop-holds c = (omega arith, omega arith, ones-start (c .before .before .pre .2))
+loop-holds c = (omega arith, omega arith, ones-start (c .before .before .pre .1))
 
 sub-i : tie.Need-sub-i Inv-loop μ-loop
 sub-i c = omega arith
 
 mul-wide : tie.Need-mul-wide Inv-loop μ-loop
-mul-wide c = let r = numbers-room (c .before .before .before .before .pre .2) .0 in omega arith
+mul-wide c = let r = numbers-room (c .before .before .before .before .pre .1) .0 in omega arith
 
 shared-slice-read-wide : tie.Need-shared-slice-read-wide Inv-loop μ-loop
-shared-slice-read-wide c = let r = numbers-room (c .before .before .before .before .before .pre .2) .0 in omega arith
+shared-slice-read-wide c = let r = numbers-room (c .before .before .before .before .before .pre .1) .0 in omega arith
 
 wide-requires : tie.Need-wide-requires Inv-loop μ-loop
 wide-requires c κs = omega arith
 
 add-wide : tie.Need-add-wide Inv-loop μ-loop
 add-wide c =
-    let low = number-low (c .before .before .before .loop .i - 1) (c .before .before .before .before .before .before .pre .2) (omega arith) in
+    let h = has-weights _ _ _ _ (c .before .before .before .before .before .before .pre .0) in
+    let low = number-low (c .before .before .before .loop .i - 1) (c .before .before .before .before .before .before .pre .1) (omega arith) in
     let w = c .wide .ensures in
     omega arith
 
 mul-wide-2 : tie.Need-mul-wide-2 Inv-loop μ-loop
 mul-wide-2 c =
-    let low = number-low (c .before .before .before .loop .i - 1) (c .before .before .before .before .before .before .pre .2) (omega arith) in
+    let h = has-weights _ _ _ _ (c .before .before .before .before .before .before .pre .0) in
+    let low = number-low (c .before .before .before .loop .i - 1) (c .before .before .before .before .before .before .pre .1) (omega arith) in
     let w = c .wide .ensures in
     omega arith
 
 shared-slice-read-wide-2 : tie.Need-shared-slice-read-wide-2 Inv-loop μ-loop
 shared-slice-read-wide-2 c =
-    let low = number-low (c .before .before .before .before .loop .i - 1) (c .before .before .before .before .before .before .before .pre .2) (omega arith) in
+    let h = has-weights _ _ _ _ (c .before .before .before .before .before .before .before .pre .0) in
+    let low = number-low (c .before .before .before .before .loop .i - 1) (c .before .before .before .before .before .before .before .pre .1) (omega arith) in
     let w = c .before .wide .ensures in
     omega arith
 
@@ -55,7 +59,8 @@ wide-requires-2 c κs = omega arith
 
 add-sum : tie.Need-add-sum Inv-loop μ-loop
 add-sum c =
-    let r = numbers-room (c .before .before .before .before .before .before .before .before .pre .2) .1 in
+    let few = few-checks _ _ _ _ (c .before .before .before .before .before .before .before .before .pre .0) in
+    let r = numbers-room (c .before .before .before .before .before .before .before .before .pre .1) .1 in
     let w = c .wide2 .ensures in
     omega (arith, c .before .shared-slice-known4 .given (4 + c .before .before .wide .result))
 
@@ -66,9 +71,9 @@ loop-again : tie.Need-loop-again Inv-loop μ-loop
 loop-again c =
     let p = c .before .before .before .before .before .before .before .before .pre in
     let s = c .before .before .before .before .before .loop in
-    let n = p .2 .count in
+    let n = p .1 .count in
     let w = c .wide2 .ensures in
-    let e = c .before .before .wide .ensures ∙ number-at (s .i - 1) (p .2) (omega arith) in
+    let e = c .before .before .wide .ensures ∙ number-at (s .i - 1) (p .1) (omega arith) in
     (omega arith, omega (arith, c .before .shared-slice-known4 .given (4 + c .before .before .wide .result)), ones-turn _ _ (s .i) (c .before .before .wide .result) (s .sum) (c .wide2 .result) (omega arith) (omega arith) e w (s .inv .2))
 
 returns : tie.Need-returns Inv-loop μ-loop

@@ -1,4 +1,5 @@
 -- `peel::peel_kept` meets its contract.
+use Rattle.table.specs.Accepted.{few-places, few-checks}
 use Rattle.peel.proofs.KeptLive.{part-long, zeros-all, zeros-part}
 use borrow.Author.Needs.{needs}
 use Rattle.peel.proofs.peel_kept.Statement.{statement}
@@ -8,10 +9,10 @@ slice-aggregate-peel-live : tie.Need-slice-aggregate-peel-live
 slice-aggregate-peel-live c = search needs
 
 array-borrow-prefix-count : tie.Need-array-borrow-prefix-count
-array-borrow-prefix-count c = search needs
+array-borrow-prefix-count c = few-places _ _ _ _ (c .before .before .before .before .before .before .before .pre .0 .table)
 
 slice-aggregate-peel-live-2 : tie.Need-slice-aggregate-peel-live-2
-slice-aggregate-peel-live-2 c = let w = c .before .before .before .before .before .before .before .before .pre .0 .checks .narrow in part-long 1024 (c .before .before .before .before .before .before .before .before .args .n) w
+slice-aggregate-peel-live-2 c = let w = few-places _ _ _ _ (c .before .before .before .before .before .before .before .before .pre .0 .table) in part-long 1024 (c .before .before .before .before .before .before .before .before .args .n) w
 
 slice-aggregate-peel-live-3 : tie.Need-slice-aggregate-peel-live-3
 slice-aggregate-peel-live-3 c = search needs
@@ -20,13 +21,13 @@ peel-live-requires : tie.Need-peel-live-requires
 peel-live-requires c κs =
     let p = c .before .before .before .before .before .before .before .before .before .before .before .before .pre in
     let n = c .before .before .before .before .before .before .before .before .before .before .before .before .args .n in
-    let w = p .0 .checks .narrow in (
+    let w = few-places _ _ _ _ (p .0 .table) in (
       p .0,
       (
         p .1 .0,
         (
           record {
-            flags = p .0 .checks .few;
+            flags = few-checks _ _ _ _ (p .0 .table);
             counts = part-long 1024 n w;
             named = w;
             none-live = zeros-all 512;

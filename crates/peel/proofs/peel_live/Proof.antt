@@ -1,5 +1,5 @@
 -- `peel::peel_live` meets its contract.
-use Rattle.table.specs.Checks.{Checks}
+use Rattle.table.specs.Accepted.{Located}
 use Rattle.peel.proofs.KeptLive.{numbers-room, first-ready, first-peeled}
 use Prim.Native.Nat.{ℕ}
 use mathlib.Core.Path.{sym, ap, _∙_, subst}
@@ -15,7 +15,7 @@ first-tally-requires c κs =
     let p = c .before .before .before .before .before .before .before .before .before .before .before .before .pre in
     let fresh = p .1 .1 .0 in
     let e = fresh .counts in (
-      record { checks = subst (λ (j : ℕ). Checks (a .t .now) (a .m) j) e (p .0 .checks); starts-at = p .0 .starts-at },
+      subst (λ (j : ℕ). Located (a .t .now) (a .m) j (a .starts .now)) e (p .0),
       (p .1 .0, subst (λ (j : ℕ). Fresh (a .m) j (a .live .now) (a .count .now) (a .names .now)) e fresh),
     )
 

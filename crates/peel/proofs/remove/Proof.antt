@@ -1,4 +1,5 @@
 -- `peel::remove` meets its contract.
+use Rattle.table.specs.Accepted.{few-checks, has-weights, each-places}
 use Rattle.table.specs.Checks.{offset}
 use Rattle.peel.proofs.Turns.{in-flag, counted, removed}
 use Rattle.peel.proofs.ScanBound.{calm-less}
@@ -15,8 +16,8 @@ in-range : (c : tie.Start) → let a = c .args in (a .j < 512) × (a .j < length
 in-range c =
     let p = c .pre in
     let f = in-flag _ _ _ (p .1 .1 .0) .0 in
-    let few = p .0 .checks .few in
-    let weights = p .0 .checks .weights in
+    let few = few-checks _ _ _ _ (p .0 .table) in
+    let weights = has-weights _ _ _ _ (p .0 .table) in
     let flags = p .1 .0 .flags in
     let room = p .0 .starts-at .room in
     (omega arith, omega arith, omega arith, omega arith)
@@ -55,7 +56,7 @@ forget-requires c κs =
     let f = in-flag _ _ _ (p .1 .1 .0) .0 in
     let e1 : c .before .before .before .before .wide .result ≡ 5 + a .m + offset (a .t .now) (a .j) = c .before .before .before .before .wide .ensures ∙ p .0 .starts-at .each (a .j) f in
     let e2 : c .before .before .wide2 .result ≡ getD (a .t .now) (4 + a .j) 0 = c .before .before .wide2 .ensures in
-    rw (e1, e2) (p .0 .checks .each (a .j) f, (p .1 .0 .named, λ i h. counted _ _ _ (a .j) i (p .0 .checks) (p .1 .0 .tally) (p .1 .1 .0) f h))
+    rw (e1, e2) (each-places _ _ _ _ (p .0 .table) (a .j) f, (p .1 .0 .named, λ i h. counted _ _ _ (a .j) i (p .0 .table) (p .1 .0 .tally) (p .1 .1 .0) f h))
 
 raise-requires : tie.Need-raise-requires
 raise-requires c κs =
@@ -66,7 +67,7 @@ raise-requires c κs =
     let top = p .1 .1 .1 .most in
     let e1 : c .before .before .before .before .before .before .before .before .before .before .wide .result ≡ 5 + a .m + offset (a .t .now) (a .j) = c .before .before .before .before .before .before .before .before .before .before .wide .ensures ∙ p .0 .starts-at .each (a .j) f in
     let e2 : c .before .before .before .before .before .before .before .before .wide2 .result ≡ getD (a .t .now) (4 + a .j) 0 = c .before .before .before .before .before .before .before .before .wide2 .ensures in
-    rw (e1, e2, l) (p .0 .checks .each (a .j) f, omega arith)
+    rw (e1, e2, l) (each-places _ _ _ _ (p .0 .table) (a .j) f, omega arith)
 
 same-length : tie.Need-same-length
 same-length c = search needs

@@ -33,7 +33,7 @@ fill-starts-requires c κs =
     let t = start .args .t .now in
     let l = limits t (start .pre .0) .few-checks in
     let e : c .before .wide2 .result ≡ number t = c .before .wide2 .ensures in
-    (start .pre .0, e, omega arith)
+    (record { accepted = start .pre .0; number-is = e; places-are = refl; size-is = refl }, omega arith)
 
 slice-aggregate-choose-checks : tie.Need-slice-aggregate-choose-checks
 slice-aggregate-choose-checks c = search needs
@@ -48,7 +48,14 @@ slice-aggregate-choose-checks-4 : tie.Need-slice-aggregate-choose-checks-4
 slice-aggregate-choose-checks-4 c = search needs
 
 choose-checks-requires : tie.Need-choose-checks-requires
-choose-checks-requires c κs = search needs
+choose-checks-requires c κs =
+    let p = c .before .before .before .before .before .before .before .before .before .before .before .before .before .before .before .pre in (
+      record {
+        table = record { accepted = p .0; number-is = c .before .before .before .before .before .before .before .before .wide2 .ensures; places-are = c .before .before .before .before .before .before .before .before .before .before .wide .ensures; size-is = refl };
+        starts-at = c .before .before .before .before .before .before .fill-starts .ensures;
+      },
+      (p .1 .1, record { taken = omega arith; places = omega arith; put = omega arith }),
+    )
 
 refused-requires : tie.Need-refused-requires
 refused-requires c κs = search needs
@@ -87,7 +94,7 @@ write-out-requires c κs =
     let t = start .args .t .now in
     let h = c .before .before .before .before .before .if1 .left in
     let e : c .before .before .before .before .before .before .before .before .before .before .before .before .before .before .before .before .before .before .before .before .before .wide2 .result ≡ number t = c .before .before .before .before .before .before .before .before .before .before .before .before .before .before .before .before .before .before .before .before .before .wide2 .ensures in
-    (p .0, (rw e at (c .before .before .before .before .before .before .before .before .before .before .before .before .before .before .before .before .before .before .before .fill-starts .ensures), (c .before .before .before .before .before .before .before .before .before .before .before .before .choose-checks .ensures .0, (omega arith, p .1 .0))))
+    (record { table = record { accepted = p .0; number-is = refl; places-are = refl; size-is = refl }; starts-at = rw e at (c .before .before .before .before .before .before .before .before .before .before .before .before .before .before .before .before .before .before .before .fill-starts .ensures) }, (c .before .before .before .before .before .before .before .before .before .before .before .before .choose-checks .ensures .0, (omega arith, p .1 .0)))
 
 same-length-2 : tie.Need-same-length-2
 same-length-2 c = search needs

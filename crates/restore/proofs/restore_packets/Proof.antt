@@ -3,7 +3,7 @@ use Prim.Native.Nat.{_-_}
 use mathlib.Core.Path.{ap₂, _∙_}
 use native.Mathlib.Omega.{arith}
 use borrow.Author.Needs.{needs}
-use Rattle.table.specs.Accepted.{few-places, few-checks}
+use Rattle.table.specs.Accepted.{by-number, few-places, few-checks}
 use Rattle.restore.proofs.Settling.{saved-room, put-back, fewer, settled, unsettled}
 use Rattle.restore.proofs.restore_packets.Statement.{statement}
 use Rattle.restore.proofs.restore_packets.Tie as tie
@@ -15,7 +15,7 @@ fill-starts-requires : tie.Need-fill-starts-requires
 fill-starts-requires c κs =
     let p = c .before .before .before .before .pre in
     let a = c .before .before .before .before .args in
-    (p .0 .accepted, p .0 .number-is, few-checks (a .t .now) (a .m) (a .n) (a .s) (p .0))
+    (by-number (a .t .now) (a .m) (a .n) (a .s) (p .0), few-checks (a .t .now) (a .m) (a .n) (a .s) (p .0))
 
 slice-aggregate-copy : tie.Need-slice-aggregate-copy
 slice-aggregate-copy c = search needs

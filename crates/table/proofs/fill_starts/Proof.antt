@@ -4,7 +4,8 @@ use Prim.Native.Nat.{_+_, _-_, _≤_}
 use native.Mathlib.Omega.{arith}
 use lib.ListN.{length, getD, length-set}
 use Rattle.table.specs.Checks.{offset}
-use Rattle.table.specs.ChecksLaws.{limits, has-weights, offset-none, offset-more}
+use Rattle.table.specs.Accepted.{few-checks, has-weights}
+use Rattle.table.specs.ChecksLaws.{offset-none, offset-more}
 use Rattle.table.proofs.Starting.{Written, written-more, start-fits}
 use Rattle.table.proofs.fill_starts.Statement.{statement}
 use Rattle.table.proofs.fill_starts.Tie as tie
@@ -16,7 +17,7 @@ abbrev μ-loop : tie.MeasureT-loop
 μ-loop t m starts₀ at₀ j₀ starts at j = m - j
 
 add-at : tie.Need-add-at Inv-loop μ-loop
-add-at c = let f = limits (c .before .before .args .t .now) (c .before .before .pre .0) .few-checks in omega arith
+add-at c = let f = few-checks _ _ _ _ (c .before .before .pre .0) in omega arith
 
 loop-holds : tie.Need-loop-holds Inv-loop μ-loop
 loop-holds c =
@@ -24,7 +25,7 @@ loop-holds c =
     (omega arith, offset-none (a .t .now) (a .m), refl, λ k h. absurd (omega arith))
 
 cast-starts : tie.Need-cast-starts Inv-loop μ-loop
-cast-starts c = let r = start-fits (c .before .before .before .before .args .t .now) _ _ _ (c .before .before .before .before .pre .0) (c .before .before .before .before .pre .1) (c .before .loop .inv .0) (c .before .loop .inv .1) in omega arith
+cast-starts c = let r = start-fits (c .before .before .before .before .args .t .now) _ _ _ (c .before .before .before .before .pre .0) (c .before .loop .inv .0) (c .before .loop .inv .1) in omega arith
 
 mul-starts : tie.Need-mul-starts Inv-loop μ-loop
 mul-starts c = omega arith
@@ -33,13 +34,13 @@ slice-write-starts : tie.Need-slice-write-starts Inv-loop μ-loop
 slice-write-starts c = omega arith
 
 add-wide : tie.Need-add-wide Inv-loop μ-loop
-add-wide c = let w = has-weights (c .before .before .before .before .args .t .now) (c .before .before .before .before .pre .0) in omega arith
+add-wide c = let w = has-weights _ _ _ _ (c .before .before .before .before .pre .0) in omega arith
 
 mul-wide : tie.Need-mul-wide Inv-loop μ-loop
-mul-wide c = let w = has-weights (c .before .before .before .before .args .t .now) (c .before .before .before .before .pre .0) in omega arith
+mul-wide c = let w = has-weights _ _ _ _ (c .before .before .before .before .pre .0) in omega arith
 
 shared-slice-read-wide : tie.Need-shared-slice-read-wide Inv-loop μ-loop
-shared-slice-read-wide c = let w = has-weights (c .before .before .before .before .before .args .t .now) (c .before .before .before .before .before .pre .0) in omega arith
+shared-slice-read-wide c = let w = has-weights _ _ _ _ (c .before .before .before .before .before .pre .0) in omega arith
 
 wide-requires : tie.Need-wide-requires Inv-loop μ-loop
 wide-requires c κs = omega arith
@@ -50,7 +51,7 @@ add-at-2 c =
     let s = c .before .before .before .loop in
     let o = offset-more (a .t .now) (s .j) in
     let e = c .wide .ensures in
-    let r = start-fits (a .t .now) (a .m) (s .j + 1) (s .at + getD (a .t .now) (4 + s .j) 0) (c .before .before .before .before .before .before .pre .0) (c .before .before .before .before .before .before .pre .1) (omega arith) (omega arith) in
+    let r = start-fits (a .t .now) (a .m) (s .j + 1) (s .at + getD (a .t .now) (4 + s .j) 0) (c .before .before .before .before .before .before .pre .0) (omega arith) (omega arith) in
     omega arith
 
 add-j : tie.Need-add-j Inv-loop μ-loop
