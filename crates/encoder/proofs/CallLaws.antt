@@ -13,7 +13,7 @@ use Rattle.plan.specs.Step.{addSteps}
 use Rattle.plan.specs.Steps.{carryOutAll}
 use Rattle.start.specs.Start.{Lent, startOf, slotsIn, PreparedFor}
 use Rattle.start.specs.StartLaws.{slots-length, slots-held, start-alike}
-use Rattle.encoder.specs.Encoding.{slotsAfter, wrongLengths, Answer, encodingRefused, encodeAnswer, blockAfter, scratchAfter}
+use Rattle.encoder.specs.Encoding.{slotsAfter, wrongLengths, EncodeAnswer, encodeRefusal, encodeAnswer, encodeBlockAfter, encodeScratchAfter}
 use Rattle.encoder.specs.EncodingLaws.{AcceptedEncoding, not-refused-at, refused-answer, refused-keeps-block, refused-keeps-scratch, accepted-answer, accepted-block, accepted-scratch, limit-least}
 use Rattle.encoder.specs.Running.{Ran}
 
@@ -38,14 +38,14 @@ lent {w} e a h k = record { formed = a .plan; block = h ∙ a .block ∙ ap (λ 
 -- ---- the ways out
 module _ (w information block scratch : List ℕ) (limit : ℕ) where
   -- what the call ensures, of an answer and buffers after
-  abbrev pub Ensured : Answer → List ℕ → List ℕ → Type 0
+  abbrev pub Ensured : EncodeAnswer → List ℕ → List ℕ → Type 0
   Ensured a b c =
       (a ≡ encodeAnswer w information block scratch limit)
-      × ((b ≡ blockAfter w information block scratch limit) × (c ≡ scratchAfter w information block scratch limit))
+      × ((b ≡ encodeBlockAfter w information block scratch limit) × (c ≡ encodeScratchAfter w information block scratch limit))
 
-  pub refused-call : (r : ℕ) → encodingRefused w information block scratch limit ≡ r → (r ≡ 0 → ⊥) → Ensured (record { refusal = r; additions = 0 }) block scratch
+  pub refused-call : (r : ℕ) → encodeRefusal w information block scratch ≡ r → (r ≡ 0 → ⊥) → Ensured (record { refusal = r; additions = 0 }) block scratch
   refused-call r e h =
-      let no : encodingRefused w information block scratch limit ≡ 0 → ⊥ = λ z. h (sym e ∙ z) in (
+      let no : encodeRefusal w information block scratch ≡ 0 → ⊥ = λ z. h (sym e ∙ z) in (
         ap (λ (x : ℕ). record { refusal = x; additions = 0 }) (sym e) ∙ sym (refused-answer w information block scratch limit no),
         (sym (refused-keeps-block w information block scratch limit no), sym (refused-keeps-scratch w information block scratch limit no)),
       )

@@ -1,6 +1,6 @@
 -- What the encoder returns, as the definition's answer.
 use Rattle.encoder.specs.declared.Encoded.{Encoded}
-use Rattle.encoder.specs.Encoding.{Answer}
+use Rattle.encoder.specs.Encoding.{EncodeAnswer}
 
-abbrev pub answerOf : Encoded → Answer
-answerOf r = record { refusal = r .refusal; additions = r .additions }
+abbrev pub encodeAnswerOf : Encoded → EncodeAnswer
+encodeAnswerOf r = record { refusal = r .refusal; additions = r .additions }

@@ -30,28 +30,29 @@ wrongLengths w s information block scratch =
 abbrev pub encodeCauses : List ℕ → ℕ → ℕ → ℕ → List (Bool × ℕ)
 encodeCauses w information block scratch = planCauses w ++ ((wrongLengths w (planSize w) information block scratch, 5) ∷ [])
 
-unfoldable pub encodeRefusal : List ℕ → ℕ → ℕ → ℕ → ℕ
-encodeRefusal w information block scratch = firstCause (encodeCauses w information block scratch)
+unfoldable pub encodeRefusalAt : List ℕ → ℕ → ℕ → ℕ → ℕ
+encodeRefusalAt w information block scratch = firstCause (encodeCauses w information block scratch)
 
 -- what is answered: the refusal, 0 for none, and the number of add steps carried out, 0 on refusal
-pub record Answer : Type 0 where
+pub record EncodeAnswer : Type 0 where
   pub refusal : ℕ
   pub additions : ℕ
 
-abbrev pub answerAt : ℕ → ℕ → Answer
-answerAt zero additions = record { refusal = 0; additions = additions }
-answerAt (suc r) additions = record { refusal = suc r; additions = 0 }
+abbrev pub encodeAnswerAt : ℕ → ℕ → EncodeAnswer
+encodeAnswerAt zero additions = record { refusal = 0; additions = additions }
+encodeAnswerAt (suc r) additions = record { refusal = suc r; additions = 0 }
+
+-- of the lent buffers
+abbrev pub encodeRefusal : List ℕ → List ℕ → List ℕ → List ℕ → ℕ
+encodeRefusal w information block scratch = encodeRefusalAt w (length information) (length block) (length scratch)
 
 module _ (w information block scratch : List ℕ) (limit : ℕ) where
-  abbrev pub encodingRefused : ℕ
-  encodingRefused = encodeRefusal w (length information) (length block) (length scratch)
-
-  abbrev pub encodeAnswer : Answer
-  encodeAnswer = answerAt encodingRefused (addSteps (stepsWithin w limit))
+  abbrev pub encodeAnswer : EncodeAnswer
+  encodeAnswer = encodeAnswerAt (encodeRefusal w information block scratch) (addSteps (stepsWithin w limit))
 
   -- "slots 0 to n − 1 in a row are the block, the others the scratch"; on refusal as they were
-  abbrev pub blockAfter : List ℕ
-  blockAfter = elim (eqb encodingRefused 0) [ true ↦ joined (take (planPlaces w) (slotsAfter w information limit)) | false ↦ block ]
+  abbrev pub encodeBlockAfter : List ℕ
+  encodeBlockAfter = elim (eqb (encodeRefusal w information block scratch) 0) [ true ↦ joined (take (planPlaces w) (slotsAfter w information limit)) | false ↦ block ]
 
-  abbrev pub scratchAfter : List ℕ
-  scratchAfter = elim (eqb encodingRefused 0) [ true ↦ joined (drop (planPlaces w) (slotsAfter w information limit)) | false ↦ scratch ]
+  abbrev pub encodeScratchAfter : List ℕ
+  encodeScratchAfter = elim (eqb (encodeRefusal w information block scratch) 0) [ true ↦ joined (drop (planPlaces w) (slotsAfter w information limit)) | false ↦ scratch ]

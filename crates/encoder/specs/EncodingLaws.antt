@@ -18,7 +18,7 @@ use Rattle.table.specs.Packets.{joined}
 use Rattle.plan.specs.Layout.{planPlaces, planSize, planGap, infoCount, stepCount, stepsOf, planCauses, planRefusal}
 use Rattle.plan.specs.LayoutLaws.{well, steps-length, or-left, or-right}
 use Rattle.plan.specs.Step.{addSteps}
-use Rattle.encoder.specs.Encoding.{stepsWithin, slotsAfter, wrongLengths, encodeRefusal, Answer, answerAt, encodingRefused, encodeAnswer, blockAfter, scratchAfter}
+use Rattle.encoder.specs.Encoding.{stepsWithin, slotsAfter, wrongLengths, encodeRefusalAt, EncodeAnswer, encodeAnswerAt, encodeRefusal, encodeAnswer, encodeBlockAfter, encodeScratchAfter}
 
 -- ---- the refusal
 -- an encoding of information, block and scratch of i, b and c bytes that is not refused
@@ -33,19 +33,19 @@ module _ (w : List ℕ) (i b c : ℕ) where
   abbrev own : List (Bool × ℕ)
   own = (wrongLengths w (planSize w) i b c, 5) ∷ []
 
-  pub refused-plan : (planRefusal w ≡ 0 → ⊥) → encodeRefusal w i b c ≡ planRefusal w
-  unfolding encodeRefusal
+  pub refused-plan : (planRefusal w ≡ 0 → ⊥) → encodeRefusalAt w i b c ≡ planRefusal w
+  unfolding encodeRefusalAt
   refused-plan h = first-decides (planCauses w) own h
 
   -- once the plan is accepted
-  at-lengths : planRefusal w ≡ 0 → encodeRefusal w i b c ≡ firstCause own
-  unfolding encodeRefusal
+  at-lengths : planRefusal w ≡ 0 → encodeRefusalAt w i b c ≡ firstCause own
+  unfolding encodeRefusalAt
   at-lengths p = rest-decides (none-holds (planCauses w) refl p) own
 
-  pub refused-lengths : planRefusal w ≡ 0 → wrongLengths w (planSize w) i b c ≡ true → encodeRefusal w i b c ≡ 5
+  pub refused-lengths : planRefusal w ≡ 0 → wrongLengths w (planSize w) i b c ≡ true → encodeRefusalAt w i b c ≡ 5
   refused-lengths p h = at-lengths p ∙ ap (λ (x : Bool). cond x 5 0) h
 
-  pub not-refused-at : AcceptedEncoding w i b c → encodeRefusal w i b c ≡ 0
+  pub not-refused-at : AcceptedEncoding w i b c → encodeRefusalAt w i b c ≡ 0
   not-refused-at a = at-lengths (a .plan) ∙ rw (
     eq-eqb i (infoCount w * planSize w) (a .information),
     eq-eqb b (planPlaces w * planSize w) (a .block),
@@ -63,8 +63,8 @@ module _ (w : List ℕ) (i b c : ℕ) where
       same {x} {y} e = eqb-true x y (not-false (eqb x y) e)
 
   -- 0 says accepted
-  pub accepted : encodeRefusal w i b c ≡ 0 → AcceptedEncoding w i b c
-  unfolding encodeRefusal
+  pub accepted : encodeRefusalAt w i b c ≡ 0 → AcceptedEncoding w i b c
+  unfolding encodeRefusalAt
   accepted h = let r = none-refuses (planCauses w) refl own h in go (r .0) (none-holds own refl (r .1))
     where
       go : planRefusal w ≡ 0 → NoneHolds own → AcceptedEncoding w i b c
@@ -73,38 +73,38 @@ module _ (w : List ℕ) (i b c : ℕ) where
 -- ---- the answer and the buffers
 module _ (w information block scratch : List ℕ) (limit : ℕ) where
   abbrev cause : ℕ
-  cause = encodingRefused w information block scratch limit
+  cause = encodeRefusal w information block scratch
 
   -- refused: the buffers as they were, count 0
   pub refused-answer : (cause ≡ 0 → ⊥) → encodeAnswer w information block scratch limit ≡ record { refusal = cause; additions = 0 }
   refused-answer h = go cause h
     where
-      go : (r : ℕ) → (r ≡ 0 → ⊥) → answerAt r (addSteps (stepsWithin w limit)) ≡ record { refusal = r; additions = 0 }
+      go : (r : ℕ) → (r ≡ 0 → ⊥) → encodeAnswerAt r (addSteps (stepsWithin w limit)) ≡ record { refusal = r; additions = 0 }
       go zero k = absurd (k refl)
       go (suc r) k = refl
 
-  pub refused-keeps-block : (cause ≡ 0 → ⊥) → blockAfter w information block scratch limit ≡ block
-  refused-keeps-block h = rw (ne-eqb cause 0 h, blockAfter)
+  pub refused-keeps-block : (cause ≡ 0 → ⊥) → encodeBlockAfter w information block scratch limit ≡ block
+  refused-keeps-block h = rw (ne-eqb cause 0 h, encodeBlockAfter)
 
-  pub refused-keeps-scratch : (cause ≡ 0 → ⊥) → scratchAfter w information block scratch limit ≡ scratch
-  refused-keeps-scratch h = rw (ne-eqb cause 0 h, scratchAfter)
+  pub refused-keeps-scratch : (cause ≡ 0 → ⊥) → encodeScratchAfter w information block scratch limit ≡ scratch
+  refused-keeps-scratch h = rw (ne-eqb cause 0 h, encodeScratchAfter)
 
   -- accepted: what the steps within the limit give
   pub accepted-answer : cause ≡ 0 → encodeAnswer w information block scratch limit ≡ record { refusal = 0; additions = addSteps (stepsWithin w limit) }
-  accepted-answer h = ap (λ (r : ℕ). answerAt r (addSteps (stepsWithin w limit))) h
+  accepted-answer h = ap (λ (r : ℕ). encodeAnswerAt r (addSteps (stepsWithin w limit))) h
 
-  pub accepted-block : cause ≡ 0 → blockAfter w information block scratch limit ≡ joined (take (planPlaces w) (slotsAfter w information limit))
-  accepted-block h = rw (eq-eqb cause 0 h, blockAfter)
+  pub accepted-block : cause ≡ 0 → encodeBlockAfter w information block scratch limit ≡ joined (take (planPlaces w) (slotsAfter w information limit))
+  accepted-block h = rw (eq-eqb cause 0 h, encodeBlockAfter)
 
-  pub accepted-scratch : cause ≡ 0 → scratchAfter w information block scratch limit ≡ joined (drop (planPlaces w) (slotsAfter w information limit))
-  accepted-scratch h = rw (eq-eqb cause 0 h, scratchAfter)
+  pub accepted-scratch : cause ≡ 0 → encodeScratchAfter w information block scratch limit ≡ joined (drop (planPlaces w) (slotsAfter w information limit))
+  accepted-scratch h = rw (eq-eqb cause 0 h, encodeScratchAfter)
 
   -- the count reported under a limit is the number of add steps among the first so many
   pub count-within : cause ≡ 0 → encodeAnswer w information block scratch limit .additions ≡ addSteps (take limit (stepsOf w))
-  count-within h = ap (λ (a : Answer). a .additions) (accepted-answer h)
+  count-within h = ap (λ (a : EncodeAnswer). a .additions) (accepted-answer h)
 
 -- plan and limit alone decide it
-pub count-alike : (w : List ℕ) (limit : ℕ) (i b c i′ b′ c′ : List ℕ) → encodingRefused w i b c limit ≡ 0 → encodingRefused w i′ b′ c′ limit ≡ 0
+pub count-alike : (w : List ℕ) (limit : ℕ) (i b c i′ b′ c′ : List ℕ) → encodeRefusal w i b c ≡ 0 → encodeRefusal w i′ b′ c′ ≡ 0
     → encodeAnswer w i b c limit .additions ≡ encodeAnswer w i′ b′ c′ limit .additions
 count-alike w limit i b c i′ b′ c′ h k = count-within w i b c limit h ∙ sym (count-within w i′ b′ c′ limit k)
 

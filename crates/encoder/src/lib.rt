@@ -6,8 +6,8 @@ ghost use lib.ListN.{length};
 ghost use Rattle.table.specs.Table.{mostBytes};
 ghost use Rattle.plan.specs.Layout.{stepCount, planRefusal};
 ghost use Rattle.start.specs.Start.{Lent};
-ghost use Rattle.encoder.specs.Answers.{answerOf};
-ghost use Rattle.encoder.specs.Encoding.{wrongLengths, encodeAnswer, blockAfter, scratchAfter};
+ghost use Rattle.encoder.specs.Answers.{encodeAnswerOf};
+ghost use Rattle.encoder.specs.Encoding.{wrongLengths, encodeAnswer, encodeBlockAfter, encodeScratchAfter};
 ghost use Rattle.encoder.specs.Running.{Ran};
 
 // The refusal, 0 for none, and the number of add steps that were carried out.
@@ -94,12 +94,12 @@ pub fn encode(
     scratch: &mut [u8],
     limit: usize,
 ) -> Encoded
-    ensures answer { λ r. ⌜ answerOf r
+    ensures answer { λ r. ⌜ encodeAnswerOf r
         ≡ encodeAnswer (now (plan .entry)) (now (information .entry)) (now (block .entry)) (now (scratch .entry)) limit ⌝ }
     ensures block { λ _. ⌜ now (block .exit)
-        ≡ blockAfter (now (plan .entry)) (now (information .entry)) (now (block .entry)) (now (scratch .entry)) limit ⌝ }
+        ≡ encodeBlockAfter (now (plan .entry)) (now (information .entry)) (now (block .entry)) (now (scratch .entry)) limit ⌝ }
     ensures scratch { λ _. ⌜ now (scratch .exit)
-        ≡ scratchAfter (now (plan .entry)) (now (information .entry)) (now (block .entry)) (now (scratch .entry)) limit ⌝ }
+        ≡ encodeScratchAfter (now (plan .entry)) (now (information .entry)) (now (block .entry)) (now (scratch .entry)) limit ⌝ }
 {
     let refusal = plan::look_over(plan);
     if refusal != 0 {

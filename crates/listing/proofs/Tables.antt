@@ -10,7 +10,7 @@ use Rattle.io.specs.Counts.{Counts}
 use Rattle.plan.specs.Step.{addSteps}
 use Rattle.plan.specs.Layout.{stepsOf}
 use Rattle.planner.specs.declared.Planned.{Planned}
-use Rattle.planner.specs.Planning.{answered, planAnswer, planAfter, planningRefusal, leastPlan, workWords}
+use Rattle.planner.specs.Planning.{planningAnswerOf, planningAnswer, planningPlanAfter, planningRefusalAt, leastPlan, workWords}
 use Rattle.theorems.specs.OwnPlan.{own-steps}
 use Rattle.own_plan.specs.Own.{Own, lentWork, own-refusal, own-plan}
 use Rattle.table_file.specs.declared.Words.{Words}
@@ -27,16 +27,16 @@ use Rattle.plan_text.specs.PlanTextLaws.{plan-most}
 abbrev pub planBuffer : List ℕ
 planBuffer = replicate leastPlan 0
 
-module _ (t : List ℕ) (r : Planned) (a : answered r ≡ planAnswer t planBuffer lentWork) where
-  refusal-is : r .refusal ≡ planningRefusal t leastPlan workWords
-  refusal-is = own-refusal t planBuffer r a ∙ ap (λ (k : ℕ). planningRefusal t k workWords) (length-replicate {A = ℕ} leastPlan 0)
+module _ (t : List ℕ) (r : Planned) (a : planningAnswerOf r ≡ planningAnswer t planBuffer lentWork) where
+  refusal-is : r .refusal ≡ planningRefusalAt t leastPlan workWords
+  refusal-is = own-refusal t planBuffer r a ∙ ap (λ (k : ℕ). planningRefusalAt t k workWords) (length-replicate {A = ℕ} leastPlan 0)
 
   -- the table is refused
   pub refused-put : (r .refusal ≡ 0 → ⊥) → refusedLine (r .refusal) ≡ tableText t
   refused-put h = ap refusedLine refusal-is ∙ sym (refused-text t (λ e. h (refusal-is ∙ e)))
 
   -- the table is accepted
-  module _ (buf : List ℕ) (b : buf ≡ planAfter t planBuffer lentWork) (z : r .refusal ≡ 0) where
+  module _ (buf : List ℕ) (b : buf ≡ planningPlanAfter t planBuffer lentWork) (z : r .refusal ≡ 0) where
     pub own : Own t r buf
     own = own-plan t planBuffer r a buf b z
 

@@ -5,16 +5,16 @@ use mathlib.Core.List.{List}
 use Prim.Native.Nat.{ℕ}
 use lib.Dec.{eqb}
 use Rattle.table.specs.Table.{places, size}
-use Rattle.planner.specs.Planning.{planOf, planningRefusal, leastPlan, workWords}
+use Rattle.planner.specs.Planning.{planOf, planningRefusalAt, leastPlan, workWords}
 use Rattle.table_file.specs.Words.{wordsOf, unfit}
 use Rattle.plan_text.specs.PlanText.{planText, refusedLine}
 
 -- the plan of a table; "It prints "refused" and the number otherwise."
 unfoldable pub tableText : List ℕ → List ℕ
 tableText t =
-    elim (eqb (planningRefusal t leastPlan workWords) 0) [
+    elim (eqb (planningRefusalAt t leastPlan workWords) 0) [
       | true ↦ planText (places t) (size t) (planOf t .M) (planOf t .W) (planOf t .g) (planOf t .info) (planOf t .steps)
-      | false ↦ refusedLine (planningRefusal t leastPlan workWords)
+      | false ↦ refusedLine (planningRefusalAt t leastPlan workWords)
     ]
 
 -- the text of a table's file: "A file of an odd number of bytes, or of more than 13,322, prints refusal 3 before any other."

@@ -13,7 +13,7 @@ use Rattle.table.specs.Table.{places, size, checks, refusal}
 use Rattle.table.specs.TableLaws.{accepted}
 use Rattle.plan.specs.Layout.{mostAside}
 use Rattle.rule.specs.WithinLimits.{kept-weight}
-use Rattle.planner.specs.Planning.{planOf, numbersOf, planningRefusal, leastPlan, workWords}
+use Rattle.planner.specs.Planning.{planOf, numbersOf, planningRefusalAt, leastPlan, workWords}
 use Rattle.planner.specs.PlanningLaws.{accepted-planning}
 use Rattle.theorems.specs.OwnPlan.{own-info, own-steps, own-accepted}
 use Rattle.table_file.specs.Words.{wordsOf, unfit}
@@ -32,21 +32,21 @@ pub own-text : (t : List ℕ) → refusal t ≡ 0 → planOf t .g ≤ mostAside
 unfolding numbersOf
 own-text t ok few = ap₂ (planText (places t) (size t) (planOf t .M) (planOf t .W) (planOf t .g)) (own-info t ok few) (own-steps t ok few)
 
-pub accepted-text : (t : List ℕ) → planningRefusal t leastPlan workWords ≡ 0 → refusal t ≡ 0 → planOf t .g ≤ mostAside
+pub accepted-text : (t : List ℕ) → planningRefusalAt t leastPlan workWords ≡ 0 → refusal t ≡ 0 → planOf t .g ≤ mostAside
     → tableText t ≡ planTextOf (numbersOf t) (planOf t .W)
 unfolding tableText
-accepted-text t h ok few = rw (eq-eqb (planningRefusal t leastPlan workWords) 0 h, tableText) (sym (own-text t ok few))
+accepted-text t h ok few = rw (eq-eqb (planningRefusalAt t leastPlan workWords) 0 h, tableText) (sym (own-text t ok few))
 
-pub refused-text : (t : List ℕ) → (planningRefusal t leastPlan workWords ≡ 0 → ⊥) → tableText t ≡ refusedLine (planningRefusal t leastPlan workWords)
+pub refused-text : (t : List ℕ) → (planningRefusalAt t leastPlan workWords ≡ 0 → ⊥) → tableText t ≡ refusedLine (planningRefusalAt t leastPlan workWords)
 unfolding tableText
-refused-text t h = rw (ne-eqb (planningRefusal t leastPlan workWords) 0 h, tableText) refl
+refused-text t h = rw (ne-eqb (planningRefusalAt t leastPlan workWords) 0 h, tableText) refl
 
 table-most : (t : List ℕ) → length (tableText t) ≤ mostText
-table-most t = byBool (eqb (planningRefusal t leastPlan workWords) 0)
-    (λ e. let h = eqb-true (planningRefusal t leastPlan workWords) 0 e in
+table-most t = byBool (eqb (planningRefusalAt t leastPlan workWords) 0)
+    (λ e. let h = eqb-true (planningRefusalAt t leastPlan workWords) 0 e in
     let ok = accepted-planning t leastPlan workWords h in
     rw (accepted-text t h (ok .0) (ok .1)) (plan-most (numbersOf t) (planOf t .W) (own-accepted t (ok .0) (ok .1)) (ones-few t (ok .0))))
-    (λ e. rw (refused-text t (eqb-false (planningRefusal t leastPlan workWords) 0 e)) (refused-most (planningRefusal t leastPlan workWords)))
+    (λ e. rw (refused-text t (eqb-false (planningRefusalAt t leastPlan workWords) 0 e)) (refused-most (planningRefusalAt t leastPlan workWords)))
 
 -- ---- a file
 too-long : (file : List ℕ) → 13322 < length file → unfit file ≡ true

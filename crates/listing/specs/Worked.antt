@@ -3,7 +3,7 @@ use mathlib.Core.Path.{_≡_, refl}
 use mathlib.Core.List.{List, [], _∷_, _++_}
 use Prim.Native.Nat.{ℕ, _/_, _%_}
 use Prim.Native.String.{String}
-use Rattle.planner.specs.Planning.{planOf, planningRefusal}
+use Rattle.planner.specs.Planning.{planOf, planningRefusalAt}
 use Rattle.text.specs.Lines.{digitsWithin, bytes}
 use Rattle.listing.specs.Listing.{listing, tableText}
 
@@ -27,11 +27,11 @@ table9 = 2 ∷ 1 ∷ 1 ∷ 1 ∷ 1 ∷ 1 ∷ 0 ∷ []
 pub listing-of-B : listing (fileOf tableB)
     ≡ text ("places 4 size 1 kept 3 ones 9 gap 1" ∷ "info 1" ∷ "clear 3" ∷ "add 1 3" ∷ "clear 2" ∷ "add 3 2" ∷ "clear 4" ∷ "add 1 4" ∷ "add 2 4"
     ∷ "clear 0" ∷ "add 4 0" ∷ "clear 3" ∷ "add 0 3" ∷ "add 1 3" ∷ "clear 2" ∷ "add 0 2" ∷ "add 3 2" ∷ "adds 9" ∷ [])
-unfolding listing tableText planningRefusal planOf digitsWithin
+unfolding listing tableText planningRefusalAt planOf digitsWithin
 listing-of-B = refl
 
 pub listing-of-P9 : listing (fileOf table9) ≡ text ("places 1 size 1 kept 1 ones 1 gap 0" ∷ "info" ∷ "clear 0" ∷ "adds 0" ∷ [])
-unfolding listing tableText planningRefusal planOf digitsWithin
+unfolding listing tableText planningRefusalAt planOf digitsWithin
 listing-of-P9 = refl
 
 pub listing-of-odd : listing (2 ∷ []) ≡ text ("refused 3" ∷ [])
@@ -39,5 +39,5 @@ unfolding listing digitsWithin
 listing-of-odd = refl
 
 pub listing-of-empty : listing [] ≡ text ("refused 1" ∷ [])
-unfolding listing tableText planningRefusal planOf digitsWithin
+unfolding listing tableText planningRefusalAt planOf digitsWithin
 listing-of-empty = refl

@@ -9,7 +9,7 @@ use Rattle.table.specs.Table.{refusal}
 use Rattle.plan.specs.Step.{addSteps}
 use Rattle.plan.specs.Layout.{planRefusal, mostAside}
 use Rattle.planner.specs.declared.Planned.{Planned}
-use Rattle.planner.specs.Planning.{planOf, numbersOf, answered, answerAt, planningRefused, planAnswer, planAfter, planningRefusal, workWords}
+use Rattle.planner.specs.Planning.{planOf, numbersOf, planningAnswerOf, planningAnswerAt, planningRefusal, planningAnswer, planningPlanAfter, planningRefusalAt, workWords}
 use Rattle.planner.specs.PlanningLaws.{accepted-planning}
 use Rattle.theorems.specs.OwnPlan.{own-accepted}
 
@@ -29,22 +29,22 @@ pub record Own (t : List ℕ) (r : Planned) (buf : List ℕ) : Type 0 where
   pub additions : r .additions ≡ addSteps (planOf t .steps)
 
 -- the refusal that is answered
-answer-refusal : (p : ℕ) (t : List ℕ) → answerAt p t .refusal ≡ p
+answer-refusal : (p : ℕ) (t : List ℕ) → planningAnswerAt p t .refusal ≡ p
 answer-refusal zero t = refl
 answer-refusal (suc p) t = refl
 
-module _ (t buf : List ℕ) (r : Planned) (a : answered r ≡ planAnswer t buf lentWork) where
-  pub own-refusal : r .refusal ≡ planningRefusal t (length buf) workWords
+module _ (t buf : List ℕ) (r : Planned) (a : planningAnswerOf r ≡ planningAnswer t buf lentWork) where
+  pub own-refusal : r .refusal ≡ planningRefusalAt t (length buf) workWords
   unfolding lentWork
-  own-refusal = ap (λ x. x .refusal) a ∙ answer-refusal (planningRefused t buf lentWork) t ∙ ap (planningRefusal t (length buf)) (length-replicate {A = ℕ} workWords 0)
+  own-refusal = ap (λ x. x .refusal) a ∙ answer-refusal (planningRefusal t buf lentWork) t ∙ ap (planningRefusalAt t (length buf)) (length-replicate {A = ℕ} workWords 0)
 
   -- where the table is accepted
-  pub own-plan : (buf' : List ℕ) → buf' ≡ planAfter t buf lentWork → r .refusal ≡ 0 → Own t r buf'
+  pub own-plan : (buf' : List ℕ) → buf' ≡ planningPlanAfter t buf lentWork → r .refusal ≡ 0 → Own t r buf'
   own-plan buf' b z =
-      let e : planningRefused t buf lentWork ≡ 0 = sym (answer-refusal (planningRefused t buf lentWork) t) ∙ sym (ap (λ x. x .refusal) a) ∙ z in
+      let e : planningRefusal t buf lentWork ≡ 0 = sym (answer-refusal (planningRefusal t buf lentWork) t) ∙ sym (ap (λ x. x .refusal) a) ∙ z in
       let ok = accepted-planning t (length buf) (length lentWork) e in
       let l : length (numbersOf t) ≡ r .length = sym (rw e at (ap (λ x. x .length) a)) in
-      let w : buf' ≡ numbersOf t ++ drop (length (numbersOf t)) buf = rw (e, planAfter) at b in
+      let w : buf' ≡ numbersOf t ++ drop (length (numbersOf t)) buf = rw (e, planningPlanAfter) at b in
       let k : take (r .length) buf' ≡ numbersOf t = ap (take (r .length)) w ∙ take-at (numbersOf t) (drop (length (numbersOf t)) buf) (r .length) l in
       record {
         accepted = ok .0;

@@ -13,22 +13,22 @@ use Rattle.plan.specs.Layout.{mostAside, leastPlan}
 use Rattle.rule.specs.Buffers.{peeling}
 use Rattle.rule.specs.PlanOf.{planOf, withNumbers}
 use Rattle.rule.specs.Rule.{setAsideOf}
-use Rattle.planner.specs.Planning.{workWords, refusedBy, answerAt, planningRefused, planAnswer, planAfter, workAfter, Answer}
+use Rattle.planner.specs.Planning.{workWords, refusedBy, planningAnswerAt, planningRefusal, planningAnswer, planningPlanAfter, planningWorkAfter, PlanningAnswer}
 use Rattle.planner.specs.PlanningLaws.{table-refused, plan-short, work-wrong, gap-decides}
 
 -- the call as it answers r, and leaves the plan and the work
-pub record Outcome (t P W : List ℕ) (r : Answer) (plan work : List ℕ) : Type 0 where
-  pub answer : r ≡ planAnswer t P W
-  pub plan-is : plan ≡ planAfter t P W
-  pub work-is : work ≡ workAfter t P W
+pub record Outcome (t P W : List ℕ) (r : PlanningAnswer) (plan work : List ℕ) : Type 0 where
+  pub answer : r ≡ planningAnswer t P W
+  pub plan-is : plan ≡ planningPlanAfter t P W
+  pub work-is : work ≡ planningWorkAfter t P W
 
 module _ (t P W : List ℕ) where
-  stays : (r : ℕ) → planningRefused t P W ≡ r → 0 < r → r < 6 → Outcome t P W (refusedBy r) P W
+  stays : (r : ℕ) → planningRefusal t P W ≡ r → 0 < r → r < 6 → Outcome t P W (refusedBy r) P W
   stays zero e a b = absurd (omega arith)
   stays (suc r) e a b =
-      let z : eqb (planningRefused t P W) 0 ≡ false = ap (λ (k : ℕ). eqb k 0) e ∙ ne-eqb (suc r) 0 (λ (q : suc r ≡ 0). omega arith) in
-      let s : eqb (planningRefused t P W) 6 ≡ false = ap (λ (k : ℕ). eqb k 6) e ∙ ne-eqb (suc r) 6 (λ (q : suc r ≡ 6). omega arith) in
-      record { answer = rw e; plan-is = rw (z, planAfter); work-is = rw (z, workAfter, s) }
+      let z : eqb (planningRefusal t P W) 0 ≡ false = ap (λ (k : ℕ). eqb k 0) e ∙ ne-eqb (suc r) 0 (λ (q : suc r ≡ 0). omega arith) in
+      let s : eqb (planningRefusal t P W) 6 ≡ false = ap (λ (k : ℕ). eqb k 6) e ∙ ne-eqb (suc r) 6 (λ (q : suc r ≡ 6). omega arith) in
+      record { answer = rw e; plan-is = rw (z, planningPlanAfter); work-is = rw (z, planningWorkAfter, s) }
 
   pub by-table : (r : ℕ) → r ≡ refusal t → (r ≡ 0 → ⊥) → Outcome t P W (refusedBy r) P W
   by-table r e h =
@@ -48,25 +48,25 @@ module _ (t P W : List ℕ) where
   pub many-aside : refusal t ≡ 0 → leastPlan ≤ length P → length W ≡ workWords → mostAside < planOf t .g → Outcome t P W (refusedBy 6) P (replicate workWords 0)
   many-aside a b c d =
       let e = gap-decides t (length P) (length W) true a b c (lt-ltb mostAside (planOf t .g) d) in
-      let z : eqb (planningRefused t P W) 0 ≡ false = ap (λ (k : ℕ). eqb k 0) e in
-      let s : eqb (planningRefused t P W) 6 ≡ true = ap (λ (k : ℕ). eqb k 6) e in
-      record { answer = rw e; plan-is = rw (z, planAfter); work-is = rw (z, workAfter, s) }
+      let z : eqb (planningRefusal t P W) 0 ≡ false = ap (λ (k : ℕ). eqb k 0) e in
+      let s : eqb (planningRefusal t P W) 6 ≡ true = ap (λ (k : ℕ). eqb k 6) e in
+      record { answer = rw e; plan-is = rw (z, planningPlanAfter); work-is = rw (z, planningWorkAfter, s) }
 
   pub served : refusal t ≡ 0 → leastPlan ≤ length P → length W ≡ workWords → planOf t .g ≤ mostAside
-      → Outcome t P W (answerAt 0 t) (withNumbers t P) (replicate workWords 0)
+      → Outcome t P W (planningAnswerAt 0 t) (withNumbers t P) (replicate workWords 0)
   served a b c d =
       let e = gap-decides t (length P) (length W) false a b c (le-ltb mostAside (planOf t .g) d) in
-      record { answer = rw e; plan-is = rw (e, planAfter); work-is = rw (e, workAfter) }
+      record { answer = rw e; plan-is = rw (e, planningPlanAfter); work-is = rw (e, planningWorkAfter) }
 
 pub gap-is : (t : List ℕ) → planOf t .g ≡ length (setAsideOf (peeling t))
 unfolding planOf
 gap-is t = refl
 
-pub outcome-as : (t P W : List ℕ) {r s : Answer} {p q v w : List ℕ} → Outcome t P W r p v → s ≡ r → q ≡ p → w ≡ v
-    → (s ≡ planAnswer t P W) × ((q ≡ planAfter t P W) × (w ≡ workAfter t P W))
+pub outcome-as : (t P W : List ℕ) {r s : PlanningAnswer} {p q v w : List ℕ} → Outcome t P W r p v → s ≡ r → q ≡ p → w ≡ v
+    → (s ≡ planningAnswer t P W) × ((q ≡ planningPlanAfter t P W) × (w ≡ planningWorkAfter t P W))
 outcome-as t P W o a b c = (a ∙ o .answer, (b ∙ o .plan-is, c ∙ o .work-is))
 
 -- the same, clause by clause
-pub outcome-of : (t P W : List ℕ) {r s : Answer} {p v : List ℕ} → Outcome t P W r p v → s ≡ r
-    → (s ≡ planAnswer t P W) × ((p ≡ planAfter t P W) × (v ≡ workAfter t P W))
+pub outcome-of : (t P W : List ℕ) {r s : PlanningAnswer} {p v : List ℕ} → Outcome t P W r p v → s ≡ r
+    → (s ≡ planningAnswer t P W) × ((p ≡ planningPlanAfter t P W) × (v ≡ planningWorkAfter t P W))
 outcome-of t P W o a = (a ∙ o .answer, (o .plan-is, o .work-is))

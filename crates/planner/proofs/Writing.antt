@@ -20,7 +20,7 @@ use Rattle.rule.specs.Rule.{kept}
 use Rattle.peel.specs.Choice.{ChoiceOf}
 use Rattle.columns.specs.Fitting.{Ready}
 use Rattle.compose.specs.Compose.{Phases, Composed}
-use Rattle.planner.specs.Planning.{answerAt, Answer}
+use Rattle.planner.specs.Planning.{planningAnswerAt, PlanningAnswer}
 use Rattle.planner.proofs.Refusals.{gap-is}
 
 adds-few : (xs : List Step) → addSteps xs ≤ length xs
@@ -30,7 +30,7 @@ adds-few (Add to from ∷ xs) = let h = adds-few xs in omega arith
 
 -- six numbers make the answer
 same-answer : {r l k o g d r′ l′ k′ o′ g′ d′ : ℕ} → r ≡ r′ → l ≡ l′ → k ≡ k′ → o ≡ o′ → g ≡ g′ → d ≡ d′
-    → _≡_ {A = Answer} (record { refusal = r; length = l; kept = k; ones = o; gap = g; additions = d })
+    → _≡_ {A = PlanningAnswer} (record { refusal = r; length = l; kept = k; ones = o; gap = g; additions = d })
     (record { refusal = r′; length = l′; kept = k′; ones = o′; gap = g′; additions = d′ })
 same-answer a b c d e f = cc
 
@@ -105,7 +105,7 @@ module _ {t starts order owns aside : List ℕ} {M W taken put : ℕ} (lo : Loca
   adds-fit e = let a = adds-most t ok gap-few in let b = e .additions in omega arith
 
   pub written-out : {before after : List ℕ} {count adds : ℕ} → Composed t before after count adds
-      → (_≡_ {A = Answer} (record { refusal = 0; length = count; kept = M; ones = W; gap = put; additions = adds }) (answerAt 0 t))
+      → (_≡_ {A = PlanningAnswer} (record { refusal = 0; length = count; kept = M; ones = W; gap = put; additions = adds }) (planningAnswerAt 0 t))
       × (after ≡ withNumbers t before)
   written-out {before} {after} {count} {adds} e = (
     same-answer refl (e .numbers) (ch .keeps ∙ sym (kept-is t ok)) (ch .with-ones ∙ sym (ones-is t ok)) (ch .gap ∙ sym (gap-is t)) (e .additions),

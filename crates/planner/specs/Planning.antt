@@ -29,11 +29,11 @@ tooManyAside t = ltb mostAside (planOf t .g)
 abbrev pub planningCauses : List ℕ → ℕ → ℕ → List (Bool × ℕ)
 planningCauses t planLength workLength = tableCauses t ++ ((wrongLengths planLength workLength, 5) ∷ (tooManyAside t, 6) ∷ [])
 
-unfoldable pub planningRefusal : List ℕ → ℕ → ℕ → ℕ
-planningRefusal t planLength workLength = firstCause (planningCauses t planLength workLength)
+unfoldable pub planningRefusalAt : List ℕ → ℕ → ℕ → ℕ
+planningRefusalAt t planLength workLength = firstCause (planningCauses t planLength workLength)
 
 -- "The planner answers with the plan's length, M, W, g and the number of add steps"; counts 0 on refusal
-pub record Answer : Type 0 where
+pub record PlanningAnswer : Type 0 where
   pub refusal : ℕ
   pub length : ℕ
   pub kept : ℕ
@@ -41,11 +41,11 @@ pub record Answer : Type 0 where
   pub gap : ℕ
   pub additions : ℕ
 
-abbrev pub refusedBy : ℕ → Answer
+abbrev pub refusedBy : ℕ → PlanningAnswer
 refusedBy r = record { refusal = r; length = 0; kept = 0; ones = 0; gap = 0; additions = 0 }
 
-abbrev pub answerAt : ℕ → List ℕ → Answer
-answerAt zero t = record {
+abbrev pub planningAnswerAt : ℕ → List ℕ → PlanningAnswer
+planningAnswerAt zero t = record {
   refusal = 0;
   length = length (numbersOf t);
   kept = planOf t .M;
@@ -53,11 +53,11 @@ answerAt zero t = record {
   gap = planOf t .g;
   additions = addSteps (planOf t .steps);
 }
-answerAt (suc r) t = refusedBy (suc r)
+planningAnswerAt (suc r) t = refusedBy (suc r)
 
 -- what the code answers
-abbrev pub answered : Planned → Answer
-answered p = record {
+abbrev pub planningAnswerOf : Planned → PlanningAnswer
+planningAnswerOf p = record {
   refusal = p .refusal;
   length = p .length;
   kept = p .kept;
@@ -67,20 +67,20 @@ answered p = record {
 }
 
 module _ (t planBuffer work : List ℕ) where
-  abbrev pub planningRefused : ℕ
-  planningRefused = planningRefusal t (length planBuffer) (length work)
+  abbrev pub planningRefusal : ℕ
+  planningRefusal = planningRefusalAt t (length planBuffer) (length work)
 
-  abbrev pub planAnswer : Answer
-  planAnswer = answerAt planningRefused t
+  abbrev pub planningAnswer : PlanningAnswer
+  planningAnswer = planningAnswerAt planningRefusal t
 
   -- the plan's numbers are written and the rest is kept; on refusal as it was
-  abbrev pub planAfter : List ℕ
-  planAfter = elim (eqb planningRefused 0) [ true ↦ withNumbers t planBuffer | false ↦ planBuffer ]
+  abbrev pub planningPlanAfter : List ℕ
+  planningPlanAfter = elim (eqb planningRefusal 0) [ true ↦ withNumbers t planBuffer | false ↦ planBuffer ]
 
   -- "all zero after planning and after refusal 6"; else as it was
-  abbrev pub workAfter : List ℕ
-  workAfter = elim (eqb planningRefused 0) [
+  abbrev pub planningWorkAfter : List ℕ
+  planningWorkAfter = elim (eqb planningRefusal 0) [
     | true ↦ replicate workWords 0
     | false ↦
-        elim (eqb planningRefused 6) [ true ↦ replicate workWords 0 | false ↦ work ]
+        elim (eqb planningRefusal 6) [ true ↦ replicate workWords 0 | false ↦ work ]
   ]

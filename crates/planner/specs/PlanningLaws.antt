@@ -9,35 +9,35 @@ use Rattle.table.specs.FirstCause.{firstCause, NoneHolds}
 use Rattle.table.specs.FirstCauseLaws.{none-holds, none-refuses, first-decides, rest-decides}
 use Rattle.table.specs.Table.{tableCauses, refusal}
 use Rattle.plan.specs.Layout.{mostAside}
-use Rattle.planner.specs.Planning.{leastPlan, workWords, planOf, wrongLengths, tooManyAside, planningRefusal}
+use Rattle.planner.specs.Planning.{leastPlan, workWords, planOf, wrongLengths, tooManyAside, planningRefusalAt}
 
 module _ (t : List ℕ) (planLength workLength : ℕ) where
   -- the causes beyond the table's
   abbrev own : List (Bool × ℕ)
   own = (wrongLengths planLength workLength, 5) ∷ (tooManyAside t, 6) ∷ []
 
-  pub table-refused : (refusal t ≡ 0 → ⊥) → planningRefusal t planLength workLength ≡ refusal t
-  unfolding planningRefusal
+  pub table-refused : (refusal t ≡ 0 → ⊥) → planningRefusalAt t planLength workLength ≡ refusal t
+  unfolding planningRefusalAt
   table-refused h = first-decides (tableCauses t) own h
 
   -- once the table is accepted
-  at-own : refusal t ≡ 0 → planningRefusal t planLength workLength ≡ firstCause own
-  unfolding planningRefusal
+  at-own : refusal t ≡ 0 → planningRefusalAt t planLength workLength ≡ firstCause own
+  unfolding planningRefusalAt
   at-own ok = rest-decides (none-holds (tableCauses t) refl ok) own
 
-  pub plan-short : refusal t ≡ 0 → planLength < leastPlan → planningRefusal t planLength workLength ≡ 5
+  pub plan-short : refusal t ≡ 0 → planLength < leastPlan → planningRefusalAt t planLength workLength ≡ 5
   plan-short ok h = at-own ok ∙ rw (lt-ltb planLength leastPlan h)
 
-  pub work-wrong : refusal t ≡ 0 → leastPlan ≤ planLength → (workLength ≡ workWords → ⊥) → planningRefusal t planLength workLength ≡ 5
+  pub work-wrong : refusal t ≡ 0 → leastPlan ≤ planLength → (workLength ≡ workWords → ⊥) → planningRefusalAt t planLength workLength ≡ 5
   work-wrong ok h k = at-own ok ∙ rw (le-ltb planLength leastPlan h, ne-eqb workLength workWords k)
 
   -- what is left then is 6 or nothing
-  pub gap-decides : (x : Bool) → refusal t ≡ 0 → leastPlan ≤ planLength → workLength ≡ workWords → tooManyAside t ≡ x → planningRefusal t planLength workLength ≡ cond x 6 0
+  pub gap-decides : (x : Bool) → refusal t ≡ 0 → leastPlan ≤ planLength → workLength ≡ workWords → tooManyAside t ≡ x → planningRefusalAt t planLength workLength ≡ cond x 6 0
   gap-decides x ok h k e = at-own ok ∙ rw (le-ltb planLength leastPlan h, eq-eqb workLength workWords k) (ap (λ (y : Bool). cond y 6 0) e)
 
   -- an accepted planning
-  pub accepted-planning : planningRefusal t planLength workLength ≡ 0 → (refusal t ≡ 0) × (planOf t .g ≤ mostAside)
-  unfolding planningRefusal
+  pub accepted-planning : planningRefusalAt t planLength workLength ≡ 0 → (refusal t ≡ 0) × (planOf t .g ≤ mostAside)
+  unfolding planningRefusalAt
   accepted-planning h = let r = none-refuses (tableCauses t) refl own h in (r .0, few (none-holds own refl (r .1)))
     where
       few : NoneHolds own → planOf t .g ≤ mostAside

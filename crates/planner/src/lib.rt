@@ -10,7 +10,7 @@ ghost use Rattle.table.specs.Table.{places, number, refusal};
 ghost use Rattle.peel.specs.Choice.{ChoiceOf};
 ghost use Rattle.plan.specs.Layout.{mostAside, leastPlan};
 ghost use Rattle.rule.specs.PlanOf.{withNumbers};
-ghost use Rattle.planner.specs.Planning.{workWords, answered, refusedBy, answerAt, planAnswer, planAfter, workAfter};
+ghost use Rattle.planner.specs.Planning.{workWords, planningAnswerOf, refusedBy, planningAnswerAt, planningAnswer, planningPlanAfter, planningWorkAfter};
 
 // the least length of the plan's buffer
 pub const LEAST_PLAN: usize = 15360;
@@ -32,7 +32,7 @@ pub struct Planned {
 }
 
 fn refused(number: u32) -> Planned
-    ensures { λ r. ⌜ answered r ≡ refusedBy number ⌝ }
+    ensures { λ r. ⌜ planningAnswerOf r ≡ refusedBy number ⌝ }
 {
     Planned {
         refusal: number,
@@ -58,7 +58,7 @@ fn write_out(
     requires choice { ⌜ ChoiceOf (now t) (now order) (now owns) (now aside) (c .kept) (c .ones) (c .taken) (c .aside) ⌝ }
     requires few { ⌜ c .aside ≤ mostAside ⌝ }
     requires room { ⌜ leastPlan ≤ length (now plan) ⌝ }
-    ensures answer { λ r. ⌜ answered r ≡ answerAt 0 (now (t .entry)) ⌝ }
+    ensures answer { λ r. ⌜ planningAnswerOf r ≡ planningAnswerAt 0 (now (t .entry)) ⌝ }
     ensures plan { λ _. ⌜ now (plan .exit) ≡ withNumbers (now (t .entry)) (now (plan .entry)) ⌝ }
 {
     let n = wide(t[1]);
@@ -107,9 +107,9 @@ fn plan_table(t: &[u16], plan: &mut [u32], work: &mut [u64]) -> Planned
     requires table { ⌜ refusal (now t) ≡ 0 ⌝ }
     requires room { ⌜ leastPlan ≤ length (now plan) ⌝ }
     requires work { ⌜ length (now work) ≡ workWords ⌝ }
-    ensures answer { λ r. ⌜ answered r ≡ planAnswer (now (t .entry)) (now (plan .entry)) (now (work .entry)) ⌝ }
-    ensures plan { λ _. ⌜ now (plan .exit) ≡ planAfter (now (t .entry)) (now (plan .entry)) (now (work .entry)) ⌝ }
-    ensures work { λ _. ⌜ now (work .exit) ≡ workAfter (now (t .entry)) (now (plan .entry)) (now (work .entry)) ⌝ }
+    ensures answer { λ r. ⌜ planningAnswerOf r ≡ planningAnswer (now (t .entry)) (now (plan .entry)) (now (work .entry)) ⌝ }
+    ensures plan { λ _. ⌜ now (plan .exit) ≡ planningPlanAfter (now (t .entry)) (now (plan .entry)) (now (work .entry)) ⌝ }
+    ensures work { λ _. ⌜ now (work .exit) ≡ planningWorkAfter (now (t .entry)) (now (plan .entry)) (now (work .entry)) ⌝ }
 {
     let n = wide(t[1]);
     let m = wide(t[3]);
@@ -127,9 +127,9 @@ fn plan_table(t: &[u16], plan: &mut [u32], work: &mut [u64]) -> Planned
 
 // the plan of a table
 pub fn plan(t: &[u16], plan: &mut [u32], work: &mut [u64]) -> Planned
-    ensures answer { λ r. ⌜ answered r ≡ planAnswer (now (t .entry)) (now (plan .entry)) (now (work .entry)) ⌝ }
-    ensures plan { λ _. ⌜ now (plan .exit) ≡ planAfter (now (t .entry)) (now (plan .entry)) (now (work .entry)) ⌝ }
-    ensures work { λ _. ⌜ now (work .exit) ≡ workAfter (now (t .entry)) (now (plan .entry)) (now (work .entry)) ⌝ }
+    ensures answer { λ r. ⌜ planningAnswerOf r ≡ planningAnswer (now (t .entry)) (now (plan .entry)) (now (work .entry)) ⌝ }
+    ensures plan { λ _. ⌜ now (plan .exit) ≡ planningPlanAfter (now (t .entry)) (now (plan .entry)) (now (work .entry)) ⌝ }
+    ensures work { λ _. ⌜ now (work .exit) ≡ planningWorkAfter (now (t .entry)) (now (plan .entry)) (now (work .entry)) ⌝ }
 {
     let r = table::look_over(t);
     if r != 0 {

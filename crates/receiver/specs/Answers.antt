@@ -2,7 +2,7 @@
 use mathlib.Core.Bool.{Bool, true, false}
 use mathlib.Core.Option.{Option, none, some}
 use Prim.Native.Nat.{ℕ}
-use Rattle.repair.specs.Repair.{Report}
+use Rattle.repair.specs.Repair.{RepairAnswer}
 use Rattle.receiver.specs.declared.Repair.{Repair}
 
 -- C has numbers: 1 or 0 for whether, 0 for none
@@ -14,5 +14,5 @@ abbrev pub orZero : Option ℕ → ℕ
 orZero none = 0
 orZero (some k) = k
 
-abbrev pub repaired : Repair → Report
+abbrev pub repaired : Repair → RepairAnswer
 repaired r = record { refusal = r .refusal; restored = r .restored; lost = r .lost; additions = r .additions }

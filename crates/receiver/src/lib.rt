@@ -2,8 +2,8 @@
 ghost use mathlib.Core.Path.{_≡_};
 ghost use lib.ListN.{length};
 ghost use Rattle.table.specs.PacketCall.{packetRefusal, partStart, partLength};
-ghost use Rattle.verify.specs.Verify.{verification};
-ghost use Rattle.repair.specs.Repair.{repairReport, repairBlock, repairMap};
+ghost use Rattle.verify.specs.Verify.{verifyAnswer};
+ghost use Rattle.repair.specs.Repair.{repairAnswer, repairBlockAfter, repairMapAfter};
 ghost use Rattle.receiver.specs.Answers.{oneIf, orZero, repaired};
 use verify::Verified;
 
@@ -47,9 +47,9 @@ pub struct Verification {
 
 #[no_mangle]
 pub extern "C" fn bs_verify(table: &[u16], block: &[u8]) -> Verification
-    ensures refusal { λ r. ⌜ r .refusal ≡ verification (now (table .entry)) (now (block .entry)) .refusal ⌝ }
-    ensures codeword { λ r. ⌜ r .codeword ≡ oneIf (verification (now (table .entry)) (now (block .entry)) .codeword) ⌝ }
-    ensures check { λ r. ⌜ r .check ≡ orZero (verification (now (table .entry)) (now (block .entry)) .check) ⌝ }
+    ensures refusal { λ r. ⌜ r .refusal ≡ verifyAnswer (now (table .entry)) (now (block .entry)) .refusal ⌝ }
+    ensures codeword { λ r. ⌜ r .codeword ≡ oneIf (verifyAnswer (now (table .entry)) (now (block .entry)) .codeword) ⌝ }
+    ensures check { λ r. ⌜ r .check ≡ orZero (verifyAnswer (now (table .entry)) (now (block .entry)) .check) ⌝ }
 {
     match verify::verify(table, block) {
         Verified::Refused(refusal) => Verification {
@@ -81,9 +81,9 @@ pub struct Repair {
 
 #[no_mangle]
 pub extern "C" fn bs_repair(table: &[u16], block: &mut [u8], map: &mut [u8]) -> Repair
-    ensures report { λ r. ⌜ repaired r ≡ repairReport (now (table .entry)) (now (block .entry)) (now (map .entry)) ⌝ }
-    ensures block { λ _. ⌜ now (block .exit) ≡ repairBlock (now (table .entry)) (now (block .entry)) (now (map .entry)) ⌝ }
-    ensures map { λ _. ⌜ now (map .exit) ≡ repairMap (now (table .entry)) (now (block .entry)) (now (map .entry)) ⌝ }
+    ensures report { λ r. ⌜ repaired r ≡ repairAnswer (now (table .entry)) (now (block .entry)) (now (map .entry)) ⌝ }
+    ensures block { λ _. ⌜ now (block .exit) ≡ repairBlockAfter (now (table .entry)) (now (block .entry)) (now (map .entry)) ⌝ }
+    ensures map { λ _. ⌜ now (map .exit) ≡ repairMapAfter (now (table .entry)) (now (block .entry)) (now (map .entry)) ⌝ }
 {
     let r = repair::repair(table, block, map);
     Repair {

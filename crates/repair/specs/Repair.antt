@@ -35,23 +35,23 @@ unfoldable pub repairRefusal : List ℕ → List ℕ → List ℕ → ℕ
 repairRefusal t b map = firstCause (repairCauses t b map)
 
 -- what is reported: counts 0 on refusal
-pub record Report : Type 0 where
+pub record RepairAnswer : Type 0 where
   pub refusal : ℕ
   pub restored : ℕ
   pub lost : ℕ
   pub additions : ℕ
 
 -- by the refusal's number, 0 for none
-abbrev pub reportAt : ℕ → State → Report
-reportAt zero m = record { refusal = 0; restored = tally 2 (m .map); lost = tally 1 (m .map); additions = m .adds }
-reportAt (suc r) m = record { refusal = suc r; restored = 0; lost = 0; additions = 0 }
+abbrev pub repairAnswerAt : ℕ → State → RepairAnswer
+repairAnswerAt zero m = record { refusal = 0; restored = tally 2 (m .map); lost = tally 1 (m .map); additions = m .adds }
+repairAnswerAt (suc r) m = record { refusal = suc r; restored = 0; lost = 0; additions = 0 }
 
-abbrev pub repairReport : List ℕ → List ℕ → List ℕ → Report
-repairReport t b map = reportAt (repairRefusal t b map) (outcome t b map)
+abbrev pub repairAnswer : List ℕ → List ℕ → List ℕ → RepairAnswer
+repairAnswer t b map = repairAnswerAt (repairRefusal t b map) (outcome t b map)
 
 -- the block afterwards: the outcome's; after 8 lost places are zero; else as it was
-abbrev pub repairBlock : List ℕ → List ℕ → List ℕ → List ℕ
-repairBlock t b map =
+abbrev pub repairBlockAfter : List ℕ → List ℕ → List ℕ → List ℕ
+repairBlockAfter t b map =
     elim (eqb (repairRefusal t b map) 0) [
       | true ↦ joined (outcome t b map .block)
       | false ↦
@@ -59,18 +59,18 @@ repairBlock t b map =
     ]
 
 -- the map afterwards: restored places are marked 2; as it was on refusal
-abbrev pub repairMap : List ℕ → List ℕ → List ℕ → List ℕ
-repairMap t b map = elim (eqb (repairRefusal t b map) 0) [ true ↦ outcome t b map .map | false ↦ map ]
+abbrev pub repairMapAfter : List ℕ → List ℕ → List ℕ → List ℕ
+repairMapAfter t b map = elim (eqb (repairRefusal t b map) 0) [ true ↦ outcome t b map .map | false ↦ map ]
 
 -- document 01's numbers of an answer
-abbrev pub reportOf : Repaired → Report
-reportOf r = record { refusal = r .refusal; restored = r .restored; lost = r .lost; additions = r .additions }
+abbrev pub repairAnswerOf : Repaired → RepairAnswer
+repairAnswerOf r = record { refusal = r .refusal; restored = r .restored; lost = r .lost; additions = r .additions }
 
 -- what the call answers, and what it leaves in block and map
 pub record Answers (t b map : List ℕ) (r : Repaired) (b′ map′ : List ℕ) : Type 0 where
-  pub report : reportOf r ≡ repairReport t b map
-  pub block-is : b′ ≡ repairBlock t b map
-  pub map-is : map′ ≡ repairMap t b map
+  pub report : repairAnswerOf r ≡ repairAnswer t b map
+  pub block-is : b′ ≡ repairBlockAfter t b map
+  pub map-is : map′ ≡ repairMapAfter t b map
 
 -- a call that none of 1 to 7 refuses
 pub record Fitting (t b map : List ℕ) : Type 0 where

@@ -11,7 +11,7 @@ use lib.ListN.{length, getD}
 use Rattle.erasure.specs.Restoring.{zeroLost, outcome, agreeing}
 use Rattle.lists.specs.Lists.{anyOf, All, All.nil, All.cons}
 use Rattle.lists.specs.Tests.{eqb-true, or-false-l, or-false-r}
-use Rattle.repair.specs.Repair.{wrongLengths, byteOver, contradicts, repairCauses, repairRefusal, repairBlock, repairMap, Fitting}
+use Rattle.repair.specs.Repair.{wrongLengths, byteOver, contradicts, repairCauses, repairRefusal, repairBlockAfter, repairMapAfter, Fitting}
 use Rattle.table.specs.FirstCause.{firstCause, wrongLength, NoneHolds}
 use Rattle.table.specs.FirstCauseLaws.{none-holds, none-refuses, first-decides, rest-decides, quiet, refused-by}
 use Rattle.table.specs.Packets.{packets, joined}
@@ -85,17 +85,17 @@ byte-at (cons h a) zero = h
 byte-at (cons h a) (suc p) = byte-at a p
 
 -- ---- block and map by the refusal
-pub block-accepted : (t b map : List ℕ) → repairRefusal t b map ≡ 0 → repairBlock t b map ≡ joined (outcome t b map .block)
-block-accepted t b map h = rw (h, repairBlock)
+pub block-accepted : (t b map : List ℕ) → repairRefusal t b map ≡ 0 → repairBlockAfter t b map ≡ joined (outcome t b map .block)
+block-accepted t b map h = rw (h, repairBlockAfter)
 
-pub block-contradicted : (t b map : List ℕ) → repairRefusal t b map ≡ 8 → repairBlock t b map ≡ joined (zeroLost (size t) map (packets (size t) (places t) b))
-block-contradicted t b map h = rw (h, repairBlock, h)
+pub block-contradicted : (t b map : List ℕ) → repairRefusal t b map ≡ 8 → repairBlockAfter t b map ≡ joined (zeroLost (size t) map (packets (size t) (places t) b))
+block-contradicted t b map h = rw (h, repairBlockAfter, h)
 
-pub block-refused : (t b map : List ℕ) (r : ℕ) → repairRefusal t b map ≡ r → eqb r 0 ≡ false → eqb r 8 ≡ false → repairBlock t b map ≡ b
-block-refused t b map r h e0 e8 = rw (h, repairBlock, e0, h, e8)
+pub block-refused : (t b map : List ℕ) (r : ℕ) → repairRefusal t b map ≡ r → eqb r 0 ≡ false → eqb r 8 ≡ false → repairBlockAfter t b map ≡ b
+block-refused t b map r h e0 e8 = rw (h, repairBlockAfter, e0, h, e8)
 
-pub map-accepted : (t b map : List ℕ) → repairRefusal t b map ≡ 0 → repairMap t b map ≡ outcome t b map .map
-map-accepted t b map h = rw (h, repairMap)
+pub map-accepted : (t b map : List ℕ) → repairRefusal t b map ≡ 0 → repairMapAfter t b map ≡ outcome t b map .map
+map-accepted t b map h = rw (h, repairMapAfter)
 
-pub map-refused : (t b map : List ℕ) (r : ℕ) → repairRefusal t b map ≡ r → eqb r 0 ≡ false → repairMap t b map ≡ map
-map-refused t b map r h e = rw (h, repairMap, e)
+pub map-refused : (t b map : List ℕ) (r : ℕ) → repairRefusal t b map ≡ r → eqb r 0 ≡ false → repairMapAfter t b map ≡ map
+map-refused t b map r h e = rw (h, repairMapAfter, e)

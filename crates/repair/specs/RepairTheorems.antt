@@ -18,7 +18,7 @@ use Rattle.erasure.specs.Values.{received-kept, left-zero, restored, no-contrad
 use Rattle.lists.specs.ListLaws.{all-map}
 use Rattle.lists.specs.Lists.{All}
 use Rattle.lists.specs.Tests.{eqb-true, eqb-false, byBool}
-use Rattle.repair.specs.Repair.{repairRefusal, reportAt, repairReport, repairBlock, repairMap, Fitting, Agree}
+use Rattle.repair.specs.Repair.{repairRefusal, repairAnswerAt, repairAnswer, repairBlockAfter, repairMapAfter, Fitting, Agree}
 use Rattle.repair.specs.RepairLaws.{fitting-refusal, accepted-fits, contradicted-fits, bytes-all, byte-at, block-accepted, block-contradicted, map-accepted, map-refused}
 use Rattle.table.specs.Codewords.{IsCodeword}
 use Rattle.table.specs.PacketCall.{partAt}
@@ -30,33 +30,33 @@ use Rattle.table.specs.TableLaws.{accepted}
 -- an accepted repair, whatever was received
 pub record AcceptedRepair (t b map : List ℕ) : Type 0 where
   -- "received packets are untouched", and so is their mark
-  pub received : (p : ℕ) → p < places t → getD map p 0 ≡ 0 → (partAt (size t) p (repairBlock t b map) ≡ partAt (size t) p b) × (getD (repairMap t b map) p 0 ≡ 0)
+  pub received : (p : ℕ) → p < places t → getD map p 0 ≡ 0 → (partAt (size t) p (repairBlockAfter t b map) ≡ partAt (size t) p b) × (getD (repairMapAfter t b map) p 0 ≡ 0)
   -- a lost place stays lost or is marked as restored
-  pub lost : (p : ℕ) → getD map p 0 ≡ 1 → (getD (repairMap t b map) p 0 ≡ 1) ⊎ (getD (repairMap t b map) p 0 ≡ 2)
+  pub lost : (p : ℕ) → getD map p 0 ≡ 1 → (getD (repairMapAfter t b map) p 0 ≡ 1) ⊎ (getD (repairMapAfter t b map) p 0 ≡ 2)
   -- "places still lost hold zero bytes"
-  pub zeroed : (p : ℕ) → p < places t → getD (repairMap t b map) p 0 ≡ 1 → partAt (size t) p (repairBlock t b map) ≡ replicate (size t) 0
+  pub zeroed : (p : ℕ) → p < places t → getD (repairMapAfter t b map) p 0 ≡ 1 → partAt (size t) p (repairBlockAfter t b map) ≡ replicate (size t) 0
   -- what stays lost is the largest stopping set among the lost places
-  pub stays : Largest t map (isLost (repairMap t b map))
+  pub stays : Largest t map (isLost (repairMapAfter t b map))
   -- "every check without a lost place must sum to zero"
-  pub sums : All (λ c. length (lostPlaces (repairMap t b map) c) ≡ 0 → packetSum (size t) (packets (size t) (places t) (repairBlock t b map)) c ≡ replicate (size t) 0) (checks t)
+  pub sums : All (λ c. length (lostPlaces (repairMapAfter t b map) c) ≡ 0 → packetSum (size t) (packets (size t) (places t) (repairBlockAfter t b map)) c ≡ replicate (size t) 0) (checks t)
   -- restored and still lost are the places that were lost
-  pub counts : repairReport t b map .restored + repairReport t b map .lost ≡ tally 1 map
+  pub counts : repairAnswer t b map .restored + repairAnswer t b map .lost ≡ tally 1 map
   -- where nothing stays lost, the block is a codeword
-  pub whole : repairReport t b map .lost ≡ 0 → IsCodeword t (repairBlock t b map)
+  pub whole : repairAnswer t b map .lost ≡ 0 → IsCodeword t (repairBlockAfter t b map)
 
 -- repair of packets that come from the codeword w
 pub record Repairing (t b map w : List ℕ) : Type 0 where
   pub not-refused : repairRefusal t b map ≡ 0
   -- every restored packet is the codeword's, and every received one
-  pub values : (p : ℕ) → p < places t → getD (repairMap t b map) p 0 ≢ 1 → partAt (size t) p (repairBlock t b map) ≡ partAt (size t) p w
+  pub values : (p : ℕ) → p < places t → getD (repairMapAfter t b map) p 0 ≢ 1 → partAt (size t) p (repairBlockAfter t b map) ≡ partAt (size t) p w
 
 -- packets that contradict
 pub record Contradicted (t b map : List ℕ) : Type 0 where
   -- come from no codeword
   pub no-codeword : (w : List ℕ) → IsCodeword t w → Agree t b map w → ⊥
-  pub received : (p : ℕ) → p < places t → getD map p 0 ≡ 0 → partAt (size t) p (repairBlock t b map) ≡ partAt (size t) p b
-  pub zeroed : (p : ℕ) → p < places t → getD map p 0 ≡ 1 → partAt (size t) p (repairBlock t b map) ≡ replicate (size t) 0
-  pub map-kept : repairMap t b map ≡ map
+  pub received : (p : ℕ) → p < places t → getD map p 0 ≡ 0 → partAt (size t) p (repairBlockAfter t b map) ≡ partAt (size t) p b
+  pub zeroed : (p : ℕ) → p < places t → getD map p 0 ≡ 1 → partAt (size t) p (repairBlockAfter t b map) ≡ replicate (size t) 0
+  pub map-kept : repairMapAfter t b map ≡ map
 
 -- ---- the tests
 not-lost : (map : List ℕ) (p : ℕ) → getD map p 0 ≡ 0 → isLost map p ≡ false
@@ -72,13 +72,13 @@ module _ (t b map : List ℕ) (ok : repairRefusal t b map ≡ 0) where
   fits : Fitting t b map
   fits = accepted-fits t b map ok .0
 
-  map-is : repairMap t b map ≡ outcome t b map .map
+  map-is : repairMapAfter t b map ≡ outcome t b map .map
   map-is = map-accepted t b map ok
 
-  part-is : (p : ℕ) → p < places t → partAt (size t) p (repairBlock t b map) ≡ getD (outcome t b map .block) p []
+  part-is : (p : ℕ) → p < places t → partAt (size t) p (repairBlockAfter t b map) ≡ getD (outcome t b map .block) p []
   part-is p h = ap (partAt (size t) p) (block-accepted t b map ok) ∙ part-joined (size t) (places t) (outcome t b map .block) (outcome-length t b map (fits .table) (fits .block)) (outcome-sized t b map (fits .table) (fits .block)) p h
 
-  packets-are : packets (size t) (places t) (repairBlock t b map) ≡ outcome t b map .block
+  packets-are : packets (size t) (places t) (repairBlockAfter t b map) ≡ outcome t b map .block
   packets-are = ap (packets (size t) (places t)) (block-accepted t b map ok) ∙ ap (λ k. packets (size t) k (joined (outcome t b map .block))) (sym (outcome-length t b map (fits .table) (fits .block)))
       ∙ joined-packets (size t) (outcome-sized t b map (fits .table) (fits .block))
 
@@ -144,14 +144,14 @@ contradicted-repair t b map h = record {
     fits : Fitting t b map
     fits = contradicted-fits t b map h .0
 
-    part : (p : ℕ) → p < places t → partAt (size t) p (repairBlock t b map) ≡ getD (zeroLost (size t) map (packets (size t) (places t) b)) p []
+    part : (p : ℕ) → p < places t → partAt (size t) p (repairBlockAfter t b map) ≡ getD (zeroLost (size t) map (packets (size t) (places t) b)) p []
     part p k = ap (partAt (size t) p) (block-contradicted t b map h) ∙ part-joined (size t) (places t) _ (start-length t b map (fits .table) (fits .block)) (start-sized t b map (fits .table) (fits .block)) p k
 
 -- "Old bytes at lost places never count": blocks with the same received packets come to the same answer, block and map
 pub record Alike (t b c map : List ℕ) : Type 0 where
-  pub answer : repairReport t b map ≡ repairReport t c map
-  pub block : repairBlock t b map ≡ repairBlock t c map
-  pub marks : repairMap t b map ≡ repairMap t c map
+  pub answer : repairAnswer t b map ≡ repairAnswer t c map
+  pub block : repairBlockAfter t b map ≡ repairBlockAfter t c map
+  pub marks : repairMapAfter t b map ≡ repairMapAfter t c map
 
 module _ (t b c map : List ℕ) (fits : Fitting t b map) (long : length c ≡ length b) (agree : Agree t b map c) where
   -- a place that isn't lost is received
@@ -172,7 +172,7 @@ module _ (t b c map : List ℕ) (fits : Fitting t b map) (long : length c ≡ le
 
   pub old-bytes-never-count : Alike t b c map
   old-bytes-never-count = record {
-    answer = ap₂ reportAt refused-alike (old-bytes t b c map same);
+    answer = ap₂ repairAnswerAt refused-alike (old-bytes t b c map same);
     block = byBool (agreeing t b map)
         (λ v. block-accepted t b map (passed v) ∙ ap (λ m. joined (m .block)) (old-bytes t b c map same) ∙ sym (block-accepted t c map (sym refused-alike ∙ passed v)))
         (λ v. block-contradicted t b map (failed v) ∙ ap joined (old-bytes-cleared t b c map same) ∙ sym (block-contradicted t c map (sym refused-alike ∙ failed v)));

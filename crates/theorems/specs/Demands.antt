@@ -23,15 +23,15 @@ use Rattle.rule.specs.OneBlock.{Encodes, block, block-encodes, one-block}
 use Rattle.rule.specs.Info.{info-number, kept-few}
 use Rattle.rule.specs.Bound.{adds-most, kept-ones, adds-bound, fitted-number}
 use Rattle.rule.specs.WellFormed.{info-low}
-use Rattle.planner.specs.Planning.{planOf, numbersOf, planningRefused, planAnswer, planAfter, answerAt as planAnswerAt}
+use Rattle.planner.specs.Planning.{planOf, numbersOf, planningRefusal, planningAnswer, planningPlanAfter, planningAnswerAt}
 use Rattle.planner.specs.PlanningLaws.{accepted-planning}
-use Rattle.encoder.specs.Encoding.{stepsWithin, slotsAfter, encodingRefused, encodeAnswer, answerAt, blockAfter}
+use Rattle.encoder.specs.Encoding.{stepsWithin, slotsAfter, encodeRefusal, encodeAnswer, encodeAnswerAt, encodeBlockAfter}
 use Rattle.encoder.specs.EncodingLaws.{accepted as accepted-encoding, not-refused-at, count-within, limit-all}
 use Rattle.theorems.specs.OwnPlan.{own-info, own-steps, own-places, own-accepted, own-count}
 
 -- the plan as the planner wrote it
 abbrev pub handed : List ℕ → List ℕ → List ℕ → List ℕ
-handed t planBuffer work = take (planAnswer t planBuffer work .length) (planAfter t planBuffer work)
+handed t planBuffer work = take (planningAnswer t planBuffer work .length) (planningPlanAfter t planBuffer work)
 
 -- ---- demand 2
 -- what the block must be: n·s bytes, the k-th information packet at the k-th information place of the plan p, every check sums to zero
@@ -49,15 +49,15 @@ pub record ToTheLastStep (t p information blockBuffer scratchBuffer : List ℕ) 
 
 -- the encoding by the plan p is accepted, its block is as it must be, and no other block is
 pub record TheOneBlock (t p information blockBuffer scratchBuffer : List ℕ) (limit : ℕ) : Type 0 where
-  pub not-refused : encodingRefused p information blockBuffer scratchBuffer limit ≡ 0
-  pub carries : Carries t p information (blockAfter p information blockBuffer scratchBuffer limit)
-  pub only : (b : List ℕ) → Carries t p information b → b ≡ blockAfter p information blockBuffer scratchBuffer limit
+  pub not-refused : encodeRefusal p information blockBuffer scratchBuffer ≡ 0
+  pub carries : Carries t p information (encodeBlockAfter p information blockBuffer scratchBuffer limit)
+  pub only : (b : List ℕ) → Carries t p information b → b ≡ encodeBlockAfter p information blockBuffer scratchBuffer limit
 
 -- ---- demand 3
 -- "After the last step of the planner's plan it counts every add step of that plan, and demand 2's block stands."
 pub record LastStep (t planBuffer work information blockBuffer scratchBuffer : List ℕ) (limit : ℕ) : Type 0 where
   pub counted : encodeAnswer (handed t planBuffer work) information blockBuffer scratchBuffer limit .additions ≡ addSteps (stepsOf (handed t planBuffer work))
-  pub reported : encodeAnswer (handed t planBuffer work) information blockBuffer scratchBuffer limit .additions ≡ planAnswer t planBuffer work .additions
+  pub reported : encodeAnswer (handed t planBuffer work) information blockBuffer scratchBuffer limit .additions ≡ planningAnswer t planBuffer work .additions
   pub block : TheOneBlock t (handed t planBuffer work) information blockBuffer scratchBuffer limit
 
 -- W ones in the M kept checks, g set aside: the additions of planning and then encoding, whatever the buffers and the limit
@@ -83,7 +83,7 @@ fewer (suc k) [] = omega arith
 fewer (suc k) (Clear to ∷ xs) = fewer k xs
 fewer (suc k) (Add to from ∷ xs) = let h = fewer k xs in omega arith
 
-answered : (r a : ℕ) → answerAt r a .additions ≤ a
+answered : (r a : ℕ) → encodeAnswerAt r a .additions ≤ a
 answered zero a = omega arith
 answered (suc r) a = omega arith
 
@@ -105,7 +105,7 @@ module _ (t : List ℕ) (ok : refusal t ≡ 0) where
     counted : (information b c : List ℕ) (limit : ℕ) → encodeAnswer (numbersOf t) information b c limit .additions ≤ addSteps (planOf t .steps)
     unfolding planOf numbersOf
     counted information b c limit =
-        let p = answered (encodingRefused (numbersOf t) information b c limit) (addSteps (stepsWithin (numbersOf t) limit)) in
+        let p = answered (encodeRefusal (numbersOf t) information b c) (addSteps (stepsWithin (numbersOf t) limit)) in
         let q : addSteps (stepsWithin (numbersOf t) limit) ≤ addSteps (planOf t .steps) =
         subst (λ l. addSteps (take limit l) ≤ addSteps (planOf t .steps)) (sym (own-steps t ok few)) (fewer limit (planOf t .steps)) in
         omega arith
@@ -134,7 +134,7 @@ module _ (t : List ℕ) (ok : refusal t ≡ 0) where
       abbrev ps : List (List ℕ)
       ps = packets s k information
 
-      fits : encodingRefused (numbersOf t) information blockBuffer scratchBuffer limit ≡ 0
+      fits : encodeRefusal (numbersOf t) information blockBuffer scratchBuffer ≡ 0
       unfolding planOf numbersOf
       fits = not-refused-at (numbersOf t) (length information) (length blockBuffer) (length scratchBuffer) (record {
         plan = own-accepted t ok few;
@@ -149,9 +149,9 @@ module _ (t : List ℕ) (ok : refusal t ≡ 0) where
       slots-are = ap₂ (λ I l. carryOutAll s (atStart (n + planOf t .g) s I (packets s (infoCount (numbersOf t)) information)) (take limit l)) (own-info t ok few) (own-steps t ok few)
           ∙ ap₂ (λ c l. carryOutAll s (atStart (n + planOf t .g) s (planOf t .info) (packets s c information)) l) (own-places t ok few) (take-all limit (planOf t .steps) (subst (λ m. m ≤ limit) (own-count t ok few) (lent .all-steps)))
 
-      after : blockAfter (numbersOf t) information blockBuffer scratchBuffer limit ≡ joined (block n s (checks t) ps)
+      after : encodeBlockAfter (numbersOf t) information blockBuffer scratchBuffer limit ≡ joined (block n s (checks t) ps)
       unfolding planOf numbersOf
-      after = rw (fits, blockAfter) (ap (λ st. joined (take n st)) slots-are)
+      after = rw (fits, encodeBlockAfter) (ap (λ st. joined (take n st)) slots-are)
 
       sized : Packets s ps
       unfolding planOf numbersOf
@@ -206,7 +206,7 @@ module _ (t : List ℕ) (ok : refusal t ≡ 0) where
       }
 
 -- ---- the calls, one after the other
-module _ (t planBuffer work : List ℕ) (ok : planningRefused t planBuffer work ≡ 0) where
+module _ (t planBuffer work : List ℕ) (ok : planningRefusal t planBuffer work ≡ 0) where
   -- an accepted planning
   table-ok : refusal t ≡ 0
   table-ok = accepted-planning t (length planBuffer) (length work) ok .0
@@ -215,7 +215,7 @@ module _ (t planBuffer work : List ℕ) (ok : planningRefused t planBuffer work 
   few-aside = accepted-planning t (length planBuffer) (length work) ok .1
 
   pub plan-written : handed t planBuffer work ≡ numbersOf t
-  plan-written = ap₂ take (ap (λ r. planAnswerAt r t .length) ok) (rw (ok, planAfter)) ∙ take-at (numbersOf t) (drop (length (numbersOf t)) planBuffer) (length (numbersOf t)) refl
+  plan-written = ap₂ take (ap (λ r. planningAnswerAt r t .length) ok) (rw (ok, planningPlanAfter)) ∙ take-at (numbersOf t) (drop (length (numbersOf t)) planBuffer) (length (numbersOf t)) refl
 
   -- demand 2: planning and then encoding to the last step gives the one block
   pub planning-then-encoding : (information blockBuffer scratchBuffer : List ℕ) (limit : ℕ) → ToTheLastStep t (handed t planBuffer work) information blockBuffer scratchBuffer limit
@@ -228,8 +228,8 @@ module _ (t planBuffer work : List ℕ) (ok : planningRefused t planBuffer work 
   additions-bounded = subst (AdditionBound t) (sym plan-written) (addition-bound t table-ok few-aside)
 
   -- the planner's reported number of add steps is the plan's
-  pub additions-reported : planAnswer t planBuffer work .additions ≡ addSteps (stepsOf (handed t planBuffer work))
-  additions-reported = ap (λ r. planAnswerAt r t .additions) ok ∙ sym (ap (λ p. addSteps (stepsOf p)) plan-written ∙ ap addSteps (own-steps t table-ok few-aside))
+  pub additions-reported : planningAnswer t planBuffer work .additions ≡ addSteps (stepsOf (handed t planBuffer work))
+  additions-reported = ap (λ r. planningAnswerAt r t .additions) ok ∙ sym (ap (λ p. addSteps (stepsOf p)) plan-written ∙ ap addSteps (own-steps t table-ok few-aside))
 
   -- demand 3: the last step
   pub all-counted : (information blockBuffer scratchBuffer : List ℕ) (limit : ℕ) → ToTheLastStep t (handed t planBuffer work) information blockBuffer scratchBuffer limit

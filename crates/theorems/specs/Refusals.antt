@@ -10,11 +10,11 @@ use Rattle.table.specs.FirstCauseLaws.{refused-by}
 use Rattle.table.specs.Table.{tableCauses, refusal}
 use Rattle.table.specs.PacketCall.{packetCauses, packetRefusal}
 use Rattle.plan.specs.Layout.{planCauses, planRefusal}
-use Rattle.planner.specs.Planning.{planningCauses, planningRefusal, planAnswer, answerAt as planAnswerAt, planningRefused}
-use Rattle.encoder.specs.Encoding.{encodeCauses, encodeRefusal, encodeAnswer, answerAt as encodeAnswerAt, encodingRefused}
-use Rattle.repair.specs.Repair.{repairCauses, repairRefusal, repairReport, reportAt}
+use Rattle.planner.specs.Planning.{planningCauses, planningRefusalAt, planningAnswer, planningAnswerAt, planningRefusal}
+use Rattle.encoder.specs.Encoding.{encodeCauses, encodeRefusalAt, encodeAnswer, encodeAnswerAt, encodeRefusal}
+use Rattle.repair.specs.Repair.{repairCauses, repairRefusal, repairAnswer, repairAnswerAt}
 use Rattle.erasure.specs.Restoring.{State, outcome}
-use Rattle.verify.specs.Verify.{verifyCauses, verifyRefusal, verification, verdictAt}
+use Rattle.verify.specs.Verify.{verifyCauses, verifyRefusal, verifyAnswer, verifyAnswerAt}
 use Rattle.verify.specs.VerifyLaws.{lowest}
 
 -- 1 to 4
@@ -30,40 +30,40 @@ pub plan-refusals : (w : List ℕ) → RefusedBy (planRefusal w) (planCauses w)
 plan-refusals w = refused-by (planCauses w) refl
 
 -- 1 to 5, as verification answers it
-pub verify-refusals : (t b : List ℕ) → RefusedBy (verification t b .refusal) (verifyCauses t b)
+pub verify-refusals : (t b : List ℕ) → RefusedBy (verifyAnswer t b .refusal) (verifyCauses t b)
 unfolding verifyRefusal
 verify-refusals t b = subst (λ r. RefusedBy r (verifyCauses t b)) (sym (told (verifyRefusal t b) (lowest t b))) (refused-by (verifyCauses t b) refl)
   where
-    told : (r : ℕ) (v : Option ℕ) → verdictAt r v .refusal ≡ r
+    told : (r : ℕ) (v : Option ℕ) → verifyAnswerAt r v .refusal ≡ r
     told zero none = refl
     told zero (some k) = refl
     told (suc r) v = refl
 
 -- 1 to 5, 7, 8, as repair reports it
-pub repair-refusals : (t b map : List ℕ) → RefusedBy (repairReport t b map .refusal) (repairCauses t b map)
+pub repair-refusals : (t b map : List ℕ) → RefusedBy (repairAnswer t b map .refusal) (repairCauses t b map)
 unfolding repairRefusal
 repair-refusals t b map = subst (λ r. RefusedBy r (repairCauses t b map)) (sym (told (repairRefusal t b map) (outcome t b map))) (refused-by (repairCauses t b map) refl)
   where
-    told : (r : ℕ) (m : State) → reportAt r m .refusal ≡ r
+    told : (r : ℕ) (m : State) → repairAnswerAt r m .refusal ≡ r
     told zero m = refl
     told (suc r) m = refl
 
 -- 1 to 6, as the planner answers it
-pub planning-refusals : (t planBuffer work : List ℕ) → RefusedBy (planAnswer t planBuffer work .refusal) (planningCauses t (length planBuffer) (length work))
-unfolding planningRefusal
+pub planning-refusals : (t planBuffer work : List ℕ) → RefusedBy (planningAnswer t planBuffer work .refusal) (planningCauses t (length planBuffer) (length work))
+unfolding planningRefusalAt
 planning-refusals t planBuffer work =
-    subst (λ r. RefusedBy r (planningCauses t (length planBuffer) (length work))) (sym (told (planningRefused t planBuffer work))) (refused-by (planningCauses t (length planBuffer) (length work)) refl)
+    subst (λ r. RefusedBy r (planningCauses t (length planBuffer) (length work))) (sym (told (planningRefusal t planBuffer work))) (refused-by (planningCauses t (length planBuffer) (length work)) refl)
   where
-    told : (r : ℕ) → planAnswerAt r t .refusal ≡ r
+    told : (r : ℕ) → planningAnswerAt r t .refusal ≡ r
     told zero = refl
     told (suc r) = refl
 
 -- 9, then 5, as the encoder answers it
 pub encode-refusals : (w information block scratch : List ℕ) (limit : ℕ)
     → RefusedBy (encodeAnswer w information block scratch limit .refusal) (encodeCauses w (length information) (length block) (length scratch))
-unfolding encodeRefusal
+unfolding encodeRefusalAt
 encode-refusals w information block scratch limit =
-    subst (λ r. RefusedBy r (encodeCauses w (length information) (length block) (length scratch))) (sym (told (encodingRefused w information block scratch limit) _))
+    subst (λ r. RefusedBy r (encodeCauses w (length information) (length block) (length scratch))) (sym (told (encodeRefusal w information block scratch) _))
     (refused-by (encodeCauses w (length information) (length block) (length scratch)) refl)
   where
     told : (r a : ℕ) → encodeAnswerAt r a .refusal ≡ r

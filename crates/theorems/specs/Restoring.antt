@@ -19,7 +19,7 @@ use Rattle.erasure.specs.Restoring.{Largest, outcome, isLost}
 use Rattle.erasure.specs.Largest.{largest-only}
 use Rattle.erasure.specs.OutcomeLaws.{tally-lost}
 use Rattle.erasure.specs.Stopping.{no-lost}
-use Rattle.repair.specs.Repair.{repairRefusal, repairReport, repairBlock, repairMap, Fitting, Agree}
+use Rattle.repair.specs.Repair.{repairRefusal, repairAnswer, repairBlockAfter, repairMapAfter, Fitting, Agree}
 use Rattle.repair.specs.RepairLaws.{map-accepted}
 use Rattle.repair.specs.RepairTheorems.{AcceptedRepair, Repairing, accepted-repair, repairing}
 
@@ -28,14 +28,14 @@ pub record Restores (t b map w : List ℕ) (L : ℕ → Bool) : Type 0 where
   pub not-refused : repairRefusal t b map ≡ 0
   -- lost and not in L: restored, as it was sent
   pub outside : (p : ℕ) → p < places t → getD map p 0 ≡ 1 → L p ≡ false
-      → (getD (repairMap t b map) p 0 ≡ 2) × (partAt (size t) p (repairBlock t b map) ≡ partAt (size t) p w)
+      → (getD (repairMapAfter t b map) p 0 ≡ 2) × (partAt (size t) p (repairBlockAfter t b map) ≡ partAt (size t) p w)
   -- in L: stays lost
-  pub inside : (p : ℕ) → L p ≡ true → getD (repairMap t b map) p 0 ≡ 1
+  pub inside : (p : ℕ) → L p ≡ true → getD (repairMapAfter t b map) p 0 ≡ 1
   -- received: untouched
   pub received : (p : ℕ) → p < places t → getD map p 0 ≡ 0
-      → (getD (repairMap t b map) p 0 ≡ 0) × (partAt (size t) p (repairBlock t b map) ≡ partAt (size t) p b)
+      → (getD (repairMapAfter t b map) p 0 ≡ 0) × (partAt (size t) p (repairBlockAfter t b map) ≡ partAt (size t) p b)
   -- nothing stays lost: the block that was sent
-  pub whole : repairReport t b map .lost ≡ 0 → repairBlock t b map ≡ w
+  pub whole : repairAnswer t b map .lost ≡ 0 → repairBlockAfter t b map ≡ w
 
 -- two blocks that agree in every packet
 same-packets : (n s : ℕ) (b w : List ℕ) → length b ≡ n * s → length w ≡ n * s → ((p : ℕ) → p < n → partAt s p b ≡ partAt s p w) → b ≡ w
@@ -52,19 +52,19 @@ module _ (t b map w : List ℕ) (fits : Fitting t b map) (word : IsCodeword t w)
   a = accepted-repair t b map (r .not-refused)
 
   -- a place that is not lost afterwards
-  found : (p : ℕ) → isLost (repairMap t b map) p ≡ false → getD (repairMap t b map) p 0 ≡ 1 → ⊥
+  found : (p : ℕ) → isLost (repairMapAfter t b map) p ≡ false → getD (repairMapAfter t b map) p 0 ≡ 1 → ⊥
   found p z k = true≢false (sym (ap (λ x. eqb x 1) k) ∙ z)
 
   -- where nothing stays lost
-  all-found : repairReport t b map .lost ≡ 0 → (p : ℕ) → isLost (repairMap t b map) p ≡ false
+  all-found : repairAnswer t b map .lost ≡ 0 → (p : ℕ) → isLost (repairMapAfter t b map) p ≡ false
   all-found h = rw (map-accepted t b map (r .not-refused)) (no-lost (outcome t b map .map) (sym (tally-lost (outcome t b map .map)) ∙ (rw (r .not-refused) at h)))
 
   pub restores : (L : ℕ → Bool) → Largest t map L → Restores t b map w L
   restores L l = record {
     not-refused = r .not-refused;
-    outside = λ p k e out. let z : isLost (repairMap t b map) p ≡ false = largest-only t map (isLost (repairMap t b map)) L (a .stays) l p ∙ out in
+    outside = λ p k e out. let z : isLost (repairMapAfter t b map) p ≡ false = largest-only t map (isLost (repairMapAfter t b map)) L (a .stays) l p ∙ out in
         (⊎-elim (λ y. absurd (found p z y)) (λ y. y) (a .lost p e), r .values p k (found p z));
-    inside = λ p e. eqb-true (getD (repairMap t b map) p 0) 1 (largest-only t map (isLost (repairMap t b map)) L (a .stays) l p ∙ e);
+    inside = λ p e. eqb-true (getD (repairMapAfter t b map) p 0) 1 (largest-only t map (isLost (repairMapAfter t b map)) L (a .stays) l p ∙ e);
     received = λ p k e. (a .received p k e .1, a .received p k e .0);
-    whole = λ h. same-packets (places t) (size t) (repairBlock t b map) w (a .whole h .size-fits) (word .size-fits) (λ p k. r .values p k (found p (all-found h p)));
+    whole = λ h. same-packets (places t) (size t) (repairBlockAfter t b map) w (a .whole h .size-fits) (word .size-fits) (λ p k. r .values p k (found p (all-found h p)));
   }

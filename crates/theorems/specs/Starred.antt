@@ -5,9 +5,9 @@ use Prim.Native.Nat.{ℕ, _+_, _-_, _*_}
 use lib.ListN.{length}
 use Rattle.plan.specs.Layout.{mostSteps}
 use Rattle.plan.specs.Step.{addSteps}
-use Rattle.planner.specs.Planning.{planOf, numbersOf, planningRefusal, leastPlan, workWords}
-use Rattle.encoder.specs.Encoding.{encodeRefusal, encodeAnswer, blockAfter}
-use Rattle.repair.specs.Repair.{repairRefusal, repairReport, repairBlock, repairMap}
+use Rattle.planner.specs.Planning.{planOf, numbersOf, planningRefusalAt, leastPlan, workWords}
+use Rattle.encoder.specs.Encoding.{encodeRefusalAt, encodeAnswer, encodeBlockAfter}
+use Rattle.repair.specs.Repair.{repairRefusal, repairAnswer, repairBlockAfter, repairMapAfter}
 
 -- ---- the tables and the block of P2
 abbrev tableA : List ℕ
@@ -32,7 +32,7 @@ block2 = 0x01 ∷ 0x02 ∷ 0x04 ∷ 0x0e ∷ 0x08 ∷ 0x0b ∷ 0x0d ∷ []
 -- ---- what the calls give, as lists of numbers
 -- the planner's refusal, with buffers of the right lengths
 abbrev planning : List ℕ → List ℕ
-planning t = planningRefusal t leastPlan workWords ∷ []
+planning t = planningRefusalAt t leastPlan workWords ∷ []
 
 -- the planner: refusal, own places in the order of solving, information places, and M, W, g, additions
 abbrev pub planned : List ℕ → List (List ℕ)
@@ -41,12 +41,12 @@ planned t = planning t ∷ planOf t .own ∷ planOf t .info ∷ (planOf t .M ∷
 -- planning and then encoding to the last step: the planner's refusal, the encoder's and its additions, and the block
 abbrev pub encoded : List ℕ → List ℕ → List ℕ → List ℕ → List (List ℕ)
 encoded t information buffer scratch = let r = encodeAnswer (numbersOf t) information buffer scratch mostSteps in
-    planning t ∷ (r .refusal ∷ r .additions ∷ []) ∷ blockAfter (numbersOf t) information buffer scratch mostSteps ∷ []
+    planning t ∷ (r .refusal ∷ r .additions ∷ []) ∷ encodeBlockAfter (numbersOf t) information buffer scratch mostSteps ∷ []
 
 -- repair: refusal, restored, still lost and additions, the block and the map
 abbrev pub mended : List ℕ → List ℕ → List ℕ → List (List ℕ)
-mended t b map = let r = repairReport t b map in
-    (r .refusal ∷ r .restored ∷ r .lost ∷ r .additions ∷ []) ∷ repairBlock t b map ∷ repairMap t b map ∷ []
+mended t b map = let r = repairAnswer t b map in
+    (r .refusal ∷ r .restored ∷ r .lost ∷ r .additions ∷ []) ∷ repairBlockAfter t b map ∷ repairMapAfter t b map ∷ []
 
 -- "bound 0": 2(W − M) + g(g + 1)
 abbrev bound : List ℕ → ℕ
@@ -82,5 +82,5 @@ starred =
     ∷ []
 
 pub starred-cases : map (λ c. c .given) starred ≡ map (λ c. c .wanted) starred
-unfolding planningRefusal encodeRefusal repairRefusal planOf numbersOf
+unfolding planningRefusalAt encodeRefusalAt repairRefusal planOf numbersOf
 starred-cases = refl

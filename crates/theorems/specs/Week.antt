@@ -10,14 +10,14 @@ use lib.ListN.{length}
 use Rattle.lists.specs.Lists.{anyOf, All, All.nil, All.cons}
 use Rattle.table.specs.Codewords.{IsCodeword}
 use Rattle.table.specs.Table.{places, size, refusal}
-use Rattle.planner.specs.Planning.{planningRefused}
+use Rattle.planner.specs.Planning.{planningRefusal}
 use Rattle.planner.specs.PlanningLaws.{accepted-planning}
-use Rattle.encoder.specs.Encoding.{blockAfter}
+use Rattle.encoder.specs.Encoding.{encodeBlockAfter}
 use Rattle.erasure.specs.Restoring.{Largest}
 use Rattle.erasure.specs.Largest.{largest-exists}
-use Rattle.repair.specs.Repair.{repairRefusal, repairReport, repairBlock, Fitting, Agree}
+use Rattle.repair.specs.Repair.{repairRefusal, repairAnswer, repairBlockAfter, Fitting, Agree}
 use Rattle.repair.specs.RepairTheorems.{repairing}
-use Rattle.verify.specs.Verify.{valuesOf, verification}
+use Rattle.verify.specs.Verify.{valuesOf, verifyAnswer}
 use Rattle.verify.specs.VerifyTheorems.{codeword-passes}
 use Rattle.verify.specs.declared.Verified.the-variants.{Codeword}
 use Rattle.theorems.specs.Demands.{handed, ToTheLastStep, TheOneBlock, planning-then-encoding}
@@ -34,13 +34,13 @@ pub record Arrives (t sent block map : List ℕ) : Type 0 where
 pub record Week (t p information blockBuffer scratchBuffer : List ℕ) (limit : ℕ) (sent block map : List ℕ) : Type 0 where
   -- encoding: accepted, and what was sent is the one block, which verification passes
   pub encoded : TheOneBlock t p information blockBuffer scratchBuffer limit
-  pub sent-passes : verification t sent ≡ valuesOf Codeword
+  pub sent-passes : verifyAnswer t sent ≡ valuesOf Codeword
   -- repair: accepted; it restores every lost packet outside the largest stopping set L (there is one: `largest-exists`), each as it was
   -- sent, and none inside; received packets are untouched
   pub repair-accepted : repairRefusal t block map ≡ 0
   pub repaired : (L : ℕ → Bool) → Largest t map L → Restores t block map sent L
   -- where nothing stays lost, the block is the one that was sent, and verification passes it
-  pub whole : repairReport t block map .lost ≡ 0 → (repairBlock t block map ≡ sent) × (verification t (repairBlock t block map) ≡ valuesOf Codeword)
+  pub whole : repairAnswer t block map .lost ≡ 0 → (repairBlockAfter t block map ≡ sent) × (verifyAnswer t (repairBlockAfter t block map) ≡ valuesOf Codeword)
 
 no-byte-over : {map : List ℕ} → All (λ x. x ≤ 1) map → anyOf (ltb 1) map ≡ false
 no-byte-over nil = refl
@@ -49,11 +49,11 @@ no-byte-over (cons {x = x} h a) = rw (le-ltb 1 x h) (no-byte-over a)
 module _ (t planBuffer work information blockBuffer scratchBuffer : List ℕ) (limit : ℕ) where
   -- the block that is sent: encoded by the plan as the planner wrote it
   abbrev pub sent : List ℕ
-  sent = blockAfter (handed t planBuffer work) information blockBuffer scratchBuffer limit
+  sent = encodeBlockAfter (handed t planBuffer work) information blockBuffer scratchBuffer limit
 
   -- planning is accepted; the buffers have the right lengths, and the limit means all steps; received packets are as they were sent
   pub the-week : (block map : List ℕ)
-      → planningRefused t planBuffer work ≡ 0
+      → planningRefusal t planBuffer work ≡ 0
       → ToTheLastStep t (handed t planBuffer work) information blockBuffer scratchBuffer limit
       → Arrives t sent block map
       → Week t (handed t planBuffer work) information blockBuffer scratchBuffer limit sent block map
@@ -62,7 +62,7 @@ module _ (t planBuffer work information blockBuffer scratchBuffer : List ℕ) (l
     sent-passes = passes;
     repair-accepted = repairing t block map sent fits word (arrives .as-sent) .not-refused;
     repaired = mended;
-    whole = λ h. let same = all-back h in (same, ap (verification t) same ∙ passes);
+    whole = λ h. let same = all-back h in (same, ap (verifyAnswer t) same ∙ passes);
   }
     where
       table-ok : refusal t ≡ 0
@@ -74,7 +74,7 @@ module _ (t planBuffer work information blockBuffer scratchBuffer : List ℕ) (l
       word : IsCodeword t sent
       word = record { size-fits = one .carries .long; sums = one .carries .codeword }
 
-      passes : verification t sent ≡ valuesOf Codeword
+      passes : verifyAnswer t sent ≡ valuesOf Codeword
       passes = codeword-passes t sent table-ok word
 
       fits : Fitting t block map
@@ -83,5 +83,5 @@ module _ (t planBuffer work information blockBuffer scratchBuffer : List ℕ) (l
       mended : (L : ℕ → Bool) → Largest t map L → Restores t block map sent L
       mended = restores t block map sent fits word (arrives .as-sent)
 
-      all-back : repairReport t block map .lost ≡ 0 → repairBlock t block map ≡ sent
+      all-back : repairAnswer t block map .lost ≡ 0 → repairBlockAfter t block map ≡ sent
       all-back h = let L = largest-exists t map in mended (L .0) (L .1) .whole h

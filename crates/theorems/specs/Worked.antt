@@ -3,8 +3,8 @@
 use mathlib.Core.Path.{_≡_, refl}
 use mathlib.Core.List.{List, [], _∷_, _++_, map}
 use Prim.Native.Nat.{ℕ}
-use Rattle.encoder.specs.Encoding.{encodeRefusal}
-use Rattle.planner.specs.Planning.{planOf, numbersOf, planningRefusal}
+use Rattle.encoder.specs.Encoding.{encodeRefusalAt}
+use Rattle.planner.specs.Planning.{planOf, numbersOf, planningRefusalAt}
 use Rattle.repair.specs.Repair.{repairRefusal}
 use Rattle.theorems.specs.Starred.{Case, planned, encoded, mended}
 
@@ -23,5 +23,5 @@ worked =
     ∷ []
 
 pub worked-cases : map (λ c. c .given) worked ≡ map (λ c. c .wanted) worked
-unfolding planningRefusal encodeRefusal repairRefusal planOf numbersOf
+unfolding planningRefusalAt encodeRefusalAt repairRefusal planOf numbersOf
 worked-cases = refl

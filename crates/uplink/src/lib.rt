@@ -1,7 +1,7 @@
 // The uplink's library for C: the planner and the encoder.
 ghost use mathlib.Core.Path.{_≡_};
-ghost use Rattle.encoder.specs.Encoding.{encodeAnswer, blockAfter, scratchAfter};
-ghost use Rattle.planner.specs.Planning.{planAnswer, planAfter, workAfter};
+ghost use Rattle.encoder.specs.Encoding.{encodeAnswer, encodeBlockAfter, encodeScratchAfter};
+ghost use Rattle.planner.specs.Planning.{planningAnswer, planningPlanAfter, planningWorkAfter};
 ghost use Rattle.uplink.specs.Answers.{encoded, planned};
 
 // What the encoder answers: the refusal, 0 for none, and the additions.
@@ -23,10 +23,10 @@ pub extern "C" fn bs_encode(
         encoded r ≡ encodeAnswer (now (plan .entry)) (now (information .entry)) (now (block .entry)) (now (scratch .entry)) limit
         ⌝ }
     ensures block { λ _. ⌜
-        now (block .exit) ≡ blockAfter (now (plan .entry)) (now (information .entry)) (now (block .entry)) (now (scratch .entry)) limit
+        now (block .exit) ≡ encodeBlockAfter (now (plan .entry)) (now (information .entry)) (now (block .entry)) (now (scratch .entry)) limit
         ⌝ }
     ensures scratch { λ _. ⌜
-        now (scratch .exit) ≡ scratchAfter (now (plan .entry)) (now (information .entry)) (now (block .entry)) (now (scratch .entry)) limit
+        now (scratch .exit) ≡ encodeScratchAfter (now (plan .entry)) (now (information .entry)) (now (block .entry)) (now (scratch .entry)) limit
         ⌝ }
 {
     let r = encoder::encode(plan, information, block, scratch, limit);
@@ -49,9 +49,9 @@ pub struct Planning {
 
 #[no_mangle]
 pub extern "C" fn bs_plan(table: &[u16], plan: &mut [u32], work: &mut [u64]) -> Planning
-    ensures answer { λ r. ⌜ planned r ≡ planAnswer (now (table .entry)) (now (plan .entry)) (now (work .entry)) ⌝ }
-    ensures plan { λ _. ⌜ now (plan .exit) ≡ planAfter (now (table .entry)) (now (plan .entry)) (now (work .entry)) ⌝ }
-    ensures work { λ _. ⌜ now (work .exit) ≡ workAfter (now (table .entry)) (now (plan .entry)) (now (work .entry)) ⌝ }
+    ensures answer { λ r. ⌜ planned r ≡ planningAnswer (now (table .entry)) (now (plan .entry)) (now (work .entry)) ⌝ }
+    ensures plan { λ _. ⌜ now (plan .exit) ≡ planningPlanAfter (now (table .entry)) (now (plan .entry)) (now (work .entry)) ⌝ }
+    ensures work { λ _. ⌜ now (work .exit) ≡ planningWorkAfter (now (table .entry)) (now (plan .entry)) (now (work .entry)) ⌝ }
 {
     let r = planner::plan(table, plan, work);
     Planning {

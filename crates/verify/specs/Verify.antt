@@ -42,9 +42,9 @@ verdict none = valuesOf Codeword
 verdict (some k) = valuesOf (Fails k)
 
 -- by the refusal's number, 0 for none
-abbrev pub verdictAt : ℕ → Option ℕ → Values
-verdictAt zero v = verdict v
-verdictAt (suc r) v = valuesOf (Refused (suc r))
+abbrev pub verifyAnswerAt : ℕ → Option ℕ → Values
+verifyAnswerAt zero v = verdict v
+verifyAnswerAt (suc r) v = valuesOf (Refused (suc r))
 
-abbrev pub verification : List ℕ → List ℕ → Values
-verification t b = verdictAt (verifyRefusal t b) (failing (size t) (packets (size t) (places t) b) 0 (checks t))
+abbrev pub verifyAnswer : List ℕ → List ℕ → Values
+verifyAnswer t b = verifyAnswerAt (verifyRefusal t b) (failing (size t) (packets (size t) (places t) b) 0 (checks t))

@@ -17,7 +17,7 @@ use Rattle.table.specs.FirstCause.{firstCause, wrongLength, NoneHolds}
 use Rattle.table.specs.FirstCauseLaws.{none-holds, none-refuses, first-decides, rest-decides}
 use Rattle.table.specs.Packets.{packets, packetSum}
 use Rattle.table.specs.Table.{places, size, checks, tableCauses, refusal}
-use Rattle.verify.specs.Verify.{valuesOf, verifyRefusal, failing, verdict, verdictAt, verification}
+use Rattle.verify.specs.Verify.{valuesOf, verifyRefusal, failing, verdict, verifyAnswerAt, verifyAnswer}
 use Rattle.verify.specs.declared.Verified.{Verified}
 use Rattle.verify.specs.declared.Verified.the-variants.{Refused, Codeword, Fails}
 
@@ -63,24 +63,24 @@ module _ (t b : List ℕ) where
   unfolding verifyRefusal
   at-length ok = rest-decides (none-holds (tableCauses t) refl ok) own
 
-  says : {r : ℕ} → verifyRefusal t b ≡ r → verification t b ≡ verdictAt r lowest
-  says e = ap (λ (r : ℕ). verdictAt r lowest) e
+  says : {r : ℕ} → verifyRefusal t b ≡ r → verifyAnswer t b ≡ verifyAnswerAt r lowest
+  says e = ap (λ (r : ℕ). verifyAnswerAt r lowest) e
 
   -- a table that is refused
-  pub verification-refused : refusal t ≢ 0 → verification t b ≡ valuesOf (Refused (refusal t))
+  pub verification-refused : refusal t ≢ 0 → verifyAnswer t b ≡ valuesOf (Refused (refusal t))
   unfolding verifyRefusal
   verification-refused ne = says (first-decides (tableCauses t) own ne) ∙ refused (refusal t) ne
     where
-      refused : (r : ℕ) → r ≢ 0 → verdictAt r lowest ≡ valuesOf (Refused r)
+      refused : (r : ℕ) → r ≢ 0 → verifyAnswerAt r lowest ≡ valuesOf (Refused r)
       refused zero z = absurd (z refl)
       refused (suc r) z = refl
 
   -- a block of another length
-  pub verification-short : refusal t ≡ 0 → length b ≢ places t * size t → verification t b ≡ valuesOf (Refused 5)
+  pub verification-short : refusal t ≡ 0 → length b ≢ places t * size t → verifyAnswer t b ≡ valuesOf (Refused 5)
   verification-short ok ne = let five : firstCause own ≡ 5 = rw (ne-eqb (length b) (places t * size t) ne) in says (at-length ok ∙ five)
 
   -- the verdict of a call that is not refused
-  pub verification-is : refusal t ≡ 0 → length b ≡ places t * size t → verification t b ≡ verdict lowest
+  pub verification-is : refusal t ≡ 0 → length b ≡ places t * size t → verifyAnswer t b ≡ verdict lowest
   verification-is ok l = let none : firstCause own ≡ 0 = rw (eq-eqb (length b) (places t * size t) l) in says (at-length ok ∙ none)
 
   -- and the other way: a verdict says that nothing refuses
@@ -92,12 +92,12 @@ module _ (t b : List ℕ) where
       right (cons e n) = eqb-true (length b) (places t * size t) (not-false (eqb (length b) (places t * size t)) e)
 
 -- the verdict that the values tell
-pub passed-at : (r : ℕ) (v : Option ℕ) → verdictAt r v .codeword ≡ true → (r ≡ 0) × (v ≡ none)
+pub passed-at : (r : ℕ) (v : Option ℕ) → verifyAnswerAt r v .codeword ≡ true → (r ≡ 0) × (v ≡ none)
 passed-at zero none h = (refl, refl)
 passed-at zero (some k) h = absurd (false≢true h)
 passed-at (suc r) v h = absurd (false≢true h)
 
-pub failed-at : (r : ℕ) (v : Option ℕ) (k : ℕ) → verdictAt r v .check ≡ some k → (r ≡ 0) × (v ≡ some k)
+pub failed-at : (r : ℕ) (v : Option ℕ) (k : ℕ) → verifyAnswerAt r v .check ≡ some k → (r ≡ 0) × (v ≡ some k)
 failed-at zero none k h = absurd (let z : _≡_ {A = ℕ} 0 1 = cc in omega arith)
 failed-at zero (some j) k h = (refl, h)
 failed-at (suc r) v k h = absurd (let z : _≡_ {A = ℕ} 0 1 = cc in omega arith)

@@ -6,7 +6,7 @@ ghost use lib.ListN.{length};
 ghost use Rattle.table.specs.Packets.{packets};
 ghost use Rattle.table.specs.Table.{checks};
 ghost use Rattle.table.specs.Accepted.{Accepted};
-ghost use Rattle.verify.specs.Verify.{valuesOf, failing, verdict, verification};
+ghost use Rattle.verify.specs.Verify.{valuesOf, failing, verdict, verifyAnswer};
 
 // What verification says: a refusal, a codeword, or the lowest check that fails.
 pub enum Verified {
@@ -36,7 +36,7 @@ fn look_at_checks(t: &[u16], m: usize, n: usize, s: usize, block: &[u8]) -> Veri
 
 // Whether the block is a codeword, or the lowest check that fails.
 pub fn verify(t: &[u16], block: &[u8]) -> Verified
-    ensures { λ r. ⌜ valuesOf r ≡ verification (now (t .entry)) (now (block .entry)) ⌝ }
+    ensures { λ r. ⌜ valuesOf r ≡ verifyAnswer (now (t .entry)) (now (block .entry)) ⌝ }
 {
     let refusal = table::look_over(t);
     if refusal != 0 {

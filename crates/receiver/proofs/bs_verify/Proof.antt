@@ -5,7 +5,7 @@ use mathlib.Core.List.{List}
 use native.Mathlib.Omega.{arith}
 use borrow.Author.Needs.{needs}
 use Rattle.table.specs.TableLaws.{accepted}
-use Rattle.verify.specs.Verify.{Values, valuesOf, verification}
+use Rattle.verify.specs.Verify.{Values, valuesOf, verifyAnswer}
 use Rattle.verify.specs.VerifyTheorems.{fails-lowest}
 use Rattle.verify.specs.declared.Verified.{Verified}
 use Rattle.verify.specs.declared.Verified.the-variants.{Fails}
@@ -17,12 +17,12 @@ use Rattle.receiver.proofs.bs_verify.Lts as lts
 use Rattle.verify.proofs.verify.Reads as verify-reads
 
 -- a check's number is below 512
-small : (t b : List ℕ) (k : ℕ) → valuesOf (Fails k) ≡ verification t b → k < 4294967296
+small : (t b : List ℕ) (k : ℕ) → valuesOf (Fails k) ≡ verifyAnswer t b → k < 4294967296
 small t b k e = let r = fails-lowest t b k (ap (λ (x : Values). x .check) (sym e)) in let g = accepted t (r .table) .few-checks in omega (arith, r .inside)
 
 -- the values of an answer, number by number
-numbers : (t b : List ℕ) {r v : Verified} → r ≡ v → valuesOf r ≡ verification t b
-    → (valuesOf v .refusal ≡ verification t b .refusal) × ((oneIf (valuesOf v .codeword) ≡ oneIf (verification t b .codeword)) × (orZero (valuesOf v .check) ≡ orZero (verification t b .check)))
+numbers : (t b : List ℕ) {r v : Verified} → r ≡ v → valuesOf r ≡ verifyAnswer t b
+    → (valuesOf v .refusal ≡ verifyAnswer t b .refusal) × ((oneIf (valuesOf v .codeword) ≡ oneIf (verifyAnswer t b .codeword)) × (orZero (valuesOf v .check) ≡ orZero (verifyAnswer t b .check)))
 numbers t b e h = let z = sym (ap valuesOf e) ∙ h in
     (ap (λ (x : Values). x .refusal) z, (ap (λ (x : Values). oneIf (x .codeword)) z, ap (λ (x : Values). orZero (x .check)) z))
 
