@@ -14,7 +14,8 @@ pub fn wide(x: u16) -> usize
 
 // place p of row r is flipped
 pub fn flip(w: &mut [u64], r: usize, p: usize)
-    requires { ⌜ (r * 16 + 16 ≤ length (now w)) × (p < 1024) ⌝ }
+    requires { ⌜ (r * 16 + 16 ≤ length (now w))
+        × (p < 1024) ⌝ }
     ensures { λ _. ⌜ RowPut (now (w .entry)) r (bitXor (row (now (w .entry)) r) (2 ^ p)) (now (w .exit)) ⌝ }
 {
     let i = r * 16 + p / 64;
@@ -35,7 +36,9 @@ pub fn clear(w: &mut [u64], r: usize)
 
 // n places of t from at become row r
 pub fn load(w: &mut [u64], r: usize, t: &[u16], at: usize, n: usize)
-    requires { ⌜ (r * 16 + 16 ≤ length (now w)) × (at + n ≤ length (now t)) × ((i : ℕ) → i < n → getD (now t) (at + i) 0 < 1024) ⌝ }
+    requires { ⌜ (r * 16 + 16 ≤ length (now w))
+        × (at + n ≤ length (now t))
+        × ((i : ℕ) → i < n → getD (now t) (at + i) 0 < 1024) ⌝ }
     ensures { λ _. ⌜ RowPut (now (w .entry)) r (rowOf (take n (drop at (now (t .entry))))) (now (w .exit)) ⌝ }
 {
     clear(w, r);
@@ -48,7 +51,9 @@ pub fn load(w: &mut [u64], r: usize, t: &[u16], at: usize, n: usize)
 
 // one more than the highest place of row r, which has none from l on; 0 if the row is zero
 pub fn bits_of(w: &[u64], r: usize, l: usize) -> usize
-    requires { ⌜ (r * 16 + 16 ≤ length (now w)) × (l ≤ 1024) × Short l (row (now w) r) ⌝ }
+    requires { ⌜ (r * 16 + 16 ≤ length (now w))
+        × (l ≤ 1024)
+        × Short l (row (now w) r) ⌝ }
     ensures { λ x. ⌜ Bits (row (now (w .entry)) r) x ⌝ }
 {
     let mut j = (l + 63) / 64;
@@ -64,7 +69,10 @@ pub fn bits_of(w: &[u64], r: usize, l: usize) -> usize
 
 // row a, which has no place from l on, is added into row b
 pub fn add_low(w: &mut [u64], a: usize, b: usize, l: usize)
-    requires { ⌜ (a * 16 + 16 ≤ length (now w)) × (b * 16 + 16 ≤ length (now w)) × (l ≤ 1024) × Short l (row (now w) a) ⌝ }
+    requires { ⌜ (a * 16 + 16 ≤ length (now w))
+        × (b * 16 + 16 ≤ length (now w))
+        × (l ≤ 1024)
+        × Short l (row (now w) a) ⌝ }
     ensures { λ _. ⌜ RowPut (now (w .entry)) b (bitXor (row (now (w .entry)) a) (row (now (w .entry)) b)) (now (w .exit)) ⌝ }
 {
     let words = (l + 63) / 64;

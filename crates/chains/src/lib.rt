@@ -36,7 +36,10 @@ pub fn count_all(
     map: &[u8],
     count: &mut [u16],
 )
-    requires { ⌜ Accepted (now t) m n s × Starts (now t) m (now starts) × (length (now map) ≡ n) × (m ≤ length (now count)) ⌝ }
+    requires { ⌜ Accepted (now t) m n s
+        × Starts (now t) m (now starts)
+        × (length (now map) ≡ n)
+        × (m ≤ length (now count)) ⌝ }
     ensures { λ _. ⌜ Counted (now (t .entry)) m (now (map .entry)) (now (count .exit)) ⌝ }
 {
     let mut j = 0;
@@ -147,7 +150,8 @@ pub fn walk(next: &[u16], owner: &[u16], count: &mut [u16], first: usize, bound:
 
 // the lowest check from low on with exactly one lost place, m if there is none
 pub fn lowest_one(count: &[u16], low: usize, m: usize) -> usize
-    requires { ⌜ (low ≤ m) × (m ≤ length (now count)) ⌝ }
+    requires { ⌜ (low ≤ m)
+        × (m ≤ length (now count)) ⌝ }
     ensures { λ r. ⌜ LowestOne (now (count .entry)) low m r ⌝ }
 {
     let mut j = low;

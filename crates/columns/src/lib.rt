@@ -1,4 +1,5 @@
 // Step 5 of the rule: the columns of the set-aside checks, the fitted places and the rows of the inverse.
+use table::MOST_PLACES;
 ghost use mathlib.Core.Path.{_≡_};
 ghost use mathlib.Core.List.{List, [], map};
 ghost use Prim.Native.Nat.{ℕ, _+_, _^_, _≤_, _<_};
@@ -50,7 +51,8 @@ pub fn fill_columns(col: &mut [u32], t: &[u16], m: usize, starts: &[u16], aside:
 
 // one solved check put in
 fn push(col: &mut [u32], t: &[u16], at: usize, weight: usize, own: usize)
-    requires { ⌜ Places (now t) at weight (length (now col)) × (own < length (now col)) ⌝ }
+    requires { ⌜ Places (now t) at weight (length (now col))
+        × (own < length (now col)) ⌝ }
     ensures { λ _. ⌜ Upd (λ a. bitXor a (getD (now (col .entry)) own 0)) (now (col .entry)) (take weight (drop at (now (t .entry)))) (now (col .exit)) ⌝ }
 {
     let c = col[own];
@@ -95,7 +97,8 @@ pub fn sees(mask: u32, col: u32) -> bool
 
 // the unit masks
 fn units(masks: &mut [u32], g: usize)
-    requires { ⌜ (g ≤ length (now masks)) × (g ≤ 32) ⌝ }
+    requires { ⌜ (g ≤ length (now masks))
+        × (g ≤ 32) ⌝ }
     ensures { λ _. ⌜ Units g (now (masks .exit)) ⌝ }
 {
     let mut i = 0;
@@ -141,7 +144,9 @@ fn mend(masks: &mut [u32], g: usize, v: u32, c: u32)
 
 // mask i, which sees the column, becomes the last free one, k, and is added into every other that sees it
 fn tie(masks: &mut [u32], g: usize, i: usize, k: usize, c: u32)
-    requires { ⌜ (g ≤ length (now masks)) × (i ≤ k) × (k < g) ⌝ }
+    requires { ⌜ (g ≤ length (now masks))
+        × (i ≤ k)
+        × (k < g) ⌝ }
     ensures { λ _. ⌜ Tied g i k c (now (masks .entry)) (now (masks .exit)) ⌝ }
 {
     let v = masks[i];
@@ -152,7 +157,10 @@ fn tie(masks: &mut [u32], g: usize, i: usize, k: usize, c: u32)
 
 // one column: a free mask that sees it is tied to its place, if there is one; how many masks are then free
 fn fit_one(masks: &mut [u32], fitted: &mut [u16], g: usize, free: usize, p: usize, c: u32) -> usize
-    requires { ⌜ (g ≤ length (now masks)) × (g ≤ length (now fitted)) × (free ≤ g) × (p < 1024) ⌝ }
+    requires { ⌜ (g ≤ length (now masks))
+        × (g ≤ length (now fitted))
+        × (free ≤ g)
+        × (p < 1024) ⌝ }
     ensures fewer { λ r. ⌜ r ≤ free ⌝ }
     ensures scan { λ r. ⌜ ((f : ℕ → ℕ) → (W : List ℕ) → f p ≡ c → Scan f W g (p + 1) free (now (masks .entry)) (now (fitted .entry))
         → Scan f W g p r (now (masks .exit)) (now (fitted .exit))) ⌝ }
@@ -177,7 +185,10 @@ fn from_top(n: usize, k: usize) -> usize
 
 // every column, from the highest place down; each mask is then its place's row of the inverse, places ascending
 pub fn fit(col: &[u32], n: usize, g: usize, masks: &mut [u32], fitted: &mut [u16]) -> usize
-    requires { ⌜ (n ≤ length (now col)) × (n ≤ 1024) × (g ≤ length (now masks)) × (g ≤ length (now fitted)) ⌝ }
+    requires { ⌜ (n ≤ length (now col))
+        × (n ≤ 1024)
+        × (g ≤ length (now masks))
+        × (g ≤ length (now fitted)) ⌝ }
     ensures { λ r. ⌜ ((f : ℕ → ℕ) → (W : List ℕ) → ((p : ℕ) → p < n → f p ≡ getD (now (col .entry)) p 0)
         → Scan f W g n g (now (masks .entry)) (now (fitted .entry)) → Scan f W g 0 r (now (masks .exit)) (now (fitted .exit))) ⌝ }
 {
@@ -211,7 +222,7 @@ pub fn fit_places(
     ensures { λ _. ⌜ Fitted n (solved (check (now (t .entry)) m) (now (order .entry)) (now (owns .entry)) taken)
         (map (check (now (t .entry)) m) (take g (now (aside .entry)))) g (now (fitted .exit)) (now (rows .exit)) ⌝ }
 {
-    let mut col = [0u32; 1024];
+    let mut col = [0u32; MOST_PLACES];
     fill_columns(&mut col, t, m, starts, aside, g);
     push_all(&mut col, t, m, starts, order, owns, taken);
     units(rows, g);

@@ -29,7 +29,9 @@ fn encode_source(plan: &[u32], information: &mut [u8], block: &mut [u8], scratch
 
 // Encodes with part bytes of information, the whole block's, and spare ones of scratch.
 fn encode_within(plan: &[u32], part: usize, whole: usize, spare: usize)
-    requires { ⌜ (part ≤ 32768) × (whole ≤ 32768) × (spare ≤ 32768) ⌝ }
+    requires { ⌜ (part ≤ 32768)
+        × (whole ≤ 32768)
+        × (spare ≤ 32768) ⌝ }
 {
     let mut information = [0u8; MOST_BLOCK];
     let mut block = [0u8; MOST_BLOCK];

@@ -73,7 +73,8 @@ fn run(plan: &[u32], s: usize, steps: usize, block: &mut [u8], scratch: &mut [u8
 
 // A lent buffer of wrong length.
 fn wrong_lengths(plan: &[u32], s: usize, information: usize, block: usize, scratch: usize) -> bool
-    requires { ⌜ (planRefusal (now plan) ≡ 0) × (s ≤ mostBytes) ⌝ }
+    requires { ⌜ (planRefusal (now plan) ≡ 0)
+        × (s ≤ mostBytes) ⌝ }
     ensures { λ r. ⌜ r ≡ wrongLengths (now (plan .entry)) s information block scratch ⌝ }
 {
     if information != plan::info_count(plan) * s {

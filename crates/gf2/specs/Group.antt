@@ -51,9 +51,6 @@ module _ {A : Type 0} (G : Group2 A) where
   pub cancel-r : (a b : A) → (a ⊕ b) ⊕ b ≡ a
   cancel-r a b = simp ring
 
-  pub cancel-l2 : (a b c : A) → (a ⊕ b) ⊕ (a ⊕ c) ≡ b ⊕ c
-  cancel-l2 a b c = simp ring
-
   pub move : (a b c : A) → a ⊕ b ≡ c → b ≡ a ⊕ c
   move a b c e = rw (← e) (simp ring)
 

@@ -1,4 +1,5 @@
 // Step 1 of the rule: the checks that are kept.
+use table::MOST_PLACES;
 ghost use mathlib.Core.Path.{_≡_};
 ghost use Prim.Native.Nat.{ℕ, _+_, _*_, _≤_, _<_};
 ghost use lib.ListN.{length, getD, take, drop, replicate};
@@ -20,9 +21,13 @@ fn eliminate(
     n: usize,
     noted: &mut [u16],
 ) -> usize
-    requires room { ⌜ (k * 16 + 16 ≤ length (now w)) × (n ≤ 1024) × (n ≤ length (now owner)) × (n ≤ length (now noted)) ⌝ }
+    requires room { ⌜ (k * 16 + 16 ≤ length (now w))
+        × (n ≤ 1024)
+        × (n ≤ length (now owner))
+        × (n ≤ length (now noted)) ⌝ }
     requires owners { ⌜ Owners (now w) (now owner) k ⌝ }
-    requires check { ⌜ (at + weight ≤ length (now t)) × ((i : ℕ) → i < weight → getD (now t) (at + i) 0 < n) ⌝ }
+    requires check { ⌜ (at + weight ≤ length (now t))
+        × ((i : ℕ) → i < weight → getD (now t) (at + i) 0 < n) ⌝ }
     ensures { λ r. ⌜ Lowered (now (w .entry)) (now (owner .entry)) k n (rowOf (take weight (drop at (now (t .entry))))) (now (w .exit)) r ⌝ }
 {
     bits::load(w, k, t, at, weight);
@@ -32,11 +37,13 @@ fn eliminate(
 // the numbers of the kept checks, and how many
 fn keep(t: &[u16], m: usize, n: usize, w: &mut [u64], owner: &mut [u16], ids: &mut [u16]) -> usize
     requires table { ⌜ Accepted (now t) m n (size (now t)) ⌝ }
-    requires room { ⌜ (m * 16 ≤ length (now w)) × (n ≤ length (now owner)) × (m ≤ length (now ids)) ⌝ }
+    requires room { ⌜ (m * 16 ≤ length (now w))
+        × (n ≤ length (now owner))
+        × (m ≤ length (now ids)) ⌝ }
     requires unowned { ⌜ ((p : ℕ) → getD (now owner) p 0 ≡ 0) ⌝ }
     ensures { λ r. ⌜ Front (keptOf (now (t .entry)) m) (now (ids .entry)) (now (ids .exit)) r ⌝ }
 {
-    let mut noted = [0u16; 1024];
+    let mut noted = [0u16; MOST_PLACES];
     let mut k = 0;
     let mut i = 0;
     let mut at = 5 + m;
@@ -57,11 +64,12 @@ fn keep(t: &[u16], m: usize, n: usize, w: &mut [u64], owner: &mut [u16], ids: &m
 // step 1: the numbers of the kept checks, and how many; the work is zero afterwards
 pub fn keep_checks(t: &[u16], m: usize, n: usize, work: &mut [u64], ids: &mut [u16]) -> usize
     requires table { ⌜ Accepted (now t) m n (size (now t)) ⌝ }
-    requires room { ⌜ (m * 16 ≤ length (now work)) × (m ≤ length (now ids)) ⌝ }
+    requires room { ⌜ (m * 16 ≤ length (now work))
+        × (m ≤ length (now ids)) ⌝ }
     ensures kept { λ r. ⌜ Front (keptOf (now (t .entry)) m) (now (ids .entry)) (now (ids .exit)) r ⌝ }
     ensures work { λ _. ⌜ now (work .exit) ≡ replicate (length (now (work .entry))) 0 ⌝ }
 {
-    let mut owner = [0u16; 1024];
+    let mut owner = [0u16; MOST_PLACES];
     let k = keep(t, m, n, work, &mut owner, ids);
     bits::clear_work(work);
     k

@@ -47,7 +47,8 @@ fn mix(b: &mut [u8], at: usize, t: &[u8])
 
 // The s bytes of src at from are written into b at at.
 pub fn copy(b: &mut [u8], at: usize, src: &[u8], from: usize, s: usize)
-    requires { ⌜ (at + s ≤ length (now b)) × (from + s ≤ length (now src)) ⌝ }
+    requires { ⌜ (at + s ≤ length (now b))
+        × (from + s ≤ length (now src)) ⌝ }
     ensures { λ _. ⌜ now (b .exit) ≡ written (now (b .entry)) at (take s (drop from (now (src .entry)))) ⌝ }
 {
     let end = from + s;
@@ -56,7 +57,8 @@ pub fn copy(b: &mut [u8], at: usize, src: &[u8], from: usize, s: usize)
 
 // The s bytes of src at from are added into b at to.
 pub fn add_from(b: &mut [u8], to: usize, src: &[u8], from: usize, s: usize)
-    requires { ⌜ (to + s ≤ length (now b)) × (from + s ≤ length (now src)) ⌝ }
+    requires { ⌜ (to + s ≤ length (now b))
+        × (from + s ≤ length (now src)) ⌝ }
     ensures { λ _. ⌜ now (b .exit) ≡ mixed (now (b .entry)) to (take s (drop from (now (src .entry)))) ⌝ }
 {
     let end = from + s;
@@ -111,7 +113,8 @@ fn gather(
     s: usize,
     off: usize,
 )
-    requires { ⌜ CheckIn (now t) at weight (now block) n s × (off + length (now acc) ≤ s) ⌝ }
+    requires { ⌜ CheckIn (now t) at weight (now block) n s
+        × (off + length (now acc) ≤ s) ⌝ }
     ensures { λ _. ⌜
         now (acc .exit)
         ≡ addVectors XorGroup (now (acc .entry)) (take (length (now (acc .entry))) (drop off (checkSum (now (t .entry)) at weight (now (block .entry)) n s)))
@@ -135,7 +138,8 @@ fn lowest_in_chunk(
     s: usize,
     off: usize,
 ) -> usize
-    requires { ⌜ CheckIn (now t) at weight (now block) n s × (off + 64 ≤ s) ⌝ }
+    requires { ⌜ CheckIn (now t) at weight (now block) n s
+        × (off + 64 ≤ s) ⌝ }
     ensures { λ r. ⌜
         r ≡ lowestNonzero (take 64 (drop off (checkSum (now (t .entry)) at weight (now (block .entry)) n s)))
         ⌝ }
@@ -155,7 +159,8 @@ fn lowest_in_rest(
     s: usize,
     off: usize,
 ) -> usize
-    requires { ⌜ CheckIn (now t) at weight (now block) n s × ((off ≤ s) × (s < off + 64)) ⌝ }
+    requires { ⌜ CheckIn (now t) at weight (now block) n s
+        × ((off ≤ s) × (s < off + 64)) ⌝ }
     ensures { λ r. ⌜ r ≡ lowestNonzero (drop off (checkSum (now (t .entry)) at weight (now (block .entry)) n s)) ⌝ }
 {
     let mut acc = [0u8; 64];
@@ -190,7 +195,8 @@ fn or_chunk(
     s: usize,
     off: usize,
 )
-    requires { ⌜ CheckIn (now t) at weight (now block) n s × ((off + 64 ≤ s) × (length (now o) ≡ 64)) ⌝ }
+    requires { ⌜ CheckIn (now t) at weight (now block) n s
+        × ((off + 64 ≤ s) × (length (now o) ≡ 64)) ⌝ }
     ensures { λ _. ⌜
         (lowestNonzero (now (o .exit)) ≡ 64
         → (lowestNonzero (now (o .entry)) ≡ 64)
@@ -250,7 +256,8 @@ fn gather_others(
     p: usize,
     off: usize,
 )
-    requires { ⌜ CheckIn (now t) at weight (now block) n s × (off + length (now acc) ≤ s) ⌝ }
+    requires { ⌜ CheckIn (now t) at weight (now block) n s
+        × (off + length (now acc) ≤ s) ⌝ }
     ensures { λ _. ⌜
         now (acc .exit)
         ≡ addVectors XorGroup (now (acc .entry))
@@ -279,7 +286,8 @@ fn restore_chunk(
     p: usize,
     off: usize,
 )
-    requires { ⌜ CheckIn (now t) at weight (now block) n s × ((p < n) × (off + 64 ≤ s)) ⌝ }
+    requires { ⌜ CheckIn (now t) at weight (now block) n s
+        × ((p < n) × (off + 64 ≤ s)) ⌝ }
     ensures { λ _. ⌜
         now (block .exit)
         ≡ written (now (block .entry)) (p * s + off) (take 64 (drop off (othersSum (now (t .entry)) at weight (now (block .entry)) n s p)))
@@ -301,7 +309,8 @@ fn restore_rest(
     p: usize,
     off: usize,
 )
-    requires { ⌜ CheckIn (now t) at weight (now block) n s × ((p < n) × ((off ≤ s) × (s < off + 64))) ⌝ }
+    requires { ⌜ CheckIn (now t) at weight (now block) n s
+        × ((p < n) × ((off ≤ s) × (s < off + 64))) ⌝ }
     ensures { λ _. ⌜
         now (block .exit)
         ≡ written (now (block .entry)) (p * s + off) (drop off (othersSum (now (t .entry)) at weight (now (block .entry)) n s p))
@@ -315,7 +324,8 @@ fn restore_rest(
 
 // The packet at place p becomes the sum of the packets of the check's other places.
 pub fn restore(t: &[u16], at: usize, weight: usize, block: &mut [u8], n: usize, s: usize, p: usize)
-    requires { ⌜ CheckIn (now t) at weight (now block) n s × (p < n) ⌝ }
+    requires { ⌜ CheckIn (now t) at weight (now block) n s
+        × (p < n) ⌝ }
     ensures { λ _. ⌜
         now (block .exit)
         ≡ joined (set (packets s n (now (block .entry))) p (othersSum (now (t .entry)) at weight (now (block .entry)) n s p))

@@ -1,5 +1,7 @@
 // Steps 2 and 3: own places, and checks set aside.
 use live::Found;
+use table::MOST_CHECKS;
+use table::MOST_PLACES;
 ghost use mathlib.Core.Path.{_≡_};
 ghost use mathlib.Core.List.{map};
 ghost use Prim.Native.Nat.{ℕ, _+_, _≤_, _<_};
@@ -109,7 +111,8 @@ pub fn peel_checks(
 ) -> Counts
     requires located { ⌜ Located (now t) m n (now starts) ⌝ }
     requires ready { ⌜ Ready (now t) m n (now live) (now count) (now names) ⌝ }
-    requires total { ⌜ (total ≡ length (lives (now live) 0 m)) × (total ≤ m) ⌝ }
+    requires total { ⌜ (total ≡ length (lives (now live) 0 m))
+        × (total ≤ m) ⌝ }
     requires room { ⌜ Room m (now order) (now owns) (now aside) ⌝ }
     ensures { λ r. ⌜ Peeled (check (now (t .entry)) m) m n total (lives (now (live .entry)) 0 m)
         (now (order .exit)) (now (owns .exit)) (now (aside .exit)) (r .taken) (r .aside) ⌝ }
@@ -152,7 +155,9 @@ fn enter(
     j: usize,
 )
     requires located { ⌜ Located (now t) m (length (now count)) (now starts) ⌝ }
-    requires room { ⌜ (j < m) × (m ≤ length (now live)) × (length (now count) ≤ length (now names)) ⌝ }
+    requires room { ⌜ (j < m)
+        × (m ≤ length (now live))
+        × (length (now count) ≤ length (now names)) ⌝ }
     requires counts { ⌜ ((p : ℕ) → getD (now count) p 0 ≤ m) ⌝ }
     ensures { λ _. ⌜ Entered (now (t .entry)) m j (now (live .entry)) (now (count .entry)) (now (names .entry))
         (now (live .exit)) (now (count .exit)) (now (names .exit)) ⌝ }
@@ -252,9 +257,9 @@ fn peel_kept(
     ensures { λ r. ⌜ Peeled (check (now (t .entry)) m) m n k (keptOf (now (t .entry)) m)
         (now (order .exit)) (now (owns .exit)) (now (aside .exit)) (r .taken) (r .aside) ⌝ }
 {
-    let mut live = [0u8; 512];
-    let mut count = [0u16; 1024];
-    let mut names = [0u16; 1024];
+    let mut live = [0u8; MOST_CHECKS];
+    let mut count = [0u16; MOST_PLACES];
+    let mut names = [0u16; MOST_PLACES];
     peel_live(
         t,
         m,
@@ -296,7 +301,7 @@ pub fn choose_checks(
         (r .kept) (r .ones) (r .taken) (r .aside) ⌝ }
     ensures work { λ _. ⌜ now (work .exit) ≡ replicate 8192 0 ⌝ }
 {
-    let mut ids = [0u16; 512];
+    let mut ids = [0u16; MOST_CHECKS];
     let k = keep::keep_checks(t, m, n, work, &mut ids);
     let ones = ones_of(t, m, &ids, k);
     let c = peel_kept(t, m, n, starts, &ids, k, order, owns, aside);

@@ -10,7 +10,8 @@ ghost use Rattle.table.specs.Table.{places, number, refusal};
 ghost use Rattle.peel.specs.Choice.{ChoiceOf};
 ghost use Rattle.plan.specs.Layout.{mostAside, leastPlan};
 ghost use Rattle.rule.specs.PlanOf.{withNumbers};
-ghost use Rattle.planner.specs.Planning.{workWords, planningAnswerOf, refusedBy, planningAnswerAt, planningAnswer, planningPlanAfter, planningWorkAfter};
+ghost use Rattle.planner.specs.Planning.{workWords, planningAnswerOf, refusedBy, planningAnswerAt};
+ghost use Rattle.planner.specs.Planning.{planningAnswer, planningPlanAfter, planningWorkAfter};
 
 // the least length of the plan's buffer
 pub const LEAST_PLAN: usize = 15360;

@@ -30,7 +30,10 @@ fn over_one(map: &[u8]) -> bool
 
 // a refusal, counts 0
 fn refused(refusal: u32) -> Repaired
-    ensures { λ r. ⌜ (r .refusal ≡ refusal) × (r .restored ≡ 0) × (r .lost ≡ 0) × (r .additions ≡ 0) ⌝ }
+    ensures { λ r. ⌜ (r .refusal ≡ refusal)
+        × (r .restored ≡ 0)
+        × (r .lost ≡ 0)
+        × (r .additions ≡ 0) ⌝ }
 {
     Repaired {
         refusal: refusal,
@@ -49,7 +52,8 @@ fn repair_packets(
     block: &mut [u8],
     map: &mut [u8],
 ) -> Repaired
-    requires { ⌜ Accepted (now t) m n s × Fitting (now t) (now block) (now map) ⌝ }
+    requires { ⌜ Accepted (now t) m n s
+        × Fitting (now t) (now block) (now map) ⌝ }
     ensures { λ r. ⌜ Answers (now (t .entry)) (now (block .entry)) (now (map .entry)) r (now (block .exit)) (now (map .exit)) ⌝ }
 {
     let done = restore::restore_packets(t, m, n, s, block, map);

@@ -48,7 +48,8 @@ fn tally_of(map: &[u8], v: u8) -> u32
 
 // zero bytes at every lost place
 pub fn zero_lost(block: &mut [u8], map: &[u8], n: usize, s: usize)
-    requires { ⌜ (length (now block) ≡ n * s) × (length (now map) ≡ n) ⌝ }
+    requires { ⌜ (length (now block) ≡ n * s)
+        × (length (now map) ≡ n) ⌝ }
     ensures { λ _. ⌜ now (block .exit) ≡ joined (zeroLost s (now (map .entry)) (packets s n (now (block .entry)))) ⌝ }
 {
     let mut p = 0;
@@ -62,7 +63,8 @@ pub fn zero_lost(block: &mut [u8], map: &[u8], n: usize, s: usize)
 
 // whether a check with so many lost places is still to be summed: it has none, and restored none
 fn to_sum(count: u16, used: u8) -> bool
-    ensures { λ r. ⌜ (r ≡ true → count ≡ 0) × (r ≡ false → count ≡ 0 → used ≡ 1) ⌝ }
+    ensures { λ r. ⌜ (r ≡ true → count ≡ 0)
+        × (r ≡ false → count ≡ 0 → used ≡ 1) ⌝ }
 {
     if count == 0 {
         return used != 1;
@@ -123,7 +125,10 @@ pub fn restore_lost(
     block: &mut [u8],
     map: &mut [u8],
 ) -> Turned
-    requires { ⌜ Accepted (now t) m n s × Starts (now t) m (now starts) × (length (now block) ≡ n * s) × (length (now map) ≡ n) ⌝ }
+    requires { ⌜ Accepted (now t) m n s
+        × Starts (now t) m (now starts)
+        × (length (now block) ≡ n * s)
+        × (length (now map) ≡ n) ⌝ }
     ensures { λ r. ⌜
         Restored n s (checks (now (t .entry))) (now (block .entry)) (now (map .entry)) (now (block .exit)) (now (map .exit)) (r .adds)
         × (r .agrees ≡ consistent s (checks (now (t .entry))) (stateOf s n (now (block .exit)) (now (map .exit)) 0))
@@ -156,7 +161,10 @@ pub fn restore_lost(
 
 // a contradiction, counts 0
 fn contradicted() -> Mended
-    ensures { λ r. ⌜ (r .agrees ≡ false) × (r .restored ≡ 0) × (r .lost ≡ 0) × (r .additions ≡ 0) ⌝ }
+    ensures { λ r. ⌜ (r .agrees ≡ false)
+        × (r .restored ≡ 0)
+        × (r .lost ≡ 0)
+        × (r .additions ≡ 0) ⌝ }
 {
     Mended {
         agrees: false,
@@ -168,8 +176,12 @@ fn contradicted() -> Mended
 
 // none: what was lost before and is no more, what the map still has, and the additions
 fn counted(before: u32, after: u32, adds: usize) -> Mended
-    requires { ⌜ (after ≤ before) × (adds ≤ 64512) ⌝ }
-    ensures { λ r. ⌜ (r .agrees ≡ true) × (r .restored ≡ before - after) × (r .lost ≡ after) × (r .additions ≡ adds) ⌝ }
+    requires { ⌜ (after ≤ before)
+        × (adds ≤ 64512) ⌝ }
+    ensures { λ r. ⌜ (r .agrees ≡ true)
+        × (r .restored ≡ before - after)
+        × (r .lost ≡ after)
+        × (r .additions ≡ adds) ⌝ }
 {
     Mended {
         agrees: true,
@@ -189,7 +201,9 @@ pub fn restore_packets(
     block: &mut [u8],
     map: &mut [u8],
 ) -> Mended
-    requires { ⌜ Accepted (now t) m n s × (length (now block) ≡ n * s) × (length (now map) ≡ n) ⌝ }
+    requires { ⌜ Accepted (now t) m n s
+        × (length (now block) ≡ n * s)
+        × (length (now map) ≡ n) ⌝ }
     ensures { λ r. ⌜ Mends (now (t .entry)) (now (block .entry)) (now (map .entry)) r (now (block .exit)) (now (map .exit)) ⌝ }
 {
     let mut starts = [0u16; MOST_CHECKS];

@@ -215,7 +215,8 @@ fn run_rest(
     scratch: &mut [u8],
 )
     requires slots { ⌜ RunIn n s (length (now block)) (length (now scratch)) to (now sources) ⌝ }
-    requires room { ⌜ (off ≤ s) × (s < off + 64) ⌝ }
+    requires room { ⌜ (off ≤ s)
+        × (s < off + 64) ⌝ }
     ensures { λ _. ⌜ Gathers n s fresh to (now (sources .entry)) off s
         (now (block .entry)) (now (scratch .entry)) (now (block .exit)) (now (scratch .exit)) ⌝ }
 {

@@ -65,7 +65,8 @@ fn mark_slots(plan: &[u32], s: usize, steps: usize, marks: &mut [u8])
 
 // Past the packets from i on that have no mark; packets are numbered from first on, and are count.
 fn unmarked(marks: &[u8], first: usize, i: usize, count: usize) -> usize
-    requires { ⌜ (i ≤ count) × (first + count ≤ length (now marks)) ⌝ }
+    requires { ⌜ (i ≤ count)
+        × (first + count ≤ length (now marks)) ⌝ }
     ensures { λ r. ⌜ Unmarked (now (marks .entry)) first i count r ⌝ }
 {
     let mut r = i;

@@ -62,7 +62,8 @@ fn beyond_limits(t: &[u16]) -> bool
 
 // the sum of the m weights; 65,536, which no word is, if one is over 64
 fn weigh(t: &[u16], m: usize) -> usize
-    requires { ⌜ (m ≤ 512) × (4 + m ≤ length (now t)) ⌝ }
+    requires { ⌜ (m ≤ 512)
+        × (4 + m ≤ length (now t)) ⌝ }
     ensures { λ r. ⌜ r ≡ weighed (take m (drop 4 (now (t .entry)))) ⌝ }
 {
     let mut sum = 0;
@@ -80,7 +81,8 @@ fn weigh(t: &[u16], m: usize) -> usize
 
 // cause 3
 fn bad_lengths(t: &[u16]) -> bool
-    requires { ⌜ (5 ≤ length (now t)) × (number (now t) ≤ 512) ⌝ }
+    requires { ⌜ (5 ≤ length (now t))
+        × (number (now t) ≤ 512) ⌝ }
     ensures { λ r. ⌜ r ≡ badLengths (now (t .entry)) ⌝ }
 {
     let m = wide(t[3]);
@@ -203,7 +205,8 @@ pub fn packet_refusal(n: usize, s: usize, place: usize, len: usize) -> u32
 // the packet at a place
 pub fn part(block: &[u8], place: usize, s: usize) -> &[u8]
     requires { ⌜ place * s + s ≤ length (now block) ⌝ }
-    ensures { λ r. ⌜ (now r ≡ partAt s place (now (block .entry))) × (ptr r ≡ (ptr (block .entry) .0, place * s + ptr (block .entry) .1)) ⌝ }
+    ensures { λ r. ⌜ (now r ≡ partAt s place (now (block .entry)))
+        × (ptr r ≡ (ptr (block .entry) .0, place * s + ptr (block .entry) .1)) ⌝ }
 {
     let start = place * s;
     let end = start + s;

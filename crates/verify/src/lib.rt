@@ -17,7 +17,8 @@ pub enum Verified {
 
 // what the m checks say of the block
 fn look_at_checks(t: &[u16], m: usize, n: usize, s: usize, block: &[u8]) -> Verified
-    requires { ⌜ Accepted (now t) m n s × (length (now block) ≡ n * s) ⌝ }
+    requires { ⌜ Accepted (now t) m n s
+        × (length (now block) ≡ n * s) ⌝ }
     ensures { λ r. ⌜ valuesOf r ≡ verdict (failing s (packets s n (now (block .entry))) 0 (checks (now (t .entry)))) ⌝ }
 {
     let mut at = 5 + m;
