@@ -8,6 +8,7 @@ use borrow.Author.Tests.{eq-eqb, ne-eqb}
 use lib.Dec.{eqb}
 use lib.ListN.{length, take, drop}
 use Rattle.table.specs.Packets.{joined}
+use Rattle.table.specs.Table.{mostPlaces, mostBytes}
 use Rattle.plan.specs.Layout.{planPlaces, planSize, planGap, infoCount, stepCount, stepsOf}
 use Rattle.plan.specs.Step.{addSteps}
 use Rattle.plan.specs.Steps.{carryOutAll}
@@ -18,7 +19,7 @@ use Rattle.encoder.specs.EncodingLaws.{AcceptedEncoding, not-refused-at,
 use Rattle.encoder.specs.Running.{Ran}
 
 -- packets are few and short
-pub product-small : (a b : ℕ) → a ≤ 1024 → b ≤ 1024 → a * b ≤ 1048576
+pub product-small : (a b : ℕ) → a ≤ mostPlaces → b ≤ mostBytes → a * b ≤ mostPlaces * mostBytes
 product-small a b h k = mul-le-mul h k
 
 module _ (w : List ℕ) (s i b c : ℕ) where
