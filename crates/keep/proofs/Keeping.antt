@@ -11,6 +11,7 @@ use Rattle.gf2.specs.Bit.{bits-zero}
 use Rattle.gf2.specs.Gf2.{Bits, rowsOf, sums, down, isZero, choose, onto, XorGroup, rowOf}
 use Rattle.gf2.specs.EchelonLaws.{bit-nonzero, down-test, down-in, one-more, sums-shift, sums-none}
 use Rattle.table.specs.Checks.{offset, check, from}
+use Rattle.table.specs.ChecksLaws.{offset-more}
 use Rattle.bits.specs.Front.{Front, front-none, front-more}
 use Rattle.bits.specs.Row.{row}
 use Rattle.bits.specs.RowLaws.{row-lt}
@@ -28,10 +29,6 @@ from-cons i m h =
 from-none : (i m : ℕ) → m ≤ i → from i (m - i) ≡ []
 unfolding from
 from-none i m h = let e : m - i ≡ 0 = omega arith in rw e
-
-offset-more : (t : List ℕ) (i : ℕ) → offset t (i + 1) ≡ offset t i + getD t (4 + i) 0
-unfolding offset
-offset-more t i = ap (offset t) (add-one i)
 
 abbrev pub checkRow : List ℕ → ℕ → ℕ → ℕ
 checkRow t m j = rowOf (check t m j)
