@@ -54,7 +54,7 @@ module _ (w : List ℕ) where
             pub limits-checks : mostChecks < planKept w → true ≡ badLimits w
             limits-checks h = rw (a, b, le-ltb mostAside (planGap w) d, le-ltb (planKept w) (planGap w) e, le-ltb (planPlaces w) (planKept w) f, lt-ltb mostChecks (planKept w) h)
 
-            pub limits-last : planKept w ≤ mostChecks → badLengths w ≡ badLimits w
+            pub limits-last : planKept w ≤ mostChecks → false ≡ badLimits w
             limits-last h = rw (a, b, le-ltb mostAside (planGap w) d, le-ltb (planKept w) (planGap w) e, le-ltb (planPlaces w) (planKept w) f, le-ltb mostChecks (planKept w) h)
 
   pub counts-short : length w < leastNumbers → true ≡ badCounts w
@@ -63,5 +63,8 @@ module _ (w : List ℕ) where
   pub counts-first : leastNumbers ≤ length w → (getD w 0 0 ≡ headCount → ⊥) → true ≡ badCounts w
   counts-first a b = rw (le-ltb (length w) leastNumbers a, ne-eqb (getD w 0 0) headCount b)
 
-  pub counts-last : leastNumbers ≤ length w → getD w 0 0 ≡ headCount → badLimits w ≡ badCounts w
-  counts-last a b = rw (le-ltb (length w) leastNumbers a, eq-eqb (getD w 0 0) headCount b)
+  pub counts-limits : leastNumbers ≤ length w → getD w 0 0 ≡ headCount → badLimits w ≡ true → true ≡ badCounts w
+  counts-limits a b d = rw (le-ltb (length w) leastNumbers a, eq-eqb (getD w 0 0) headCount b, d)
+
+  pub counts-last : leastNumbers ≤ length w → getD w 0 0 ≡ headCount → badLimits w ≡ false → badLengths w ≡ badCounts w
+  counts-last a b d = rw (le-ltb (length w) leastNumbers a, eq-eqb (getD w 0 0) headCount b, d)

@@ -93,20 +93,23 @@ abbrev pub stepsOf : List ℕ → List Step
 stepsOf w = unpackAll (stepsIn w)
 
 -- ---- cause 9
--- the counts, in three parts, each with the parts behind it
+-- too short to have counts, or a first section of another length
+abbrev pub badHead : List ℕ → Bool
+badHead w = ltb (length w) leastNumbers || not (eqb (getD w 0 0) headCount)
+
+-- "n or s beyond limits, g over 32 or over M, M over n or 512"
+abbrev pub badLimits : List ℕ → Bool
+badLimits w = outside mostPlaces (planPlaces w) || (outside mostBytes (planSize w) || (ltb mostAside (planGap w) || (ltb (planKept w) (planGap w)
+    || (ltb (planPlaces w) (planKept w) || ltb mostChecks (planKept w)))))
+
 -- "wrong counts or length", "over 13,344 steps"
 abbrev pub badLengths : List ℕ → Bool
 badLengths w = not (eqb (infoCount w) (planPlaces w - planKept w)) || (ltb (length w) (stepsAt w) || (ltb mostSteps (stepCount w)
     || not (eqb (length w) (stepsAt w + stepCount w))))
 
--- "n or s beyond limits, g over 32 or over M, M over n or 512"
-abbrev pub badLimits : List ℕ → Bool
-badLimits w = outside mostPlaces (planPlaces w) || (outside mostBytes (planSize w) || (ltb mostAside (planGap w) || (ltb (planKept w) (planGap w)
-    || (ltb (planPlaces w) (planKept w) || (ltb mostChecks (planKept w) || badLengths w)))))
-
--- too short to have counts, or a first section of another length
+-- one of the three
 abbrev pub badCounts : List ℕ → Bool
-badCounts w = ltb (length w) leastNumbers || (not (eqb (getD w 0 0) headCount) || badLimits w)
+badCounts w = badHead w || (badLimits w || badLengths w)
 
 -- "an unknown kind, a slot outside, clear with from above 0, a slot added into itself, or an information place written",
 -- for k slots and the information places I

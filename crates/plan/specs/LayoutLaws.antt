@@ -14,7 +14,7 @@ use Rattle.lists.specs.Tests.{byBool}
 use Rattle.table.specs.Table.{mostPlaces, mostBytes, mostChecks, outside, rising}
 use Rattle.plan.specs.declared.Step.{Step}
 use Rattle.plan.specs.declared.Step.the-variants.{Clear, Add}
-use Rattle.plan.specs.Layout.{mostAside, mostSteps, headCount, leastNumbers, planPlaces, planSize, planGap, planKept, infoAt, infoCount, infoIn, stepCount, stepsAt, stepsIn, slots, stepsOf, badCounts, goodStep, wellFormed, planRefusal}
+use Rattle.plan.specs.Layout.{mostAside, mostSteps, headCount, leastNumbers, planPlaces, planSize, planGap, planKept, infoAt, infoCount, infoIn, stepCount, stepsAt, stepsIn, slots, stepsOf, badHead, badLimits, badLengths, badCounts, goodStep, wellFormed, planRefusal}
 use Rattle.plan.specs.Step.{unpack, unpackAll, SlotsBelow}
 
 -- ---- tests
@@ -60,58 +60,54 @@ inside-low most x h = let n = eqb-false x 0 (or-left (eqb x 0) (ltb most x) h) i
 inside-high : (most x : ℕ) → outside most x ≡ false → x ≤ most
 inside-high most x h = ltb-false most x (or-right (eqb x 0) (ltb most x) h)
 
--- twelve tests, none of which holds
-record None (a b c d e f g h i j k l : Bool) : Type 0 where
-  t0 : a ≡ false
-  t1 : b ≡ false
-  t2 : c ≡ false
-  t3 : d ≡ false
-  t4 : e ≡ false
-  t5 : f ≡ false
-  t6 : g ≡ false
-  t7 : h ≡ false
-  t8 : i ≡ false
-  t9 : j ≡ false
-  t10 : k ≡ false
-  t11 : l ≡ false
+-- the limits, of a plan that is within them
+pub record InLimits (w : List ℕ) : Type 0 where
+  pub some-places : 1 ≤ planPlaces w
+  pub few-places : planPlaces w ≤ mostPlaces
+  pub some-bytes : 1 ≤ planSize w
+  pub few-bytes : planSize w ≤ mostBytes
+  pub few-aside : planGap w ≤ mostAside
+  pub aside-kept : planGap w ≤ planKept w
+  pub kept-places : planKept w ≤ planPlaces w
+  pub few-kept : planKept w ≤ mostChecks
 
-none-of : (a b c d e f g h i j k l : Bool) → (a || (b || (c || (d || (e || (f || (g || (h || (i || (j || (k || l))))))))))) ≡ false
-    → None a b c d e f g h i j k l
-none-of a b c d e f g h i j k l z =
-    let r1 = or-right a _ z in let r2 = or-right b _ r1 in let r3 = or-right c _ r2 in let r4 = or-right d _ r3 in
-    let r5 = or-right e _ r4 in let r6 = or-right f _ r5 in let r7 = or-right g _ r6 in let r8 = or-right h _ r7 in
-    let r9 = or-right i _ r8 in let r10 = or-right j _ r9 in
+pub in-limits : (w : List ℕ) → badLimits w ≡ false → InLimits w
+in-limits w z =
+    let r1 = or-right (outside mostPlaces (planPlaces w)) _ z in
+    let r2 = or-right (outside mostBytes (planSize w)) _ r1 in
+    let r3 = or-right (ltb mostAside (planGap w)) _ r2 in
+    let r4 = or-right (ltb (planKept w) (planGap w)) _ r3 in
     record {
-      t0 = or-left a _ z;
-      t1 = or-left b _ r1;
-      t2 = or-left c _ r2;
-      t3 = or-left d _ r3;
-      t4 = or-left e _ r4;
-      t5 = or-left f _ r5;
-      t6 = or-left g _ r6;
-      t7 = or-left h _ r7;
-      t8 = or-left i _ r8;
-      t9 = or-left j _ r9;
-      t10 = or-left k l r10;
-      t11 = or-right k l r10;
+      some-places = inside-low mostPlaces (planPlaces w) (or-left (outside mostPlaces (planPlaces w)) _ z);
+      few-places = inside-high mostPlaces (planPlaces w) (or-left (outside mostPlaces (planPlaces w)) _ z);
+      some-bytes = inside-low mostBytes (planSize w) (or-left (outside mostBytes (planSize w)) _ r1);
+      few-bytes = inside-high mostBytes (planSize w) (or-left (outside mostBytes (planSize w)) _ r1);
+      few-aside = ltb-false mostAside (planGap w) (or-left (ltb mostAside (planGap w)) _ r2);
+      aside-kept = ltb-false (planKept w) (planGap w) (or-left (ltb (planKept w) (planGap w)) _ r3);
+      kept-places = ltb-false (planPlaces w) (planKept w) (or-left (ltb (planPlaces w) (planKept w)) _ r4);
+      few-kept = ltb-false mostChecks (planKept w) (or-right (ltb (planPlaces w) (planKept w)) _ r4);
     }
 
 pub counted : (w : List ℕ) → badCounts w ≡ false → Counted w
-counted w h = let t = none-of (ltb (length w) leastNumbers) (not (eqb (getD w 0 0) headCount)) (outside mostPlaces (planPlaces w)) (outside mostBytes (planSize w))
-    (ltb mostAside (planGap w)) (ltb (planKept w) (planGap w)) (ltb (planPlaces w) (planKept w)) (ltb mostChecks (planKept w))
-    (not (eqb (infoCount w) (planPlaces w - planKept w))) (ltb (length w) (stepsAt w)) (ltb mostSteps (stepCount w)) (not (eqb (length w) (stepsAt w + stepCount w))) h in record {
-      first = eqb-true (getD w 0 0) headCount (not-false (eqb (getD w 0 0) headCount) (t .t1));
-      some-places = inside-low mostPlaces (planPlaces w) (t .t2);
-      few-places = inside-high mostPlaces (planPlaces w) (t .t2);
-      some-bytes = inside-low mostBytes (planSize w) (t .t3);
-      few-bytes = inside-high mostBytes (planSize w) (t .t3);
-      few-aside = ltb-false mostAside (planGap w) (t .t4);
-      aside-kept = ltb-false (planKept w) (planGap w) (t .t5);
-      kept-places = ltb-false (planPlaces w) (planKept w) (t .t6);
-      few-kept = ltb-false mostChecks (planKept w) (t .t7);
-      info = eqb-true (infoCount w) (planPlaces w - planKept w) (not-false (eqb (infoCount w) (planPlaces w - planKept w)) (t .t8));
-      few-steps = ltb-false mostSteps (stepCount w) (t .t10);
-      whole = eqb-true (length w) (stepsAt w + stepCount w) (not-false (eqb (length w) (stepsAt w + stepCount w)) (t .t11));
+counted w h =
+    let rest = or-right (badHead w) _ h in
+    let l = in-limits w (or-left (badLimits w) (badLengths w) rest) in
+    let z = or-right (badLimits w) (badLengths w) rest in
+    let r1 = or-right (not (eqb (infoCount w) (planPlaces w - planKept w))) _ z in
+    let r2 = or-right (ltb (length w) (stepsAt w)) _ r1 in
+    record {
+      first = eqb-true (getD w 0 0) headCount (not-false (eqb (getD w 0 0) headCount) (or-right (ltb (length w) leastNumbers) _ (or-left (badHead w) _ h)));
+      some-places = l .some-places;
+      few-places = l .few-places;
+      some-bytes = l .some-bytes;
+      few-bytes = l .few-bytes;
+      few-aside = l .few-aside;
+      aside-kept = l .aside-kept;
+      kept-places = l .kept-places;
+      few-kept = l .few-kept;
+      info = eqb-true (infoCount w) (planPlaces w - planKept w) (not-false (eqb (infoCount w) (planPlaces w - planKept w)) (or-left _ _ z));
+      few-steps = ltb-false mostSteps (stepCount w) (or-left (ltb mostSteps (stepCount w)) _ r2);
+      whole = eqb-true (length w) (stepsAt w + stepCount w) (not-false (eqb (length w) (stepsAt w + stepCount w)) (or-right (ltb mostSteps (stepCount w)) _ r2));
     }
 
 -- ---- places in ascending order

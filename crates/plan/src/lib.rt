@@ -206,7 +206,7 @@ fn bad_limits(w: &[u32]) -> bool
     if MOST_ASIDE < g || m < g || n < m || MOST_CHECKS < m {
         return true;
     }
-    bad_lengths(w)
+    false
 }
 
 fn bad_counts(w: &[u32]) -> bool
@@ -218,7 +218,10 @@ fn bad_counts(w: &[u32]) -> bool
     if wide(w[0]) != HEAD_COUNT {
         return true;
     }
-    bad_limits(w)
+    if bad_limits(w) {
+        return true;
+    }
+    bad_lengths(w)
 }
 
 // Marks the information places, a byte a slot; false where one is not below n or does not ascend.

@@ -85,18 +85,17 @@ module _ (t : List ℕ) (ok : refusal t ≡ 0) (few : planOf t .g ≤ mostAside)
       let l = kept-length n (checks t) in
       let f = aside-few n (checks t) (good .distinct) (good .low) in
       let m = steps-limit n (checks t) (good .distinct) (good .low) (good .few-ones) few in
-      or-no (le-ltb (length (numbersOf t)) leastNumbers (omega arith))
-      (or-no refl
-      (or-no (within mostPlaces n (good .some-places) (good .few-places))
+      or-no (or-no (le-ltb (length (numbersOf t)) leastNumbers (omega arith)) refl)
+      (or-no (or-no (within mostPlaces n (good .some-places) (good .few-places))
       (or-no (within mostBytes (size t) (good .some-bytes) (good .few-bytes))
       (or-no (le-ltb mostAside (P .g) few)
       (or-no (le-ltb (P .M) (P .g) f)
       (or-no (le-ltb n (P .M) k)
-      (or-no (le-ltb mostChecks (P .M) (omega arith))
+      (le-ltb mostChecks (P .M) (omega arith)))))))
       (or-no (ap not (eq-eqb (length (P .info)) (n - P .M) c))
       (or-no (le-ltb (length (numbersOf t)) (stepsAt (numbersOf t)) (omega arith))
       (or-no (le-ltb mostSteps (stepCount (numbersOf t)) (omega arith))
-      (ap not (eq-eqb (length (numbersOf t)) (stepsAt (numbersOf t) + stepCount (numbersOf t)) (omega arith)))))))))))))
+      (ap not (eq-eqb (length (numbersOf t)) (stepsAt (numbersOf t) + stepCount (numbersOf t)) (omega arith)))))))
 
   -- "the planner's own plan is well-formed"
   pub own-well-formed : wellFormed (numbersOf t) ≡ true

@@ -44,14 +44,11 @@ returns-2 c = let w = c .before .before .before .before .before .before .before 
     (⊎-elim (λ x. limits-kept w a b (omega (arith, x .0 .left)) (let t = x .1 .left in omega (arith, ltb-false)) (let t = x .2 .taken in omega (arith, ltb-true)))
     (λ x. limits-checks w a b (omega (arith, x .0 .left)) (let t = x .1 .left in omega (arith, ltb-false)) (let t = x .2 .left in omega (arith, ltb-false)) (let t = x .3 .taken in omega (arith, ltb-true))))) (c .if3 .came)
 
-bad-lengths-requires : tie.Need-bad-lengths-requires
-bad-lengths-requires c κs = (omega arith, omega (arith, ltb-false))
-
 returns-3 : tie.Need-returns-3
-returns-3 c = let w = c .before .before .before .before .before .before .before .before .before .before .before .before .before .before .args .w .now in
-    let a : outside mostPlaces (planPlaces w) ≡ c .before .before .before .before .before .before .before .before .before .beyond .result = ap (outside mostPlaces) (sym (c .before .before .before .before .before .before .before .before .before .before .before .before .places .ensures)) ∙ sym (c .before .before .before .before .before .before .before .before .before .beyond .ensures) in
-    let b : outside mostBytes (planSize w) ≡ c .before .before .before .before .before .before .beyond2 .result = ap (outside mostBytes) (sym (c .before .before .before .before .before .before .before .size .ensures)) ∙ sym (c .before .before .before .before .before .before .beyond2 .ensures) in
-    c .bad-lengths .ensures ∙ limits-last w (a ∙ c .before .before .before .before .before .before .before .before .if1 .left) (b ∙ c .before .before .before .before .before .if2 .left) (omega arith) (omega (arith, ltb-false)) (omega (arith, ltb-false)) (omega (arith, ltb-false))
+returns-3 c = let w = c .before .before .before .before .before .before .before .before .before .before .before .before .before .args .w .now in
+    let a : outside mostPlaces (planPlaces w) ≡ c .before .before .before .before .before .before .before .before .beyond .result = ap (outside mostPlaces) (sym (c .before .before .before .before .before .before .before .before .before .before .before .places .ensures)) ∙ sym (c .before .before .before .before .before .before .before .before .beyond .ensures) in
+    let b : outside mostBytes (planSize w) ≡ c .before .before .before .before .before .beyond2 .result = ap (outside mostBytes) (sym (c .before .before .before .before .before .before .size .ensures)) ∙ sym (c .before .before .before .before .before .beyond2 .ensures) in
+    limits-last w (a ∙ c .before .before .before .before .before .before .before .if1 .left) (b ∙ c .before .before .before .before .if2 .left) (omega arith) (omega (arith, ltb-false)) (omega (arith, ltb-false)) (omega (arith, ltb-false))
 
 pub bad-limits-spec : {M : Type 1} → statement M
 bad-limits-spec =
@@ -65,5 +62,4 @@ bad-limits-spec =
     beyond-requires-2
     returns
     returns-2
-    bad-lengths-requires
     returns-3)
