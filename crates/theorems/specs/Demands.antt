@@ -62,7 +62,8 @@ pub record LastStep (t planBuffer work information blockBuffer scratchBuffer : L
 
 -- W ones in the M kept checks, g set aside: the additions of planning and then encoding, whatever the buffers and the limit
 pub record AdditionBound (t p : List ℕ) : Type 0 where
-  pub at-least-one : planOf t .M ≤ planOf t .W
+  -- no kept check is empty, so that W − M is a number
+  pub some-ones : planOf t .M ≤ planOf t .W
   pub always : (information blockBuffer scratchBuffer : List ℕ) (limit : ℕ)
       → encodeAnswer p information blockBuffer scratchBuffer limit .additions ≤ 2 * (planOf t .W - planOf t .M) + planOf t .g * (planOf t .g + 1)
   pub four : planOf t .g * (planOf t .g + 1) ≤ 2 * (planOf t .W - planOf t .M) → (information blockBuffer scratchBuffer : List ℕ) (limit : ℕ)
@@ -114,7 +115,7 @@ module _ (t : List ℕ) (ok : refusal t ≡ 0) where
     pub addition-bound : AdditionBound t (numbersOf t)
     unfolding planOf numbersOf
     addition-bound = record {
-      at-least-one = kept-ones (places t) (checks t) (good .distinct) (good .low);
+      some-ones = kept-ones (places t) (checks t) (good .distinct) (good .low);
       always = λ i b c limit. let p = counted i b c limit in let q = adds-most (places t) (checks t) (good .distinct) (good .low) in
           let r = kept-ones (places t) (checks t) (good .distinct) (good .low) in omega arith;
       four = λ h i b c limit. let p = counted i b c limit in let q = adds-bound (places t) (checks t) (good .distinct) (good .low) h in omega arith;
