@@ -51,7 +51,7 @@ fn run(plan: &[u32], s: usize, steps: usize, block: &mut [u8], scratch: &mut [u8
         let to = slots::target(x);
         let fresh = slots::is_clear(x);
         let first = i + skipped(fresh);
-        let count = slots::add_run(
+        let count = runs::add_run(
             plan,
             at + first,
             at + within(first + LONGEST_RUN, steps),

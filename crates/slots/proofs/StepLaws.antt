@@ -1,13 +1,13 @@
 -- Steps decoded: what decoding tells, and the sources passed and left.
 use mathlib.Core.Path.{_≡_, refl, sym, ap, _∙_}
-use mathlib.Core.Bool.{Bool, cond}
+use mathlib.Core.Bool.{cond}
 use mathlib.Core.List.{List, [], _∷_, _++_}
 use mathlib.Core.Option.{Option, none, some}
 use Prim.Native.Nat.{ℕ, suc, _+_, _<_, _≤_}
 use native.Mathlib.Numerals.{add-one}
 use native.Mathlib.Omega.{arith}
 use lib.Dec.{eqb}
-use lib.ListN.{length, getD, take, drop, length-take, length-drop}
+use lib.ListN.{length, getD, take, drop, length-drop}
 use lib.Seq.{take-suc, drop-cons}
 use Rattle.lists.specs.Tests.{byBool}
 use Rattle.plan.specs.declared.Decoded.the-variants.{Valid, Invalid}
@@ -16,8 +16,7 @@ use Rattle.plan.specs.declared.Step.the-variants.{Clear, Add}
 use Rattle.plan.specs.Step.{unpack, decodedOf}
 use Rattle.plan.specs.StepLaws.{unpack-slots}
 use Rattle.slots.specs.RunLaws.{sources-next, sources-past}
-use Rattle.slots.specs.Runs.{noSlot, stepIn, sourceInto, sourceBefore, sourcesOf, Listed}
-use Rattle.slots.specs.Slots.{RunIn, Gathers}
+use Rattle.slots.specs.Runs.{noSlot, stepIn, sourceInto, sourceBefore, sourcesOf}
 
 -- ---- what decoding tells
 pub decoded-valid : (o : Option Step) (x : Step) → decodedOf o ≡ Valid x → x ≡ stepIn o
@@ -92,18 +91,3 @@ module _ (w : List ℕ) (first end to m : ℕ) (inside : end ≤ length w) (p : 
             left = ap (λ (k : ℕ). drop k fs) (add-one m) ∙ r ∙ ap (λ (k : ℕ). sourcesOf w k end to) {x = first + m + 1} {y = first + (m + 1)} (omega arith);
           };
         }
-
--- in buffers of the same length
-pub same-run : {n s b c b′ c′ to : ℕ} {fs : List ℕ} → b′ ≡ b → c′ ≡ c → RunIn n s b c to fs → RunIn n s b′ c′ to fs
-same-run e f h = rw (e, f) h
-
--- ---- a run that is listed
-pub listed-room : {fs : List ℕ} {r : ℕ} {l : List ℕ} → Listed fs r l → r ≤ length l
-listed-room {fs} {r} {l} h = let e = length-take r l in let g = ap length (h .front) in omega (arith, h .count)
-
-pub listed-run : {fs : List ℕ} {r : ℕ} {l : List ℕ} {n s b c to : ℕ} → Listed fs r l → RunIn n s b c to fs → RunIn n s b c to (take r l)
-listed-run h k = rw (h .front) k
-
-pub listed-gathers : {fs : List ℕ} {r : ℕ} {l : List ℕ} {n s : ℕ} {fresh : Bool} {to i j : ℕ} {b c b′ c′ : List ℕ} → Listed fs r l
-    → Gathers n s fresh to (take r l) i j b c b′ c′ → Gathers n s fresh to fs i j b c b′ c′
-listed-gathers h g = rw (h .front) at g

@@ -1,13 +1,13 @@
--- `slots::add_rest` meets its contract: after each turn, the bytes passed of the slot are what the run gives.
+-- `runs::add_rest` meets its contract: after each turn, the bytes passed of the slot are what the run gives.
 use Prim.Native.Nat.{_-_, _≤_}
 use mathlib.Core.Path.{_≡_, refl, _∙_}
 use lib.ListN.{length}
 use Rattle.slots.specs.GatherLaws.{gathers-none, gathers-on, gathers-as}
 use Rattle.slots.specs.Slots.{Gathers}
-use Rattle.slots.proofs.StepLaws.{same-run}
+use Rattle.runs.proofs.ListedLaws.{same-run}
 use native.Mathlib.Omega.{arith}
-use Rattle.slots.proofs.add_rest.Statement.{statement}
-use Rattle.slots.proofs.add_rest.Tie as tie
+use Rattle.runs.proofs.add_rest.Statement.{statement}
+use Rattle.runs.proofs.add_rest.Tie as tie
 
 abbrev Inv-loop : tie.InvT-loop
 Inv-loop sources to fresh n s block₀ scratch₀ off₀ block scratch off =

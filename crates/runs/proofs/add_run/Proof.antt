@@ -1,12 +1,12 @@
--- `slots::add_run` meets its contract: its steps are decoded with the first piece, or before it.
+-- `runs::add_run` meets its contract: its steps are decoded with the first piece, or before it.
 use mathlib.Core.Path.{sym}
 use lib.Seq.{length-take-le}
 use Rattle.slots.specs.GatherLaws.{gathers-on}
-use Rattle.slots.proofs.StepLaws.{same-run, listed-room, listed-run, listed-gathers}
+use Rattle.runs.proofs.ListedLaws.{same-run, listed-room, listed-run, listed-gathers}
 use borrow.Author.Needs.{needs}
 use native.Mathlib.Omega.{arith}
-use Rattle.slots.proofs.add_run.Statement.{statement}
-use Rattle.slots.proofs.add_run.Tie as tie
+use Rattle.runs.proofs.add_run.Statement.{statement}
+use Rattle.runs.proofs.add_run.Tie as tie
 
 array-borrow-prefix-none : tie.Need-array-borrow-prefix-none
 array-borrow-prefix-none c = search needs

@@ -1,8 +1,8 @@
--- `slots::run_part` meets its contract: what the run starts from is added, then its slots, and the sum is put back.
+-- `runs::run_part` meets its contract: what the run starts from is added, then its slots, and the sum is put back.
 use Rattle.slots.specs.GatherLaws.{gathers-part}
 use borrow.Author.Needs.{needs}
-use Rattle.slots.proofs.run_part.Statement.{statement}
-use Rattle.slots.proofs.run_part.Tie as tie
+use Rattle.runs.proofs.run_part.Statement.{statement}
+use Rattle.runs.proofs.run_part.Tie as tie
 
 add-base-requires : tie.Need-add-base-requires
 add-base-requires c κs = search needs

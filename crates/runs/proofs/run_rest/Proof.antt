@@ -1,14 +1,14 @@
--- `slots::run_rest` meets its contract: a part of 64 bytes of zeros.
+-- `runs::run_rest` meets its contract: a part of 64 bytes of zeros.
 use Prim.Native.Nat.{ℕ, _+_, _-_}
 use mathlib.Core.Path.{_≡_, sym, ap, _∙_}
 use lib.ListN.{length, take, replicate}
 use lib.Seq.{length-take-le}
 use Rattle.table.specs.SumLaws.{part-zeros}
 use Rattle.slots.specs.GatherLaws.{gathers-as}
 use borrow.Author.Needs.{needs}
 use native.Mathlib.Omega.{arith}
-use Rattle.slots.proofs.run_rest.Statement.{statement}
-use Rattle.slots.proofs.run_rest.Tie as tie
+use Rattle.runs.proofs.run_rest.Statement.{statement}
+use Rattle.runs.proofs.run_rest.Tie as tie
 
 sub-k : tie.Need-sub-k
 sub-k c = search needs
