@@ -2,7 +2,8 @@
 use mathlib.Core.Path.{_≡_, refl, sym, ap, ap₂, _∙_, subst}
 use mathlib.Core.Bool.{Bool, true, false, cond, not, true≢false}
 use mathlib.Core.List.{List, [], _∷_, _++_, map}
-use Prim.Native.Nat.{ℕ, suc, _+_, _*_, _^_, _<_, _≤_}
+use Prim.Native.Nat.{ℕ, zero, suc, _+_, _*_, _/_, _^_, _<_, _≤_}
+use native.Mathlib.Nat.{pow-suc}
 use native.Mathlib.Omega.{arith}
 use lib.Dec.{eqb}
 use lib.ListN.{length, getD, take, replicate, length-map}
@@ -10,12 +11,12 @@ use lib.Seq.{slice, slice-empty, length-slice, length-take-le, getD-take}
 use Rattle.gf2.specs.Gf2.{XorGroup, bit, num, isZero, column, choose, rowOf, comb, isSum}
 use Rattle.gf2.specs.Bit.{bits-zero, bit-pow}
 use Rattle.lists.specs.Tests.{eqb-true, eqb-self, byBool}
-use Rattle.gf2.specs.Columns.{isZero-sound, column-lt, pair-column}
-use Rattle.lists.specs.Lists.{below, Distinct, rev, has, filter, All, All.nil, All.cons}
+use Rattle.gf2.specs.Columns.{isZero-sound, column-lt, pair, pair-column}
+use Rattle.lists.specs.Lists.{bxor, below, Distinct, rev, has, filter, All, All.nil, All.cons}
 use Rattle.lists.specs.ListLaws.{all-in, getD-zeros, getD-has, append-nil, length-rev}
 use Rattle.gf2.specs.Span.{span-zero, isSum-complete}
 use Rattle.gf2.specs.Unique.{mask-unique}
-use Rattle.gf2.specs.Rank.{Zero}
+use Rattle.gf2.specs.Rank.{Zero, hom-o}
 use Rattle.table.specs.Accepted.{Located, by-number}
 use Rattle.table.specs.Checks.{check}
 use Rattle.table.specs.Table.{number, places, checks}
@@ -26,10 +27,11 @@ use Rattle.rule.specs.Inverse.{pow, res-bit-in}
 use Rattle.rule.specs.AllChecksZero.{ts, az, E, C, F, same, own-zero, dF, ind, good, lens}
 use Rattle.gf2.specs.Linear.{lin-comb}
 use Rattle.gf2.specs.RowValue.{valOn-lin, sum-ext-in}
-use Rattle.columns.specs.Dot.{dot}
-use Rattle.columns.specs.Fitting.{Aside, Units, Scan, Ready}
+use Rattle.masks.specs.Dot.{dot}
+use Rattle.masks.specs.DotLaws.{dot-hom, dot-digit, dot-unit}
+use Rattle.masks.specs.Scan.{Units, Scan}
+use Rattle.columns.specs.Fitting.{Aside, Ready}
 use Rattle.columns.specs.Cols.{Columns, Taken}
-use Rattle.columns.proofs.Dots.{dot-unit, pair-dot, length-bits}
 
 -- ---- the start: unit masks, all of them free
 pub start : (R : List ℕ) (n g : ℕ) {M F : List ℕ} → g ≡ length R → Units g M → g ≤ length M → g ≤ length F → Scan (column R) (choose XorGroup isZero (column R) [] (below n)) g n g M F
@@ -76,6 +78,17 @@ rev-rev (x ∷ l) = rev-snoc (rev l) x ∙ ap (λ r. x ∷ r) (rev-rev l)
 all-at : {P : ℕ → Type 0} (l : List ℕ) → ((i : ℕ) → i < length l → P (getD l i 0)) → All P l
 all-at [] h = nil
 all-at (x ∷ l) h = cons (h 0 (omega arith)) (all-at l (λ i k. h (suc i) (omega arith)))
+
+-- ---- a mask as a list of digits
+pair-dot : (g m x : ℕ) → x < 2 ^ g → pair (maskBits g m) x ≡ dot m x
+pair-dot zero m x h = let z : x ≡ 0 = omega arith in sym (ap (dot m) z ∙ hom-o XorGroup (dot-hom m))
+pair-dot (suc g) m x h = let ih = pair-dot g (m / 2) (x / 2) (omega (arith, pow-suc 2 g)) in byBool (bit 0 m)
+    (λ e. rw e (ap (bxor (bit 0 x)) ih ∙ sym (dot-digit m x ∙ rw e)))
+    (λ e. rw e (ih ∙ sym (dot-digit m x ∙ rw e)))
+
+length-bits : (g m : ℕ) → length (maskBits g m) ≡ g
+length-bits zero m = refl
+length-bits (suc g) m = ap suc (length-bits g (m / 2))
 
 -- ---- the end
 module _ (n : ℕ) (cs : List (List ℕ)) (d : All Distinct cs) (low : All (λ c. All (λ p. p < n) c) cs) where

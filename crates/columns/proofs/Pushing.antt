@@ -2,13 +2,12 @@
 use mathlib.Core.Path.{_≡_, refl, sym, ap, ap₂, _∙_}
 use mathlib.Core.Bool.{Bool, true, false, cond}
 use mathlib.Core.List.{List, [], _∷_, _++_, map}
-use Prim.Native.Nat.{ℕ, suc, _+_, _*_, _%_, _^_, _<_}
+use Prim.Native.Nat.{ℕ, suc, _+_, _*_, _^_, _<_}
 use native.Mathlib.Nat.{pow-suc}
 use native.Mathlib.Numerals.{add-one}
 use native.Mathlib.Omega.{arith}
 use lib.ListN.{length, getD, take, drop, length-take}
 use lib.Seq.{getD-drop, getD-take, take-suc, length-take-le}
-use lib.Pow.{shl-exact}
 use lib.Bits.{bitXor, xor-block, xor-zero-r}
 use lib.Dec.{eqb}
 use Rattle.lists.specs.Lists.{bxor, has, par}
@@ -133,10 +132,6 @@ column-snoc [] e p = byBool (bit p e) (λ k. rw k) (λ k. rw k)
 column-snoc (x ∷ E) e p = ap (λ (a : ℕ). a * 2 + num (bit p x)) (column-snoc E e p) ∙ byBool (bit p e)
     (λ k. rw k (snoc-digit (column E p) (length E) (bit p x)))
     (λ k. rw k (ap (λ (a : ℕ). a * 2 + num (bit p x)) (xor-zero-r (column E p)) ∙ sym (xor-zero-r (column E p * 2 + num (bit p x)))))
-
--- the code's 1 << i
-pub unit-word : (i : ℕ) → i < 32 → 1 * 2 ^ i % 2 ^ 32 ≡ 2 ^ i
-unit-word i h = shl-exact 1 i 32 (omega arith) (omega arith) ∙ omega arith
 
 rows-snoc : (g : ℕ → List ℕ) (l : List ℕ) (j : ℕ) → map rowOf (map g (l ++ (j ∷ []))) ≡ map rowOf (map g l) ++ (rowOf (g j) ∷ [])
 rows-snoc g [] j = refl

@@ -1,11 +1,14 @@
-// Live checks: how many hold each place, and the place in exactly one of them.
+// Live checks: how many hold each place, the place in exactly one of them, and the heaviest of them.
 ghost use mathlib.Core.Path.{_≡_};
 ghost use Prim.Native.Nat.{ℕ, _+_, _≤_, _<_};
 ghost use lib.Dec.{eqb};
 ghost use lib.ListN.{length, getD, take, drop};
 ghost use Rattle.lists.specs.Lists.{highest};
+ghost use Rattle.table.specs.Accepted.{Accepted};
 ghost use Rattle.table.specs.Checks.{Places};
+ghost use Rattle.table.specs.Table.{places, size};
 ghost use Rattle.live.specs.Live.{Noted, Forgot, Raised, found};
+ghost use Rattle.live.specs.Heaviest.{lives, heaviestFrom, weight};
 
 pub enum Found {
     At(usize),
@@ -81,4 +84,26 @@ pub fn raise(count: &[u16], t: &[u16], at: usize, weight: usize, top: usize) -> 
         i += 1;
     }
     r
+}
+
+// the first live check of greatest weight, or m
+pub fn heaviest_of(t: &[u16], m: usize, live: &[u8]) -> usize
+    requires table { ⌜ Accepted (now t) m (places (now t)) (size (now t)) ⌝ }
+    requires flags { ⌜ m ≤ length (now live) ⌝ }
+    ensures { λ r. ⌜ r ≡ heaviestFrom (weight (now (t .entry))) m 0 (lives (now (live .entry)) 0 m) ⌝ }
+{
+    let mut best = m;
+    let mut w = 0;
+    let mut i = 0;
+    while i < m {
+        if live[i] == 1 {
+            let k = table::wide(t[4 + i]);
+            if w <= k {
+                best = i;
+                w = k + 1;
+            }
+        }
+        i += 1;
+    }
+    best
 }

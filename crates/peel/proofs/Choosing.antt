@@ -14,9 +14,10 @@ use Rattle.rule.specs.Buffers.{peeling, solved}
 use Rattle.rule.specs.Rule.{kept, peel, solvedOf, setAsideOf}
 use Rattle.bits.specs.Front.{Front}
 use Rattle.keep.specs.Kept.{keptOf}
+use Rattle.live.specs.Heaviest.{weight}
 use Rattle.peel.proofs.KeptNumbers.{kept-numbers}
 use Rattle.peel.specs.Choice.{ChoiceOf}
-use Rattle.peel.specs.Turn.{weight, Room, Numbers, Peeled}
+use Rattle.peel.specs.Turn.{Room, Numbers, Peeled}
 use Rattle.peel.proofs.KeptLive.{kept-all, kept-few}
 
 pub numbers-of : {t : List ℕ} {m : ℕ} {ids e : List ℕ} {r : ℕ} → Front (keptOf t m) ids e r → Numbers t m e r

@@ -15,9 +15,10 @@ use Rattle.rule.specs.Buffers.{solved}
 use Rattle.table.specs.Accepted.{Located}
 use Rattle.table.specs.Checks.{check}
 use Rattle.rule.specs.Rule.{Solved, inOneOnly, heaviest, peel, solvedOf, setAsideOf, PeelEvent, took, aside}
+use Rattle.live.specs.Heaviest.{lives}
 use Rattle.peel.specs.declared.Event.{Event}
 use Rattle.peel.specs.declared.Event.the-variants.{Took, Aside}
-use Rattle.peel.specs.Turn.{lives, less, In, Pick, Picked, Picked.by-place, Picked.by-weight, Ready, Removed, Low, Peeled}
+use Rattle.peel.specs.Turn.{less, In, Pick, Picked, Picked.by-place, Picked.by-weight, Ready, Removed, Low, Peeled}
 use Rattle.peel.proofs.Turns.{in-length, in-flag}
 
 pub record PlaceSays (g : ℕ → List ℕ) (JS : List ℕ) (n p j : ℕ) : Type 0 where

@@ -18,7 +18,8 @@ use Rattle.rule.specs.Rule.{count}
 use Rattle.keep.specs.Kept.{keptOf}
 use Rattle.live.specs.Live.{Tally, Noted}
 use Rattle.live.specs.TallyLaws.{tally-more}
-use Rattle.peel.specs.Turn.{lives, weight, Ready, Numbers, Zeros, Entered, First, Peeled}
+use Rattle.live.specs.Heaviest.{lives, weight}
+use Rattle.peel.specs.Turn.{Ready, Numbers, Zeros, Entered, First, Peeled}
 
 -- ---- the kept numbers rise
 from-all : (i c : ℕ) → All (λ j. (i ≤ j) × (j < i + c)) (from i c)

@@ -3,15 +3,14 @@ use mathlib.Core.Path.{_≡_, refl, sym, ap, ap₂, _∙_, subst}
 use mathlib.Core.Bool.{Bool, true, false, cond, true≢false}
 use mathlib.Core.List.{List, [], _∷_, map}
 use mathlib.Core.Option.{Option, none, some}
-use Prim.Native.Nat.{ℕ, zero, suc, _+_, _-_, _<_, _≤_, max}
+use Prim.Native.Nat.{ℕ, zero, suc, _+_, _<_, _≤_, max}
 use native.Mathlib.Nat.{suc-inj}
-use native.Mathlib.Numerals.{add-one}
 use native.Mathlib.Omega.{arith}
 use lib.ListN.{length, getD, set, take, drop, length-set, length-drop, length-take}
 use lib.Seq.{getD-drop, getD-take, getD-set-same, getD-set-other}
 use lib.Bits.{bitXor, xor-zero-r, xor-zero-l}
 use lib.Dec.{eqb, leb}
-use borrow.Author.Tests.{leb-true, leb-false, le-leb, lt-leb, eq-eqb, ne-eqb}
+use borrow.Author.Tests.{leb-true, leb-false, eq-eqb, ne-eqb}
 use Rattle.gf2.specs.Gf2.{XorGroup, sumOver}
 use Rattle.table.specs.Accepted.{Accepted, each-places}
 use Rattle.table.specs.Checks.{check, offset}
@@ -21,10 +20,11 @@ use Rattle.lists.specs.Lists.{highest, has, All, All.nil, All.cons}
 use Rattle.lists.specs.ListLaws.{highest-is}
 use Rattle.rule.specs.Rule.{count, first, without, heaviest, greatest}
 use Rattle.live.specs.Live.{Tally, Forgot, found}
+use Rattle.live.specs.Heaviest.{lives, heaviestFrom, weight}
 use Rattle.live.specs.declared.Found.the-variants.{At, Nothing}
 use Rattle.peel.specs.declared.Event.the-variants.{Took, Aside}
 use Rattle.live.specs.TallyLaws.{Out, Out.here as ohere, Out.there as othere, tally-less, single-is}
-use Rattle.peel.specs.Turn.{lives, less, heaviestFrom, weight, In, In.here, In.there, Pick, Picked, Picked.by-place, Picked.by-weight, Ready, Removed}
+use Rattle.peel.specs.Turn.{less, In, In.here, In.there, Pick, Picked, Picked.by-place, Picked.by-weight, Ready, Removed}
 
 -- ---- a place in one live check names it
 abbrev name : (ℕ → List ℕ) → ℕ → ℕ → ℕ
@@ -109,35 +109,6 @@ heaviest-pick g f b {JS} a h = go (hv-is g f b 0 a) h where
   go : HV g b 0 JS (heaviestFrom f b 0 JS) → 0 < length JS → Pick g (heaviest (map g JS)) JS (heaviestFrom f b 0 JS)
   go (stay e z) l = absurd (none JS z l)
   go (got l p) k = p
-
--- ---- the scan of the flags
-pub lives-hit : (live : List ℕ) (i m : ℕ) → i < m → getD live i 0 ≡ 1 → lives live i (m - i) ≡ i ∷ lives live (i + 1) (m - (i + 1))
-unfolding lives
-lives-hit live i m h e =
-    let q : m - i ≡ suc (m - (i + 1)) = omega arith in
-    ap (lives live i) q ∙ rw (eq-eqb _ _ e) (ap (λ (k : ℕ). i ∷ lives live k (m - (i + 1))) (sym (add-one i)))
-
-pub lives-miss : (live : List ℕ) (i m : ℕ) → i < m → (getD live i 0 ≡ 1 → ⊥) → lives live i (m - i) ≡ lives live (i + 1) (m - (i + 1))
-unfolding lives
-lives-miss live i m h e =
-    let q : m - i ≡ suc (m - (i + 1)) = omega arith in
-    ap (lives live i) q ∙ rw (ne-eqb _ _ e) (ap (λ (k : ℕ). lives live k (m - (i + 1))) (sym (add-one i)))
-
-pub lives-end : (f : ℕ → ℕ) (b w : ℕ) (live : List ℕ) (m : ℕ) → heaviestFrom f b w (lives live m (m - m)) ≡ b
-unfolding lives heaviestFrom
-lives-end f b w live m = let q : m - m ≡ 0 = omega arith in rw q
-
-pub hv-up : (f : ℕ → ℕ) (b w i : ℕ) (R : List ℕ) → w ≤ f i → heaviestFrom f b w (i ∷ R) ≡ heaviestFrom f i (f i + 1) R
-unfolding heaviestFrom
-hv-up f b w i R h = rw (le-leb w (f i) h, heaviestFrom)
-
-pub hv-keep : (f : ℕ → ℕ) (b w i : ℕ) (R : List ℕ) → f i < w → heaviestFrom f b w (i ∷ R) ≡ heaviestFrom f b w R
-unfolding heaviestFrom
-hv-keep f b w i R h = rw (lt-leb w (f i) h, heaviestFrom)
-
-pub weight-is : (t : List ℕ) (i : ℕ) → weight t i ≡ getD t (4 + i) 0
-unfolding weight
-weight-is t i = refl
 
 -- ---- the picking
 pub check-length : (t : List ℕ) (m n j : ℕ) → Accepted t m n (size t) → j < m → weight t j ≡ length (check t m j)

@@ -1,34 +1,25 @@
 -- One turn of steps 2 and 3 on the numbers of the checks.
 use mathlib.Core.Path.{_≡_}
-use mathlib.Core.Bool.{Bool, true, false, cond}
+use mathlib.Core.Bool.{Bool, true, cond}
 use mathlib.Core.List.{List, [], _∷_, map}
 use mathlib.Core.Option.{none, some}
-use Prim.Native.Nat.{ℕ, zero, suc, _+_, _<_, _≤_}
+use Prim.Native.Nat.{ℕ, _+_, _<_, _≤_}
 use lib.ListN.{length, getD, set, take}
-use lib.Dec.{eqb, leb}
+use lib.Dec.{eqb}
 use Rattle.lists.specs.Lists.{highest, has}
 use Rattle.rule.specs.Buffers.{solved}
 use Rattle.table.specs.Checks.{check}
 use Rattle.rule.specs.Rule.{count, inOneOnly, first, without, heaviest, peel, solvedOf, setAsideOf}
 use Rattle.live.specs.Live.{Tally, Noted}
+use Rattle.live.specs.Heaviest.{lives}
 use Rattle.keep.specs.Kept.{keptOf}
 use Rattle.peel.specs.declared.Event.{Event}
 use Rattle.peel.specs.declared.Event.the-variants.{Took, Aside}
-
--- the live ones among c numbers from i
-unfoldable pub lives : List ℕ → ℕ → ℕ → List ℕ
-lives live i zero = []
-lives live i (suc c) = cond (eqb (getD live i 0) 1) (i ∷ lives live (suc i) c) (lives live (suc i) c)
 
 -- j taken out
 unfoldable pub less : ℕ → List ℕ → List ℕ
 less j [] = []
 less j (i ∷ JS) = cond (eqb i j) JS (i ∷ less j JS)
-
--- the first of greatest weight so far is b, all before are lighter than w
-unfoldable pub heaviestFrom : (ℕ → ℕ) → ℕ → ℕ → List ℕ → ℕ
-heaviestFrom f b w [] = b
-heaviestFrom f b w (j ∷ JS) = elim (leb w (f j)) [ true ↦ heaviestFrom f j (f j + 1) JS | false ↦ heaviestFrom f b w JS ]
 
 -- j is one of them
 pub data In (j : ℕ) : List ℕ → Type 0 where
@@ -53,10 +44,6 @@ pub record Ready (t : List ℕ) (m n : ℕ) (live count names : List ℕ) : Type
   pub counts : n ≡ length count
   pub named : n ≤ length names
   pub tally : Tally (check t m) (lives live 0 m) count names
-
--- the weight of check j
-unfoldable pub weight : List ℕ → ℕ → ℕ
-weight t j = getD t (4 + j) 0
 
 -- check j is no longer live
 pub record Removed (t : List ℕ) (m n j : ℕ) (live₀ live count names : List ℕ) : Type 0 where

@@ -11,35 +11,14 @@ ghost use Rattle.table.specs.Checks.{check};
 ghost use Rattle.table.specs.Table.{total, places, size};
 ghost use Rattle.keep.specs.Kept.{keptOf};
 ghost use Rattle.live.specs.Live.{Calm};
+ghost use Rattle.live.specs.Heaviest.{lives, weight};
 ghost use Rattle.peel.specs.Choice.{ChoiceOf};
-ghost use Rattle.peel.specs.Turn.{lives, heaviestFrom, weight, In, Ready, Picked, Removed, Room, Peeled};
+ghost use Rattle.peel.specs.Turn.{In, Ready, Picked, Removed, Room, Peeled};
 ghost use Rattle.peel.specs.Turn.{Numbers, Fresh, Entered, First};
 
 pub enum Event {
     Took(usize, usize),
     Aside(usize),
-}
-
-// the first live check of greatest weight, or m
-fn heaviest_of(t: &[u16], m: usize, live: &[u8]) -> usize
-    requires table { ⌜ Accepted (now t) m (places (now t)) (size (now t)) ⌝ }
-    requires flags { ⌜ m ≤ length (now live) ⌝ }
-    ensures { λ r. ⌜ r ≡ heaviestFrom (weight (now (t .entry))) m 0 (lives (now (live .entry)) 0 m) ⌝ }
-{
-    let mut best = m;
-    let mut w = 0;
-    let mut i = 0;
-    while i < m {
-        if live[i] == 1 {
-            let k = table::wide(t[4 + i]);
-            if w <= k {
-                best = i;
-                w = k + 1;
-            }
-        }
-        i += 1;
-    }
-    best
 }
 
 // the next event; the scan starts from top
@@ -60,7 +39,7 @@ fn pick(
 {
     match live::single(count, top) {
         Found::At(p) => Event::Took(p, table::wide(names[p])),
-        Found::Nothing => Event::Aside(heaviest_of(t, m, live)),
+        Found::Nothing => Event::Aside(live::heaviest_of(t, m, live)),
     }
 }
 

@@ -4,7 +4,8 @@ use Rattle.gf2.specs.Gf2.{rowOf}
 use Rattle.table.specs.Accepted.{has-weights, each-places, places-wide}
 use Rattle.table.specs.Checks.{check, offset}
 use Rattle.columns.specs.Cols.{Columns}
-use Rattle.columns.proofs.Pushing.{fill-turn, unit-word}
+use Rattle.masks.specs.DotLaws.{unit-word}
+use Rattle.columns.proofs.Pushing.{fill-turn}
 use Prim.Native.Nat.{_+_, _-_, _≤_, _<_}
 use mathlib.Core.Path.{_≡_, refl, _∙_}
 use native.Mathlib.Omega.{arith}

@@ -1,12 +1,12 @@
--- `columns::units` meets its contract: i masks are units.
-use Rattle.columns.proofs.Masks.{units-more}
-use Rattle.columns.proofs.Pushing.{unit-word}
+-- `masks::units` meets its contract: i masks are units.
+use Rattle.masks.proofs.Masks.{units-more}
+use Rattle.masks.specs.DotLaws.{unit-word}
 use Prim.Native.Nat.{ℕ, _-_, _^_, _≤_, _<_}
 use mathlib.Core.Path.{_≡_, refl}
 use native.Mathlib.Omega.{arith}
 use lib.ListN.{length, getD, length-set}
-use Rattle.columns.proofs.units.Statement.{statement}
-use Rattle.columns.proofs.units.Tie as tie
+use Rattle.masks.proofs.units.Statement.{statement}
+use Rattle.masks.proofs.units.Tie as tie
 
 abbrev Inv-loop : tie.InvT-loop
 Inv-loop masks₀ g i₀ masks i = (i ≤ g) × (length masks ≡ length masks₀) × ((k : ℕ) → k < i → getD masks k 0 ≡ 2 ^ k)

@@ -12,10 +12,10 @@ use lib.Seq.{slice, slice-empty, slice-cons, getD-set-same, getD-set-other, take
 use Rattle.gf2.specs.Gf2.{XorGroup, isZero, choose, isSum}
 use Rattle.lists.specs.Lists.{bxor, below, rev, All, All.nil, All.cons}
 use Rattle.lists.specs.Tests.{eqb-true, eqb-false, eqb-comm, eqb-lt, byBool}
-use Rattle.columns.specs.Dot.{dot}
-use Rattle.columns.specs.Fitting.{mended, Tied, Scan}
-use Rattle.columns.proofs.Dots.{dot-hom, dot-mend}
-use Rattle.columns.proofs.Dual.{Dual, cols, Duals, Duals.done, Duals.also, clear, clear-keeps, clear-clears, clear-low, sum-all, sum-not}
+use Rattle.masks.specs.Dot.{dot}
+use Rattle.masks.specs.Scan.{mended, Tied, Scan}
+use Rattle.masks.specs.DotLaws.{dot-hom, dot-mend}
+use Rattle.masks.proofs.Dual.{Dual, cols, Duals, Duals.done, Duals.also, clear, clear-keeps, clear-clears, clear-low, sum-all, sum-not}
 
 -- ---- the tied masks as a list
 module _ (f : ℕ → ℕ) (M F : List ℕ) where

@@ -1,12 +1,12 @@
--- `columns::fit` meets its contract: `Scan` holds at each turn.
-use Rattle.columns.specs.Fitting.{Scan}
+-- `masks::fit` meets its contract: `Scan` holds at each turn.
+use Rattle.masks.specs.Scan.{Scan}
 use Prim.Native.Nat.{ℕ, _+_, _-_, _≤_, _<_}
 use mathlib.Core.Path.{_≡_, refl, _∙_}
 use mathlib.Core.List.{List}
 use native.Mathlib.Omega.{arith}
 use lib.ListN.{length, getD}
-use Rattle.columns.proofs.fit.Statement.{statement}
-use Rattle.columns.proofs.fit.Tie as tie
+use Rattle.masks.proofs.fit.Statement.{statement}
+use Rattle.masks.proofs.fit.Tie as tie
 
 abbrev Inv-loop : tie.InvT-loop
 Inv-loop col n g masks₀ fitted₀ free₀ k₀ masks fitted free k =

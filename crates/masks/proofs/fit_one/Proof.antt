@@ -1,9 +1,9 @@
--- `columns::fit_one` meets its contract.
-use Rattle.columns.proofs.Scanning.{one-skipped, one-taken}
+-- `masks::fit_one` meets its contract.
+use Rattle.masks.proofs.Scanning.{one-skipped, one-taken}
 use native.Mathlib.Omega.{arith}
 use borrow.Author.Needs.{needs}
-use Rattle.columns.proofs.fit_one.Statement.{statement}
-use Rattle.columns.proofs.fit_one.Tie as tie
+use Rattle.masks.proofs.fit_one.Statement.{statement}
+use Rattle.masks.proofs.fit_one.Tie as tie
 
 find-requires : tie.Need-find-requires
 find-requires c κs = search needs

@@ -1,13 +1,13 @@
--- `peel::heaviest_of` meets its contract: the rest of the scan decides.
+-- `live::heaviest_of` meets its contract: the rest of the scan decides.
 use Rattle.table.specs.Accepted.{has-weights}
-use Rattle.peel.specs.Turn.{lives, heaviestFrom, weight}
-use Rattle.peel.proofs.Turns.{lives-hit, lives-miss, lives-end, hv-up, hv-keep, weight-is}
+use Rattle.live.specs.Heaviest.{lives, heaviestFrom, weight}
+use Rattle.live.proofs.Weighing.{lives-hit, lives-miss, lives-end, hv-up, hv-keep, weight-is}
 use Prim.Native.Nat.{_+_, _-_, _≤_}
 use mathlib.Core.Path.{_≡_, sym, ap, _∙_}
 use mathlib.Core.Logic.{⊎-elim}
 use native.Mathlib.Omega.{arith}
-use Rattle.peel.proofs.heaviest_of.Statement.{statement}
-use Rattle.peel.proofs.heaviest_of.Tie as tie
+use Rattle.live.proofs.heaviest_of.Statement.{statement}
+use Rattle.live.proofs.heaviest_of.Tie as tie
 
 abbrev Inv-loop : tie.InvT-loop
 Inv-loop t m live best₀ w₀ i₀ best w i = (i ≤ m) × (heaviestFrom (weight t) m 0 (lives live 0 m) ≡ heaviestFrom (weight t) best w (lives live i (m - i)))

@@ -1,10 +1,10 @@
--- `columns::tie` meets its contract.
-use Rattle.columns.proofs.Masks.{tied}
+-- `masks::tie` meets its contract.
+use Rattle.masks.proofs.Masks.{tied}
 use native.Mathlib.Omega.{arith}
 use lib.ListN.{length-set}
 use borrow.Author.Needs.{needs}
-use Rattle.columns.proofs.tie.Statement.{statement}
-use Rattle.columns.proofs.tie.Tie as tie
+use Rattle.masks.proofs.tie.Statement.{statement}
+use Rattle.masks.proofs.tie.Tie as tie
 
 mul-v : tie.Need-mul-v
 mul-v c = search needs

@@ -1,13 +1,13 @@
--- `columns::find` meets its contract: no mask below i sees the column.
-use Rattle.columns.specs.Dot.{dot}
-use Rattle.columns.proofs.Masks.{blind-more}
+-- `masks::find` meets its contract: no mask below i sees the column.
+use Rattle.masks.specs.Dot.{dot}
+use Rattle.masks.proofs.Masks.{blind-more}
 use Prim.Native.Nat.{ℕ, _-_, _≤_, _<_}
 use mathlib.Core.Path.{_≡_, sym, _∙_}
 use mathlib.Core.Bool.{false}
 use native.Mathlib.Omega.{arith}
 use lib.ListN.{getD}
-use Rattle.columns.proofs.find.Statement.{statement}
-use Rattle.columns.proofs.find.Tie as tie
+use Rattle.masks.proofs.find.Statement.{statement}
+use Rattle.masks.proofs.find.Tie as tie
 
 abbrev Inv-loop : tie.InvT-loop
 Inv-loop masks free c i₀ i = (i ≤ free) × ((k : ℕ) → k < i → dot (getD masks k 0) c ≡ false)

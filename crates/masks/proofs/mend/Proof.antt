@@ -1,10 +1,10 @@
--- `columns::mend` meets its contract: i masks are mended.
-use Rattle.columns.proofs.Masks.{Part, part-none, part-turn, part-all}
+-- `masks::mend` meets its contract: i masks are mended.
+use Rattle.masks.proofs.Masks.{Part, part-none, part-turn, part-all}
 use Prim.Native.Nat.{_-_, _≤_}
 use mathlib.Core.Path.{_≡_}
 use native.Mathlib.Omega.{arith}
-use Rattle.columns.proofs.mend.Statement.{statement}
-use Rattle.columns.proofs.mend.Tie as tie
+use Rattle.masks.proofs.mend.Statement.{statement}
+use Rattle.masks.proofs.mend.Tie as tie
 
 abbrev Inv-loop : tie.InvT-loop
 Inv-loop masks₀ g v c i₀ masks i = (i ≤ g) × Part i v c masks₀ masks

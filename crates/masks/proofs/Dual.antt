@@ -70,30 +70,3 @@ sum-not {φ} {D} h z x o = byBool (isSum XorGroup isZero (cols D) x)
 pub clear-low : (g : ℕ) {D : List Dual} → All (λ d. d .col < 2 ^ g) D → (x : ℕ) → x < 2 ^ g → clear D x < 2 ^ g
 clear-low g nil x h = h
 clear-low g (cons {x = d} p ps) x h = clear-low g ps (cond (d .test x) (bitXor (d .col) x) x) (byBool (d .test x) (λ k. rw k (xor-lt g (d .col) x p h)) (λ k. rw k h))
-
--- ---- four truth values
-pub bxor4 : (a b c d : Bool) → bxor (bxor a b) (bxor c d) ≡ bxor (bxor a c) (bxor b d)
-bxor4 a b true true = go a b where
-  go : (a b : Bool) → bxor (bxor a b) false ≡ bxor (bxor a true) (bxor b true)
-  go true true = refl
-  go true false = refl
-  go false true = refl
-  go false false = refl
-bxor4 a b true false = go a b where
-  go : (a b : Bool) → bxor (bxor a b) true ≡ bxor (bxor a true) (bxor b false)
-  go true true = refl
-  go true false = refl
-  go false true = refl
-  go false false = refl
-bxor4 a b false true = go a b where
-  go : (a b : Bool) → bxor (bxor a b) true ≡ bxor (bxor a false) (bxor b true)
-  go true true = refl
-  go true false = refl
-  go false true = refl
-  go false false = refl
-bxor4 a b false false = go a b where
-  go : (a b : Bool) → bxor (bxor a b) false ≡ bxor (bxor a false) (bxor b false)
-  go true true = refl
-  go true false = refl
-  go false true = refl
-  go false false = refl

@@ -1,9 +1,9 @@
--- `columns::mend_one` meets its contract.
-use Rattle.columns.proofs.Masks.{mended-on, mended-off}
+-- `masks::mend_one` meets its contract.
+use Rattle.masks.proofs.Masks.{mended-on, mended-off}
 use mathlib.Core.Path.{sym, _∙_}
 use borrow.Author.Needs.{needs}
-use Rattle.columns.proofs.mend_one.Statement.{statement}
-use Rattle.columns.proofs.mend_one.Tie as tie
+use Rattle.masks.proofs.mend_one.Statement.{statement}
+use Rattle.masks.proofs.mend_one.Tie as tie
 
 sees-requires : tie.Need-sees-requires
 sees-requires c κs = search needs

@@ -9,8 +9,8 @@ use lib.Dec.{eqb}
 use lib.ListN.{length, getD, set, length-set}
 use lib.Seq.{getD-set-same, getD-set-other}
 use Rattle.lists.specs.Tests.{eqb-true, eqb-false, byBool}
-use Rattle.columns.specs.Dot.{dot}
-use Rattle.columns.specs.Fitting.{mended, Mended, Tied}
+use Rattle.masks.specs.Dot.{dot}
+use Rattle.masks.specs.Scan.{mended, Mended, Tied}
 
 -- ---- one element more
 more : {P : ℕ → Type 0} (i : ℕ) → ((k : ℕ) → k < i → P k) → P i → (k : ℕ) → k < i + 1 → P k

@@ -1,25 +1,49 @@
--- The parity is linear on both sides.
+-- Laws of a mask against a column: the parity is linear on both sides, and a unit mask sees one digit.
 use mathlib.Core.Path.{_≡_, refl, sym, ap, ap₂, _∙_}
 use mathlib.Core.Bool.{Bool, true, false, cond}
-use Prim.Native.Nat.{ℕ, zero, suc, _+_, _/_, _%_, _^_, _<_}
+use Prim.Native.Nat.{ℕ, zero, suc, _+_, _*_, _/_, _%_, _^_, _<_}
 use native.Mathlib.Nat.{pow-suc, mul-div-cancel}
 use native.Mathlib.Omega.{arith}
 use lib.Arith.{bin-ind}
 use lib.Bits.{bitAnd, bitXor, and-shr, and-mod, and-comm, and-zero-l, and-mask, xor-shr, xor-mod}
 use lib.Count.{ones, ones-step, ones-le}
+use lib.Pow.{shl-exact}
 use lib.Dec.{eqb, eqb·zero-suc}
-use lib.ListN.{length}
 use Rattle.gf2.specs.Gf2.{XorGroup, odd, bit}
 use Rattle.lists.specs.Lists.{bxor}
 use Rattle.gf2.specs.Xor.{two-pos}
 use Rattle.gf2.specs.Bit.{bit-pow}
-use Rattle.gf2.specs.Columns.{pair}
-use Rattle.lists.specs.Tests.{byBool}
-use Rattle.gf2.specs.Rank.{Hom, hom-o}
-use Rattle.rule.specs.Buffers.{maskBits}
-use Rattle.columns.specs.Dot.{dot}
-use Rattle.columns.proofs.Dual.{bxor4}
+use Rattle.gf2.specs.Rank.{Hom}
+use Rattle.masks.specs.Dot.{dot}
 
+-- ---- four truth values
+bxor4 : (a b c d : Bool) → bxor (bxor a b) (bxor c d) ≡ bxor (bxor a c) (bxor b d)
+bxor4 a b true true = go a b where
+  go : (a b : Bool) → bxor (bxor a b) false ≡ bxor (bxor a true) (bxor b true)
+  go true true = refl
+  go true false = refl
+  go false true = refl
+  go false false = refl
+bxor4 a b true false = go a b where
+  go : (a b : Bool) → bxor (bxor a b) true ≡ bxor (bxor a true) (bxor b false)
+  go true true = refl
+  go true false = refl
+  go false true = refl
+  go false false = refl
+bxor4 a b false true = go a b where
+  go : (a b : Bool) → bxor (bxor a b) true ≡ bxor (bxor a false) (bxor b true)
+  go true true = refl
+  go true false = refl
+  go false true = refl
+  go false false = refl
+bxor4 a b false false = go a b where
+  go : (a b : Bool) → bxor (bxor a b) false ≡ bxor (bxor a false) (bxor b false)
+  go true true = refl
+  go true false = refl
+  go false true = refl
+  go false false = refl
+
+-- ---- the parity
 two : (a b : ℕ) → a < 2 → b < 2 → odd ((a + b) % 2) ≡ bxor (odd a) (odd b)
 two zero zero h k = refl
 two zero (suc zero) h k = refl
@@ -109,13 +133,6 @@ dot-unit (suc i) x = dot-digit (2 ^ suc i) x
     ∙ ap₂ bxor (ap (λ (b : Bool). cond b (bit 0 x) false) (bit-pow 0 (suc i) ∙ eqb·zero-suc i))
     (ap (λ (m : ℕ). dot m (x / 2)) (ap (λ (m : ℕ). m / 2) (pow-suc 2 i) ∙ mul-div-cancel (2 ^ i) two-pos) ∙ dot-unit i (x / 2))
 
--- a mask as a list of digits
-pub pair-dot : (g m x : ℕ) → x < 2 ^ g → pair (maskBits g m) x ≡ dot m x
-pair-dot zero m x h = let z : x ≡ 0 = omega arith in sym (ap (dot m) z ∙ hom-o XorGroup (dot-hom m))
-pair-dot (suc g) m x h = let ih = pair-dot g (m / 2) (x / 2) (omega (arith, pow-suc 2 g)) in byBool (bit 0 m)
-    (λ e. rw e (ap (bxor (bit 0 x)) ih ∙ sym (dot-digit m x ∙ rw e)))
-    (λ e. rw e (ih ∙ sym (dot-digit m x ∙ rw e)))
-
-pub length-bits : (g m : ℕ) → length (maskBits g m) ≡ g
-length-bits zero m = refl
-length-bits (suc g) m = ap suc (length-bits g (m / 2))
+-- the code's 1 << i
+pub unit-word : (i : ℕ) → i < 32 → 1 * 2 ^ i % 2 ^ 32 ≡ 2 ^ i
+unit-word i h = shl-exact 1 i 32 (omega arith) (omega arith) ∙ omega arith

@@ -1,7 +1,7 @@
--- `columns::from_top` meets its contract: with k places above it, it is the k-th from the highest.
+-- `masks::from_top` meets its contract: with k places above it, it is the k-th from the highest.
 use native.Mathlib.Omega.{arith}
-use Rattle.columns.proofs.from_top.Statement.{statement}
-use Rattle.columns.proofs.from_top.Tie as tie
+use Rattle.masks.proofs.from_top.Statement.{statement}
+use Rattle.masks.proofs.from_top.Tie as tie
 
 sub-result : tie.Need-sub-result
 sub-result c = omega arith

@@ -1,0 +1,3 @@
+pub mod Dual
+pub mod Masks
+pub mod Scanning

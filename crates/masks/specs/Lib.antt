@@ -1,0 +1,3 @@
+pub mod Dot
+pub mod DotLaws
+pub mod Scan
