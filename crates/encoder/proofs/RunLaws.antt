@@ -17,7 +17,7 @@ use Rattle.slots.specs.Runs.{stepIn, isClear, targetOf, adding, runSteps, sourc
 use Rattle.slots.specs.RunLaws.{step-there, sources-within, sources-are, sources-some}
 use Rattle.slots.specs.Slots.{RunAmong, Gathers}
 use Rattle.encoder.specs.Running.{Ran}
-use Rattle.slots.specs.GatherLaws.{gathers-all, run-gives}
+use Rattle.runs.specs.GatherLaws.{gathers-all, run-gives}
 use Rattle.slots.specs.SlotLaws.{slot-in, holds-as}
 
 -- ---- counts

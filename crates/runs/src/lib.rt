@@ -125,6 +125,44 @@ fn add_rest(
 
 // ---- a run from its steps
 
+// The first 64 bytes of slot to become what the run gives.
+fn start_chunk(
+    plan: &[u32],
+    first: usize,
+    end: usize,
+    to: usize,
+    fresh: bool,
+    sources: &mut [u16],
+    n: usize,
+    s: usize,
+    block: &mut [u8],
+    scratch: &mut [u8],
+) -> usize
+    requires run { ⌜ RunAt (now plan) first end to n s (length (now block)) (length (now scratch)) ⌝ }
+    requires room { ⌜ 64 ≤ s ⌝ }
+    requires list { ⌜ end ≤ first + length (now sources) ⌝ }
+    ensures list { λ r. ⌜ Listed (sourcesOf (now (plan .entry)) first end to) r (now (sources .exit)) ⌝ }
+    ensures slot { λ _. ⌜ Gathers n s fresh to (sourcesOf (now (plan .entry)) first end to) 0 64
+        (now (block .entry)) (now (scratch .entry)) (now (block .exit)) (now (scratch .exit)) ⌝ }
+{
+    let mut acc = [0u8; 64];
+    slots::add_base(&mut acc, to, fresh, 0, n, s, block, scratch);
+    let count = slots::collect(
+        &mut acc,
+        plan,
+        first,
+        end,
+        to,
+        sources,
+        n,
+        s,
+        block,
+        scratch,
+    );
+    slots::put_part(&acc, to, 0, n, s, block, scratch);
+    count
+}
+
 // Slot to becomes what the run gives: cleared or not, and then the add steps into it from first on, up to end. How many these
 // are; their sources are listed.
 pub fn add_run(
@@ -162,7 +200,7 @@ pub fn add_run(
         run_rest(&sources[..count], to, fresh, 0, n, s, block, scratch);
         return count;
     }
-    let count = slots::start_chunk(plan, first, end, to, fresh, sources, n, s, block, scratch);
+    let count = start_chunk(plan, first, end, to, fresh, sources, n, s, block, scratch);
     add_rest(&sources[..count], to, fresh, n, s, block, scratch);
     count
 }

@@ -1,4 +1,3 @@
-pub mod GatherLaws
 pub mod RunLaws
 pub mod Runs
 pub mod SlotLaws

@@ -1,5 +1,4 @@
-// The slots of an encoding in block and scratch, steps as they are decoded, and the pieces of a run of steps into one slot:
-// parts of slots added, and the sum put back.
+// The slots of an encoding in block and scratch, steps as they are decoded, and parts of slots: added, and put back.
 use plan::Decoded;
 use plan::Step;
 use table::wide;
@@ -8,7 +7,7 @@ ghost use Prim.Native.Nat.{_+_, _≤_};
 ghost use lib.ListN.{length};
 ghost use Rattle.plan.specs.Step.{unpack};
 ghost use Rattle.slots.specs.Runs.{stepIn, isClear, targetOf, sourceInto, sourcesOf, RunAt, Listed};
-ghost use Rattle.slots.specs.Slots.{SlotIn, SlotsIn, PartAdded, PartsAdded, PartPut, BaseAdded, Gathers};
+ghost use Rattle.slots.specs.Slots.{SlotIn, SlotsIn, PartAdded, PartsAdded, PartPut, BaseAdded};
 
 // A number that is no slot's.
 const NO_SLOT: usize = Step::SLOT as usize;
@@ -138,7 +137,7 @@ pub fn add_base(
     }
 }
 
-// ---- the first piece of a run, from its steps
+// ---- the sources of a run, from its steps
 
 // Decodes the numbers from first on, up to end, while they are add steps into slot to: lists their sources, and adds the first
 // bytes of these into acc. How many they are.
@@ -172,43 +171,5 @@ pub fn collect(
         add_part(acc, from, 0, n, s, block, scratch);
         count += 1;
     }
-    count
-}
-
-// The first 64 bytes of slot to become what the run gives.
-pub fn start_chunk(
-    plan: &[u32],
-    first: usize,
-    end: usize,
-    to: usize,
-    fresh: bool,
-    sources: &mut [u16],
-    n: usize,
-    s: usize,
-    block: &mut [u8],
-    scratch: &mut [u8],
-) -> usize
-    requires run { ⌜ RunAt (now plan) first end to n s (length (now block)) (length (now scratch)) ⌝ }
-    requires room { ⌜ 64 ≤ s ⌝ }
-    requires list { ⌜ end ≤ first + length (now sources) ⌝ }
-    ensures list { λ r. ⌜ Listed (sourcesOf (now (plan .entry)) first end to) r (now (sources .exit)) ⌝ }
-    ensures slot { λ _. ⌜ Gathers n s fresh to (sourcesOf (now (plan .entry)) first end to) 0 64
-        (now (block .entry)) (now (scratch .entry)) (now (block .exit)) (now (scratch .exit)) ⌝ }
-{
-    let mut acc = [0u8; 64];
-    add_base(&mut acc, to, fresh, 0, n, s, block, scratch);
-    let count = collect(
-        &mut acc,
-        plan,
-        first,
-        end,
-        to,
-        sources,
-        n,
-        s,
-        block,
-        scratch,
-    );
-    put_part(&acc, to, 0, n, s, block, scratch);
     count
 }

@@ -2,7 +2,7 @@
 use Prim.Native.Nat.{_-_, _≤_}
 use mathlib.Core.Path.{_≡_, refl, _∙_}
 use lib.ListN.{length}
-use Rattle.slots.specs.GatherLaws.{gathers-none, gathers-on, gathers-as}
+use Rattle.runs.specs.GatherLaws.{gathers-none, gathers-on, gathers-as}
 use Rattle.slots.specs.Slots.{Gathers}
 use Rattle.runs.proofs.ListedLaws.{same-run}
 use native.Mathlib.Omega.{arith}

@@ -1,7 +1,7 @@
 -- `runs::add_run` meets its contract: its steps are decoded with the first piece, or before it.
 use mathlib.Core.Path.{sym}
 use lib.Seq.{length-take-le}
-use Rattle.slots.specs.GatherLaws.{gathers-on}
+use Rattle.runs.specs.GatherLaws.{gathers-on}
 use Rattle.runs.proofs.ListedLaws.{same-run, listed-room, listed-run, listed-gathers}
 use borrow.Author.Needs.{needs}
 use native.Mathlib.Omega.{arith}

@@ -1,5 +1,5 @@
 -- `runs::run_part` meets its contract: what the run starts from is added, then its slots, and the sum is put back.
-use Rattle.slots.specs.GatherLaws.{gathers-part}
+use Rattle.runs.specs.GatherLaws.{gathers-part}
 use borrow.Author.Needs.{needs}
 use Rattle.runs.proofs.run_part.Statement.{statement}
 use Rattle.runs.proofs.run_part.Tie as tie

@@ -4,7 +4,7 @@ use mathlib.Core.Path.{_≡_, sym, ap, _∙_}
 use lib.ListN.{length, take, replicate}
 use lib.Seq.{length-take-le}
 use Rattle.table.specs.SumLaws.{part-zeros}
-use Rattle.slots.specs.GatherLaws.{gathers-as}
+use Rattle.runs.specs.GatherLaws.{gathers-as}
 use borrow.Author.Needs.{needs}
 use native.Mathlib.Omega.{arith}
 use Rattle.runs.proofs.run_rest.Statement.{statement}

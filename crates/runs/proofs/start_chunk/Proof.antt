@@ -1,12 +1,12 @@
--- `slots::start_chunk` meets its contract: what the run starts from is added to 64 bytes of zeros, then its slots as they are decoded, and the sum is put back.
+-- `runs::start_chunk` meets its contract: what the run starts from is added to 64 bytes of zeros, then its slots as they are decoded, and the sum is put back.
 use Prim.Native.Nat.{ℕ}
 use mathlib.Core.Path.{refl}
 use lib.ListN.{replicate, length-replicate}
-use Rattle.slots.specs.GatherLaws.{gathers-part, gathers-as}
+use Rattle.runs.specs.GatherLaws.{gathers-part, gathers-as}
 use borrow.Author.Needs.{needs}
 use native.Mathlib.Omega.{arith}
-use Rattle.slots.proofs.start_chunk.Statement.{statement}
-use Rattle.slots.proofs.start_chunk.Tie as tie
+use Rattle.runs.proofs.start_chunk.Statement.{statement}
+use Rattle.runs.proofs.start_chunk.Tie as tie
 
 slice-aggregate-add-base : tie.Need-slice-aggregate-add-base
 slice-aggregate-add-base c = search needs
