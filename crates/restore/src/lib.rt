@@ -97,7 +97,7 @@ fn agrees(
     while j < m {
         let w = wide(t[4 + j]);
         if to_sum(count[j], used[j]) {
-            if packets::sum_of_check(t, at, w, block, n, s) != s {
+            if sums::sum_of_check(t, at, w, block, n, s) != s {
                 return false;
             }
         }

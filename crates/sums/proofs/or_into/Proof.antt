@@ -1,10 +1,10 @@
--- `packets::or_into` meets its contract: the bytes passed are zero only where both were.
+-- `sums::or_into` meets its contract: the bytes passed are zero only where both were.
 use Prim.Native.Nat.{_-_, _≤_}
 use native.Mathlib.Omega.{arith}
 use lib.ListN.{length, length-set}
-use Rattle.packets.proofs.Sums.{Ored, or-none, or-turn, or-done}
-use Rattle.packets.proofs.or_into.Statement.{statement}
-use Rattle.packets.proofs.or_into.Tie as tie
+use Rattle.sums.proofs.Sums.{Ored, or-none, or-turn, or-done}
+use Rattle.sums.proofs.or_into.Statement.{statement}
+use Rattle.sums.proofs.or_into.Tie as tie
 
 abbrev Inv-loop : tie.InvT-loop
 Inv-loop o₀ a i₀ o i = (i ≤ length o) × Ored o₀ a i o

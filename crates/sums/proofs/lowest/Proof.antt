@@ -1,12 +1,12 @@
--- `packets::lowest` meets its contract: the bytes passed are zero.
+-- `sums::lowest` meets its contract: the bytes passed are zero.
 use Prim.Native.Nat.{ℕ, _-_, _≤_, _<_}
 use mathlib.Core.Path.{_≡_, sym}
 use native.Mathlib.Omega.{arith}
 use lib.ListN.{length, getD}
 use borrow.Author.Count.{below-more}
 use Rattle.table.specs.SumLaws.{lowest-is}
-use Rattle.packets.proofs.lowest.Statement.{statement}
-use Rattle.packets.proofs.lowest.Tie as tie
+use Rattle.sums.proofs.lowest.Statement.{statement}
+use Rattle.sums.proofs.lowest.Tie as tie
 
 abbrev Inv-loop : tie.InvT-loop
 Inv-loop a i₀ i = (i ≤ length a) × ((k : ℕ) → k < i → getD a k 0 ≡ 0)

@@ -1,13 +1,14 @@
--- `packets::gather` meets its contract: after m turns, the parts of the first m places are added.
+-- `sums::gather` meets its contract: after m turns, the parts of the first m places are added.
 use Prim.Native.Nat.{_-_, _≤_}
 use mathlib.Core.Path.{_≡_}
 use native.Mathlib.Omega.{arith}
 use Rattle.table.specs.GatherLaws.{Gathered, gathered-none}
 use Rattle.table.specs.Packets.{packets}
-use Rattle.packets.proofs.Sums.{place-room, next-place}
+use Rattle.packets.specs.PlaceLaws.{place-room}
+use Rattle.sums.proofs.Sums.{next-place}
 use lib.ListN.{take, drop}
-use Rattle.packets.proofs.gather.Statement.{statement}
-use Rattle.packets.proofs.gather.Tie as tie
+use Rattle.sums.proofs.gather.Statement.{statement}
+use Rattle.sums.proofs.gather.Tie as tie
 
 abbrev Inv-loop : tie.InvT-loop
 Inv-loop acc₀ t at weight block n s off k m₀ acc m = (m ≤ weight) × Gathered s (packets s n block) off (take m (drop at t)) acc₀ acc

@@ -1,8 +1,8 @@
--- `packets::lowest_of` meets its contract: by the or of the bytes, or by the search.
+-- `sums::lowest_of` meets its contract: by the or of the bytes, or by the search.
 use mathlib.Core.Path.{sym}
 use borrow.Author.Needs.{needs}
-use Rattle.packets.proofs.lowest_of.Statement.{statement}
-use Rattle.packets.proofs.lowest_of.Tie as tie
+use Rattle.sums.proofs.lowest_of.Statement.{statement}
+use Rattle.sums.proofs.lowest_of.Tie as tie
 
 or-of-requires : tie.Need-or-of-requires
 or-of-requires c κs = search needs

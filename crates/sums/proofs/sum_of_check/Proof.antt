@@ -1,13 +1,13 @@
--- `packets::sum_of_check` meets its contract: by one test of all pieces, or else the bytes of the sum passed are zero.
+-- `sums::sum_of_check` meets its contract: by one test of all pieces, or else the bytes of the sum passed are zero.
 use Prim.Native.Nat.{_+_, _-_, _≤_}
 use mathlib.Core.Path.{_≡_, sym}
 use native.Mathlib.Omega.{arith}
 use lib.ListN.{take, drop}
 use Rattle.table.specs.Packets.{lowestNonzero, packets, packetSum}
 use Rattle.table.specs.SumLaws.{lowest-le, sum-length}
-use Rattle.packets.proofs.Sums.{found, passed}
-use Rattle.packets.proofs.sum_of_check.Statement.{statement}
-use Rattle.packets.proofs.sum_of_check.Tie as tie
+use Rattle.sums.proofs.Sums.{found, passed}
+use Rattle.sums.proofs.sum_of_check.Statement.{statement}
+use Rattle.sums.proofs.sum_of_check.Tie as tie
 
 abbrev Inv-loop : tie.InvT-loop
 Inv-loop t at weight block n s i₀ i = (i ≤ s) × (lowestNonzero (packetSum s (packets s n block) (take weight (drop at t))) ≡ i + lowestNonzero (drop i (packetSum s (packets s n block) (take weight (drop at t)))))

@@ -1,14 +1,14 @@
--- `packets::lowest_in_rest` meets its contract: what was gathered from zeros is the end of the sum.
+-- `sums::lowest_in_rest` meets its contract: what was gathered from zeros is the end of the sum.
 use Prim.Native.Nat.{_-_}
 use mathlib.Core.Path.{ap, _∙_}
 use native.Mathlib.Omega.{arith}
 use Rattle.table.specs.Packets.{lowestNonzero}
 use lib.ListN.{replicate}
 use Rattle.table.specs.GatherLaws.{first-length, back-room, back-length}
-use Rattle.packets.proofs.Sums.{rest-of}
+use Rattle.sums.proofs.Sums.{rest-of}
 use borrow.Author.Needs.{needs}
-use Rattle.packets.proofs.lowest_in_rest.Statement.{statement}
-use Rattle.packets.proofs.lowest_in_rest.Tie as tie
+use Rattle.sums.proofs.lowest_in_rest.Statement.{statement}
+use Rattle.sums.proofs.lowest_in_rest.Tie as tie
 
 sub-k : tie.Need-sub-k
 sub-k c = search needs

@@ -1,10 +1,10 @@
--- `packets::lowest_in_chunk` meets its contract: what was gathered from zeros is the part of the sum.
+-- `sums::lowest_in_chunk` meets its contract: what was gathered from zeros is the part of the sum.
 use mathlib.Core.Path.{ap, _∙_}
 use Rattle.table.specs.Packets.{lowestNonzero}
-use Rattle.packets.proofs.Sums.{chunk-of}
+use Rattle.sums.proofs.Sums.{chunk-of}
 use borrow.Author.Needs.{needs}
-use Rattle.packets.proofs.lowest_in_chunk.Statement.{statement}
-use Rattle.packets.proofs.lowest_in_chunk.Tie as tie
+use Rattle.sums.proofs.lowest_in_chunk.Statement.{statement}
+use Rattle.sums.proofs.lowest_in_chunk.Tie as tie
 
 slice-aggregate-gather : tie.Need-slice-aggregate-gather
 slice-aggregate-gather c = search needs

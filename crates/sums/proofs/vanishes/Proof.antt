@@ -1,4 +1,4 @@
--- `packets::vanishes` meets its contract: where all bytes or-ed are zero, the bytes of the sum passed are.
+-- `sums::vanishes` meets its contract: where all bytes or-ed are zero, the bytes of the sum passed are.
 use Prim.Native.Nat.{_+_, _-_, _≤_}
 use mathlib.Core.Path.{_≡_, refl, sym, _∙_}
 use mathlib.Core.Bool.{false≢true}
@@ -8,9 +8,9 @@ use borrow.Author.Needs.{needs}
 use lib.ListN.{length, take, drop}
 use Rattle.table.specs.Packets.{lowestNonzero, packets, packetSum}
 use Rattle.table.specs.SumLaws.{sum-length}
-use Rattle.packets.proofs.Sums.{passed}
-use Rattle.packets.proofs.vanishes.Statement.{statement}
-use Rattle.packets.proofs.vanishes.Tie as tie
+use Rattle.sums.proofs.Sums.{passed}
+use Rattle.sums.proofs.vanishes.Statement.{statement}
+use Rattle.sums.proofs.vanishes.Tie as tie
 
 abbrev Inv-loop : tie.InvT-loop
 Inv-loop t at weight block n s o₀ i₀ o i = (i ≤ s) × ((length o ≡ 64) × (lowestNonzero o ≡ 64 → lowestNonzero (packetSum s (packets s n block) (take weight (drop at t))) ≡ i + lowestNonzero (drop i (packetSum s (packets s n block) (take weight (drop at t))))))

@@ -1,9 +1,9 @@
--- `packets::or_chunk` meets its contract: what was gathered from zeros is the part of the sum.
+-- `sums::or_chunk` meets its contract: what was gathered from zeros is the part of the sum.
 use mathlib.Core.Path.{sym, _∙_}
-use Rattle.packets.proofs.Sums.{chunk-of, or-piece}
+use Rattle.sums.proofs.Sums.{chunk-of, or-piece}
 use borrow.Author.Needs.{needs}
-use Rattle.packets.proofs.or_chunk.Statement.{statement}
-use Rattle.packets.proofs.or_chunk.Tie as tie
+use Rattle.sums.proofs.or_chunk.Statement.{statement}
+use Rattle.sums.proofs.or_chunk.Tie as tie
 
 slice-aggregate-gather : tie.Need-slice-aggregate-gather
 slice-aggregate-gather c = search needs

@@ -1,13 +1,13 @@
--- `packets::or_of` meets its contract: where the or is zero, the bytes passed are.
+-- `sums::or_of` meets its contract: where the or is zero, the bytes passed are.
 use Prim.Native.Nat.{ℕ, _-_, _≤_, _<_}
 use mathlib.Core.Path.{_≡_, _∙_}
 use native.Mathlib.Omega.{arith}
 use lib.ListN.{length, getD}
 use borrow.Author.Count.{below-more}
 use Rattle.table.specs.SumLaws.{lowest-is}
-use Rattle.packets.proofs.Sums.{or-left, or-right}
-use Rattle.packets.proofs.or_of.Statement.{statement}
-use Rattle.packets.proofs.or_of.Tie as tie
+use Rattle.sums.proofs.Sums.{or-left, or-right}
+use Rattle.sums.proofs.or_of.Statement.{statement}
+use Rattle.sums.proofs.or_of.Tie as tie
 
 abbrev Inv-loop : tie.InvT-loop
 Inv-loop a o₀ i₀ o i = (i ≤ length a) × (o ≡ 0 → (k : ℕ) → k < i → getD a k 0 ≡ 0)
