@@ -1,9 +1,9 @@
--- `restore::to_sum` meets its contract.
+-- `marks::to_sum` meets its contract.
 use mathlib.Core.Path.{sym}
 use mathlib.Core.Bool.{true≢false}
 use borrow.Author.Tests.{eqb-true, not-false}
-use Rattle.restore.proofs.to_sum.Statement.{statement}
-use Rattle.restore.proofs.to_sum.Tie as tie
+use Rattle.marks.proofs.to_sum.Statement.{statement}
+use Rattle.marks.proofs.to_sum.Tie as tie
 
 returns : tie.Need-returns
 returns c = (λ e. c .if1 .taken, λ e z. eqb-true _ _ (not-false _ e))

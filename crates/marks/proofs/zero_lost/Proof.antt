@@ -1,15 +1,15 @@
--- `restore::zero_lost` meets its contract.
+-- `marks::zero_lost` meets its contract.
 use Rattle.table.specs.BufferLaws.{place-fits}
 use Rattle.table.specs.Packets.{packets, joined}
 use Rattle.erasure.specs.Restoring.{zeroLost}
-use Rattle.restore.proofs.BlockLaws.{zeroFrom, cleared-hit, cleared-miss, cleared-end}
+use Rattle.marks.proofs.BlockLaws.{zeroFrom, cleared-hit, cleared-miss, cleared-end}
 use Prim.Native.Nat.{_-_, _*_, _≤_}
 use mathlib.Core.Path.{_≡_, refl, sym, ap, _∙_}
 use mathlib.Core.Logic.{⊎-elim}
 use native.Mathlib.Omega.{arith}
 use lib.ListN.{length}
-use Rattle.restore.proofs.zero_lost.Statement.{statement}
-use Rattle.restore.proofs.zero_lost.Tie as tie
+use Rattle.marks.proofs.zero_lost.Statement.{statement}
+use Rattle.marks.proofs.zero_lost.Tie as tie
 
 abbrev Inv-loop : tie.InvT-loop
 Inv-loop block₀ map n s p₀ block p = (p ≤ n) × (length block ≡ n * s) × (zeroLost s map (packets s n block₀) ≡ zeroFrom s map (packets s n block) p)

@@ -14,7 +14,7 @@ use Rattle.table.specs.PacketLaws.{packets-length, packets-sized, packets-joine
 use Rattle.table.specs.Packets.{packets, joined}
 use Rattle.lists.specs.Lists.{written}
 use Rattle.erasure.specs.Restoring.{zeroLost}
-use Rattle.turns.specs.TurnLaws.{packets-set, bytes-set}
+use Rattle.packets.specs.SetLaws.{packets-set, bytes-set}
 
 -- ---- one packet written
 written-set : (s n : ℕ) (b : List ℕ) → length b ≡ n * s → (i : ℕ) (v : List ℕ) → i < n → length v ≡ s → written b (i * s) v ≡ joined (set (packets s n b) i v)

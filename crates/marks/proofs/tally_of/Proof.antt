@@ -1,13 +1,13 @@
--- `restore::tally_of` meets its contract.
+-- `marks::tally_of` meets its contract.
 use Rattle.erasure.specs.Restoring.{tally}
-use Rattle.restore.proofs.MapLaws.{tally-hit, tally-miss, tally-end}
+use Rattle.marks.proofs.MapLaws.{tally-hit, tally-miss, tally-end}
 use Prim.Native.Nat.{_+_, _-_, _≤_}
 use mathlib.Core.Path.{_≡_}
 use mathlib.Core.Logic.{⊎-elim}
 use native.Mathlib.Omega.{arith}
 use lib.ListN.{length, drop}
-use Rattle.restore.proofs.tally_of.Statement.{statement}
-use Rattle.restore.proofs.tally_of.Tie as tie
+use Rattle.marks.proofs.tally_of.Statement.{statement}
+use Rattle.marks.proofs.tally_of.Tie as tie
 
 abbrev Inv-loop : tie.InvT-loop
 Inv-loop map v k₀ p₀ k p = (p ≤ length map) × (k ≤ p) × (tally v map ≡ k + tally v (drop p map))
