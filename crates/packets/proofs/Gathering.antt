@@ -18,7 +18,7 @@ use Rattle.table.specs.Packets.{packets, joined, packetSum, mixed}
 use Rattle.table.specs.GatherLaws.{Gathered, gathered-as, from-zeros, last-part}
 use Rattle.packets.proofs.Buffers.{more}
 use Rattle.packets.proofs.Others.{sum-elsewhere, minus-same, minus-other, others-length}
-use Rattle.packets.proofs.Sums.{one-more, place-more}
+use Rattle.packets.specs.PlaceLaws.{one-more, place-more}
 
 module _ (t : List ℕ) (at weight : ℕ) (b : List ℕ) (n s p : ℕ) (ok : CheckIn t at weight b n s) where
   -- the sum over the other ones of the first m places

@@ -1,4 +1,3 @@
 pub mod Buffers
-pub mod Sums
 pub mod Others
 pub mod Gathering

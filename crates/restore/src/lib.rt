@@ -8,11 +8,10 @@ ghost use mathlib.Core.Bool.{true, false};
 ghost use Prim.Native.Nat.{_-_, _*_, _≤_};
 ghost use lib.ListN.{length};
 ghost use Rattle.table.specs.Checks.{Starts};
-ghost use Rattle.table.specs.Packets.{packets, joined};
 ghost use Rattle.table.specs.Table.{checks};
 ghost use Rattle.table.specs.Accepted.{Accepted};
 ghost use Rattle.chains.specs.Linked.{Counted};
-ghost use Rattle.erasure.specs.Restoring.{tally, zeroLost, consistent};
+ghost use Rattle.erasure.specs.Restoring.{consistent};
 ghost use Rattle.erasure.specs.Turns.{Restored, stateOf};
 ghost use Rattle.turns.specs.Spent.{Spent};
 ghost use Rattle.restore.specs.Mending.{Mends};
@@ -26,51 +25,7 @@ pub struct Mended {
     pub additions: u32,
 }
 
-// ---- the lost map
-
-// how many map bytes are v
-fn tally_of(map: &[u8], v: u8) -> u32
-    requires { ⌜ length (now map) ≤ 1024 ⌝ }
-    ensures { λ r. ⌜ r ≡ tally v (now (map .entry)) ⌝ }
-{
-    let mut k = 0;
-    let mut p = 0;
-    while p < map.len() {
-        if map[p] == v {
-            k += 1;
-        }
-        p += 1;
-    }
-    k
-}
-
-// ---- the block
-
-// zero bytes at every lost place
-pub fn zero_lost(block: &mut [u8], map: &[u8], n: usize, s: usize)
-    requires { ⌜ (length (now block) ≡ n * s)
-        × (length (now map) ≡ n) ⌝ }
-    ensures { λ _. ⌜ now (block .exit) ≡ joined (zeroLost s (now (map .entry)) (packets s n (now (block .entry)))) ⌝ }
-{
-    let mut p = 0;
-    while p < n {
-        if map[p] == 1 {
-            packets::clear(block, p * s, s);
-        }
-        p += 1;
-    }
-}
-
-// whether a check with so many lost places is still to be summed: it has none, and restored none
-fn to_sum(count: u16, used: u8) -> bool
-    ensures { λ r. ⌜ (r ≡ true → count ≡ 0)
-        × (r ≡ false → count ≡ 0 → used ≡ 1) ⌝ }
-{
-    if count == 0 {
-        return used != 1;
-    }
-    false
-}
+// ---- the look at the checks
 
 // every check without a lost place sums to zero; those that restored a place do
 fn agrees(
@@ -96,8 +51,8 @@ fn agrees(
     let mut j = 0;
     while j < m {
         let w = wide(t[4 + j]);
-        if to_sum(count[j], used[j]) {
-            if packets::sum_of_check(t, at, w, block, n, s) != s {
+        if marks::to_sum(count[j], used[j]) {
+            if sums::sum_of_check(t, at, w, block, n, s) != s {
                 return false;
             }
         }
@@ -210,13 +165,13 @@ pub fn restore_packets(
     let mut saved = [0u8; MOST_PLACES];
     table::fill_starts(t, m, &mut starts);
     packets::copy(&mut saved, 0, map, 0, n);
-    let before = tally_of(map, 1);
-    zero_lost(block, map, n, s);
+    let before = marks::tally_of(map, 1);
+    marks::zero_lost(block, map, n, s);
     let done = restore_lost(t, m, n, s, &starts, block, map);
     if done.agrees {
-        return counted(before, tally_of(map, 1), done.adds);
+        return counted(before, marks::tally_of(map, 1), done.adds);
     }
     packets::copy(map, 0, &saved, 0, n);
-    zero_lost(block, map, n, s);
+    marks::zero_lost(block, map, n, s);
     contradicted()
 }

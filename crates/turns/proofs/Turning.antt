@@ -23,7 +23,7 @@ use Rattle.erasure.specs.RestoringLaws.{lost-inside, ready-one, ready-lost, res
 use Rattle.erasure.specs.Stopping.{first-lost, lostIn, restore-one}
 use Rattle.table.specs.Accepted.{Accepted, check-count, places-at, check-is, light}
 use Rattle.erasure.specs.Turns.{Holds, Restored, stateOf, turn}
-use Rattle.turns.specs.TurnLaws.{packets-set, bytes-set}
+use Rattle.packets.specs.SetLaws.{packets-set, bytes-set}
 
 -- the number of the lowest check with exactly one lost place; the number of checks if there is none
 unfoldable pub readyNumber : List ℕ → List (List ℕ) → ℕ

@@ -1,30 +1,12 @@
--- What the turns and the look at the checks after them both need: check j by its number, and a block's packets after one is set.
+-- What the turns and the look at the checks after them both need: check j by its number.
 use mathlib.Core.Path.{_≡_, sym, ap, _∙_, subst}
 use mathlib.Core.List.{List, []}
-use Prim.Native.Nat.{ℕ, _*_, _<_}
-use lib.ListN.{length, getD, set, length-set}
-use Rattle.lists.specs.ListLaws.{all-set}
+use Prim.Native.Nat.{ℕ, _<_}
+use lib.ListN.{getD}
 use Rattle.table.specs.Accepted.{Accepted}
 use Rattle.table.specs.Checks.{check}
 use Rattle.table.specs.ChecksLaws.{checks-at}
-use Rattle.table.specs.PacketLaws.{packets-length, packets-sized, joined-packets, joined-length}
-use Rattle.table.specs.Packets.{Packets, packets, joined}
 use Rattle.table.specs.Table.{checks}
 
--- ---- a check
 pub at-check : (t : List ℕ) (m n s : ℕ) → Accepted t m n s → (j : ℕ) → j < m → getD (checks t) j [] ≡ check t m j
 at-check t m n s k j h = checks-at t (k .accepted) j (subst (λ x. j < x) (k .number-is) h) ∙ ap (λ x. check t x j) (sym (k .number-is))
-
--- ---- a packet
-module _ (s n : ℕ) (b : List ℕ) (bytes : length b ≡ n * s) (i : ℕ) (v : List ℕ) (inside : i < n) (long : length v ≡ s) where
-  set-sized : Packets s (set (packets s n b) i v)
-  set-sized = all-set (packets-sized s n b bytes) i v long
-
-  set-count : length (set (packets s n b) i v) ≡ n
-  set-count = length-set (packets s n b) i v ∙ packets-length s n b
-
-  pub packets-set : packets s n (joined (set (packets s n b) i v)) ≡ set (packets s n b) i v
-  packets-set = ap (λ k. packets s k (joined (set (packets s n b) i v))) (sym set-count) ∙ joined-packets s set-sized
-
-  pub bytes-set : length (joined (set (packets s n b) i v)) ≡ n * s
-  bytes-set = joined-length s set-sized ∙ ap (λ k. k * s) set-count

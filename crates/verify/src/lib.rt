@@ -25,7 +25,7 @@ fn look_at_checks(t: &[u16], m: usize, n: usize, s: usize, block: &[u8]) -> Veri
     let mut j = 0;
     while j < m {
         let w = wide(t[4 + j]);
-        let low = packets::sum_of_check(t, at, w, block, n, s);
+        let low = sums::sum_of_check(t, at, w, block, n, s);
         if low != s {
             return Verified::Fails(j);
         }

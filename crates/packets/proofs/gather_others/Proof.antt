@@ -3,7 +3,7 @@ use Prim.Native.Nat.{_-_, _≤_}
 use mathlib.Core.Path.{_≡_}
 use mathlib.Core.Logic.{⊎-elim}
 use native.Mathlib.Omega.{arith}
-use Rattle.packets.proofs.Sums.{place-room}
+use Rattle.packets.specs.PlaceLaws.{place-room}
 use Rattle.table.specs.GatherLaws.{Gathered, gathered-none}
 use Rattle.table.specs.Packets.{packets}
 use Rattle.lists.specs.Lists.{minus}

@@ -1,0 +1,49 @@
+// Marks of lost places and of checks: how many places are lost, zero bytes at each, and whether a check is to be summed.
+ghost use mathlib.Core.Path.{_≡_};
+ghost use mathlib.Core.Bool.{true, false};
+ghost use Prim.Native.Nat.{_*_, _≤_};
+ghost use lib.ListN.{length};
+ghost use Rattle.table.specs.Packets.{packets, joined};
+ghost use Rattle.erasure.specs.Restoring.{tally, zeroLost};
+
+// how many map bytes are v
+pub fn tally_of(map: &[u8], v: u8) -> u32
+    requires { ⌜ length (now map) ≤ 1024 ⌝ }
+    ensures { λ r. ⌜ r ≡ tally v (now (map .entry)) ⌝ }
+{
+    let mut k = 0;
+    let mut p = 0;
+    while p < map.len() {
+        if map[p] == v {
+            k += 1;
+        }
+        p += 1;
+    }
+    k
+}
+
+// zero bytes at every lost place
+pub fn zero_lost(block: &mut [u8], map: &[u8], n: usize, s: usize)
+    requires { ⌜ (length (now block) ≡ n * s)
+        × (length (now map) ≡ n) ⌝ }
+    ensures { λ _. ⌜ now (block .exit) ≡ joined (zeroLost s (now (map .entry)) (packets s n (now (block .entry)))) ⌝ }
+{
+    let mut p = 0;
+    while p < n {
+        if map[p] == 1 {
+            packets::clear(block, p * s, s);
+        }
+        p += 1;
+    }
+}
+
+// whether a check with so many lost places is still to be summed: it has none, and restored none
+pub fn to_sum(count: u16, used: u8) -> bool
+    ensures { λ r. ⌜ (r ≡ true → count ≡ 0)
+        × (r ≡ false → count ≡ 0 → used ≡ 1) ⌝ }
+{
+    if count == 0 {
+        return used != 1;
+    }
+    false
+}

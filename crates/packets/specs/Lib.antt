@@ -1,0 +1,2 @@
+pub mod PlaceLaws
+pub mod SetLaws
