@@ -1,7 +1,7 @@
 -- The scan's start, and what its end gives: the fitted places of the rule, and its inverse.
 use mathlib.Core.Path.{_≡_, refl, sym, ap, ap₂, _∙_, subst}
 use mathlib.Core.Bool.{Bool, true, false, cond, not, true≢false}
-use mathlib.Core.List.{List, [], _∷_, _++_, map}
+use mathlib.Core.List.{List, [], _∷_, _++_, map, append-nil}
 use Prim.Native.Nat.{ℕ, zero, suc, _+_, _*_, _/_, _^_, _<_, _≤_}
 use native.Mathlib.Nat.{pow-suc}
 use native.Mathlib.Omega.{arith}
@@ -10,10 +10,11 @@ use lib.ListN.{length, getD, take, replicate, length-map}
 use lib.Seq.{slice, slice-empty, length-slice, length-take-le, getD-take}
 use Rattle.gf2.specs.Gf2.{XorGroup, bit, num, isZero, column, choose, rowOf, comb, isSum}
 use Rattle.gf2.specs.Bit.{bits-zero, bit-pow}
+use borrow.Author.Tests.{not-false}
 use Rattle.lists.specs.Tests.{eqb-true, eqb-self, byBool}
 use Rattle.gf2.specs.Columns.{isZero-sound, column-lt, pair, pair-column}
 use Rattle.lists.specs.Lists.{bxor, below, Distinct, rev, has, filter, All, All.nil, All.cons}
-use Rattle.lists.specs.ListLaws.{all-in, getD-zeros, getD-has, append-nil, length-rev}
+use Rattle.lists.specs.ListLaws.{all-in, getD-zeros, getD-has, length-rev}
 use Rattle.gf2.specs.Span.{span-zero, isSum-complete}
 use Rattle.gf2.specs.Unique.{mask-unique}
 use Rattle.gf2.specs.Rank.{Zero, hom-o}
@@ -61,10 +62,6 @@ choose-some f b h K (p ∷ l) = byBool (b p)
 column-zero : (p : ℕ) {R : List ℕ} → All (Zero XorGroup (bit p)) R → column R p ≡ 0
 column-zero p nil = refl
 column-zero p (cons z zs) = ap₂ (λ (a : ℕ) (b : Bool). a * 2 + num b) (column-zero p zs) z
-
-not-false : (b : Bool) → not b ≡ false → b ≡ true
-not-false true e = refl
-not-false false e = absurd (true≢false e)
 
 -- ---- lists
 rev-snoc : {X : Type 0} (l : List X) (x : X) → rev (l ++ (x ∷ [])) ≡ x ∷ rev l

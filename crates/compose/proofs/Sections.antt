@@ -1,13 +1,13 @@
 -- The plan's sections from the buffers: the information places that the marks leave, and the four parts of the steps.
 use mathlib.Core.Path.{_≡_, refl, sym, ap, ap₂, _∙_}
 use mathlib.Core.Bool.{Bool, not}
-use mathlib.Core.List.{List, [], _∷_, _++_, map}
+use mathlib.Core.List.{List, [], _∷_, _++_, map, append-nil}
 use Prim.Native.Nat.{ℕ, _+_, _<_, _≤_}
 use native.Mathlib.Omega.{arith}
 use lib.ListN.{length, take, replicate, length-replicate, length-map}
 use lib.Seq.{length-take-le}
 use Rattle.lists.specs.Lists.{below, rev, has, filter, minus}
-use Rattle.lists.specs.ListLaws.{length-below, length-rev, append-nil}
+use Rattle.lists.specs.ListLaws.{length-below, length-rev}
 use Rattle.lists.specs.Tests.{byBool}
 use Rattle.table.specs.Accepted.{few-places}
 use Rattle.table.specs.Checks.{check}

@@ -1,6 +1,6 @@
 -- Numbers written one list after the other, and what is left to write.
 use mathlib.Core.Path.{_≡_, refl, sym, ap, ap₂, _∙_, subst}
-use mathlib.Core.List.{List, [], _∷_, _++_, append-assoc, map}
+use mathlib.Core.List.{List, [], _∷_, _++_, append-assoc, map, append-nil}
 use Prim.Native.Nat.{ℕ, suc, _+_, _-_, _<_, _≤_}
 use native.Mathlib.Numerals.{add-one}
 use native.Mathlib.Omega.{arith}
@@ -77,10 +77,6 @@ left-all l at ws = record { part = []; whole = refl; wrote = wrote-none l at }
 
 pub left-is : {l : List ℕ} {at : ℕ} {ws rest e : List ℕ} {k : ℕ} (vs : List ℕ) → Left l at ws rest e k → rest ≡ vs → Left l at ws vs e k
 left-is {l} {at} {ws} {e = e} {k = k} vs w q = subst (λ (x : List ℕ). Left l at ws x e k) q w
-
-append-nil : (l : List ℕ) → l ++ [] ≡ l
-append-nil [] = refl
-append-nil (x ∷ l) = ap (λ r. x ∷ r) (append-nil l)
 
 pub left-done : {l : List ℕ} {at : ℕ} {ws e : List ℕ} {k : ℕ} → Left l at ws [] e k → Wrote l at ws e k
 left-done w = wrote-is (w .wrote) (sym (append-nil (w .part)) ∙ w .whole)

@@ -11,12 +11,12 @@ use lib.Dec.{eqb}
 use lib.ListN.{take, drop}
 use lib.Seq.{take-all}
 use Rattle.lists.specs.Lists.{All.cons}
-use Rattle.lists.specs.Tests.{side}
+use Rattle.lists.specs.Tests.{side, or-false-l, or-false-r}
 use Rattle.table.specs.FirstCause.{firstCause, wrongLength, NoneHolds}
 use Rattle.table.specs.FirstCauseLaws.{none-holds, none-refuses, first-decides, rest-decides}
 use Rattle.table.specs.Packets.{joined}
 use Rattle.plan.specs.Layout.{planPlaces, planSize, planGap, infoCount, stepCount, stepsOf, planCauses, planRefusal}
-use Rattle.plan.specs.LayoutLaws.{well, steps-length, or-left, or-right}
+use Rattle.plan.specs.LayoutLaws.{well, steps-length}
 use Rattle.plan.specs.Step.{addSteps}
 use Rattle.encoder.specs.Encoding.{stepsWithin, slotsAfter, wrongLengths, encodeRefusalAt, EncodeAnswer, encodeAnswerAt, encodeRefusal, encodeAnswer, encodeBlockAfter, encodeScratchAfter}
 
@@ -56,8 +56,8 @@ module _ (w : List ℕ) (i b c : ℕ) where
   pub right-lengths : planRefusal w ≡ 0 → wrongLengths w (planSize w) i b c ≡ false → AcceptedEncoding w i b c
   right-lengths p h =
       let u = wrongLength i (infoCount w * planSize w) in let v = wrongLength b (planPlaces w * planSize w) in let x = wrongLength c (planGap w * planSize w) in
-      let r = or-right u (v || x) h in
-      record { plan = p; information = same (or-left u (v || x) h); block = same (or-left v x r); scratch = same (or-right v x r) }
+      let r = or-false-r u (v || x) h in
+      record { plan = p; information = same (or-false-l u (v || x) h); block = same (or-false-l v x r); scratch = same (or-false-r v x r) }
     where
       same : {x y : ℕ} → wrongLength x y ≡ false → x ≡ y
       same {x} {y} e = eqb-true x y (not-false (eqb x y) e)

@@ -1,17 +1,21 @@
 -- "Old bytes at lost places never count": two blocks with the same received packets come to the same.
 use mathlib.Core.Path.{_≡_, refl, sym, ap, ap₂, _∙_}
-use mathlib.Core.Bool.{false}
+use mathlib.Core.Bool.{Bool, true, false, cond}
 use mathlib.Core.List.{List, [], _∷_}
 use Prim.Native.Nat.{ℕ, suc, _<_}
 use native.Mathlib.Omega.{arith}
 use lib.Dec.{eqb}
-use lib.ListN.{length, getD}
-use Rattle.lists.specs.Tests.{byBool}
+use lib.ListN.{length, getD, replicate}
 use Rattle.table.specs.PacketCall.{partAt}
 use Rattle.table.specs.PacketLaws.{packets-length, packet-at}
 use Rattle.table.specs.Packets.{packets}
 use Rattle.table.specs.Table.{places, size, checks}
 use Rattle.erasure.specs.Restoring.{isLost, restoring, zeroLost, outcome}
+
+-- a packet that is lost, or the same in both
+packet-alike : (lost : Bool) (z x y : List ℕ) → (lost ≡ false → x ≡ y) → cond lost z x ≡ cond lost z y
+packet-alike true z x y h = refl
+packet-alike false z x y h = h refl
 
 -- once lost places are zero, the blocks are the same
 zero-alike : (s : ℕ) (map : List ℕ) (b c : List (List ℕ)) → length b ≡ length c
@@ -24,7 +28,7 @@ zero-alike s (m ∷ ms) [] [] l h = refl
 zero-alike s (m ∷ ms) [] (y ∷ c) l h = absurd (omega arith)
 zero-alike s (m ∷ ms) (x ∷ b) [] l h = absurd (omega arith)
 zero-alike s (m ∷ ms) (x ∷ b) (y ∷ c) l h = ap₂ _∷_
-    (byBool (eqb m 1) (λ e. rw e) (λ e. rw e (h 0 (omega arith) e)))
+    (packet-alike (eqb m 1) (replicate s 0) x y (λ e. h 0 (omega arith) e))
     (zero-alike s ms b c (omega arith) (λ p k e. h (suc p) (omega arith) e))
 
 module _ (t b c map : List ℕ) (same : (p : ℕ) → p < places t → isLost map p ≡ false → partAt (size t) p b ≡ partAt (size t) p c) where

@@ -153,10 +153,6 @@ all-set (cons p a) zero v q = cons q a
 all-set (cons p a) (suc i) v q = cons p (all-set a i v q)
 
 -- ---- joining and reversing
-pub append-nil : {X : Type 0} (l : List X) → l ++ [] ≡ l
-append-nil [] = refl
-append-nil (x ∷ l) = ap (λ r. x ∷ r) (append-nil l)
-
 pub length-rev : {X : Type 0} (l : List X) → length (rev l) ≡ length l
 length-rev [] = refl
 length-rev (x ∷ l) = length-append (rev l) (x ∷ []) ∙ let h = length-rev l in omega arith

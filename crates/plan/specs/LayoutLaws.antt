@@ -1,6 +1,6 @@
 -- What a well-formed plan gives.
 use mathlib.Core.Path.{_≡_, refl, sym, ap, _∙_, subst}
-use mathlib.Core.Bool.{Bool, true, false, not, _||_, _&&_, true≢false, false≢true}
+use mathlib.Core.Bool.{Bool, true, false, not, _&&_, false≢true}
 use mathlib.Core.List.{List, [], _∷_}
 use mathlib.Core.Option.{Option, none, some}
 use Prim.Native.Nat.{ℕ, zero, suc, _+_, _-_, _<_, _≤_}
@@ -10,7 +10,7 @@ use lib.Dec.{eqb, ltb, leb}
 use lib.ListN.{length, getD, drop, length-drop}
 use lib.Seq.{length-take-le, getD-drop}
 use Rattle.lists.specs.Lists.{allPass, has}
-use Rattle.lists.specs.Tests.{byBool}
+use Rattle.lists.specs.Tests.{byBool, or-false-l, or-false-r}
 use Rattle.table.specs.Table.{mostPlaces, mostBytes, mostChecks, outside, rising}
 use Rattle.plan.specs.declared.Step.{Step}
 use Rattle.plan.specs.declared.Step.the-variants.{Clear, Add}
@@ -18,16 +18,6 @@ use Rattle.plan.specs.Layout.{mostAside, mostSteps, headCount, leastNumb
 use Rattle.plan.specs.Step.{unpack, unpackAll, SlotsBelow}
 
 -- ---- tests
--- the first of two tests does not hold
-pub or-left : (a b : Bool) → (a || b) ≡ false → a ≡ false
-or-left true b e = e
-or-left false b e = refl
-
--- and the second
-pub or-right : (a b : Bool) → (a || b) ≡ false → b ≡ false
-or-right true b e = absurd (true≢false e)
-or-right false b e = e
-
 -- the first of two tests holds
 pub and-left : (a b : Bool) → (a && b) ≡ true → a ≡ true
 and-left true b e = refl
@@ -55,10 +45,10 @@ pub record Counted (w : List ℕ) : Type 0 where
 
 -- a number within its limits
 inside-low : (most x : ℕ) → outside most x ≡ false → 1 ≤ x
-inside-low most x h = let n = eqb-false x 0 (or-left (eqb x 0) (ltb most x) h) in omega arith
+inside-low most x h = let n = eqb-false x 0 (or-false-l (eqb x 0) (ltb most x) h) in omega arith
 
 inside-high : (most x : ℕ) → outside most x ≡ false → x ≤ most
-inside-high most x h = ltb-false most x (or-right (eqb x 0) (ltb most x) h)
+inside-high most x h = ltb-false most x (or-false-r (eqb x 0) (ltb most x) h)
 
 -- the limits, of a plan that is within them
 pub record InLimits (w : List ℕ) : Type 0 where
@@ -73,30 +63,30 @@ pub record InLimits (w : List ℕ) : Type 0 where
 
 pub in-limits : (w : List ℕ) → badLimits w ≡ false → InLimits w
 in-limits w z =
-    let r1 = or-right (outside mostPlaces (planPlaces w)) _ z in
-    let r2 = or-right (outside mostBytes (planSize w)) _ r1 in
-    let r3 = or-right (ltb mostAside (planGap w)) _ r2 in
-    let r4 = or-right (ltb (planKept w) (planGap w)) _ r3 in
+    let r1 = or-false-r (outside mostPlaces (planPlaces w)) _ z in
+    let r2 = or-false-r (outside mostBytes (planSize w)) _ r1 in
+    let r3 = or-false-r (ltb mostAside (planGap w)) _ r2 in
+    let r4 = or-false-r (ltb (planKept w) (planGap w)) _ r3 in
     record {
-      some-places = inside-low mostPlaces (planPlaces w) (or-left (outside mostPlaces (planPlaces w)) _ z);
-      few-places = inside-high mostPlaces (planPlaces w) (or-left (outside mostPlaces (planPlaces w)) _ z);
-      some-bytes = inside-low mostBytes (planSize w) (or-left (outside mostBytes (planSize w)) _ r1);
-      few-bytes = inside-high mostBytes (planSize w) (or-left (outside mostBytes (planSize w)) _ r1);
-      few-aside = ltb-false mostAside (planGap w) (or-left (ltb mostAside (planGap w)) _ r2);
-      aside-kept = ltb-false (planKept w) (planGap w) (or-left (ltb (planKept w) (planGap w)) _ r3);
-      kept-places = ltb-false (planPlaces w) (planKept w) (or-left (ltb (planPlaces w) (planKept w)) _ r4);
-      few-kept = ltb-false mostChecks (planKept w) (or-right (ltb (planPlaces w) (planKept w)) _ r4);
+      some-places = inside-low mostPlaces (planPlaces w) (or-false-l (outside mostPlaces (planPlaces w)) _ z);
+      few-places = inside-high mostPlaces (planPlaces w) (or-false-l (outside mostPlaces (planPlaces w)) _ z);
+      some-bytes = inside-low mostBytes (planSize w) (or-false-l (outside mostBytes (planSize w)) _ r1);
+      few-bytes = inside-high mostBytes (planSize w) (or-false-l (outside mostBytes (planSize w)) _ r1);
+      few-aside = ltb-false mostAside (planGap w) (or-false-l (ltb mostAside (planGap w)) _ r2);
+      aside-kept = ltb-false (planKept w) (planGap w) (or-false-l (ltb (planKept w) (planGap w)) _ r3);
+      kept-places = ltb-false (planPlaces w) (planKept w) (or-false-l (ltb (planPlaces w) (planKept w)) _ r4);
+      few-kept = ltb-false mostChecks (planKept w) (or-false-r (ltb (planPlaces w) (planKept w)) _ r4);
     }
 
 pub counted : (w : List ℕ) → badCounts w ≡ false → Counted w
 counted w h =
-    let rest = or-right (badHead w) _ h in
-    let l = in-limits w (or-left (badLimits w) (badLengths w) rest) in
-    let z = or-right (badLimits w) (badLengths w) rest in
-    let r1 = or-right (not (eqb (infoCount w) (planPlaces w - planKept w))) _ z in
-    let r2 = or-right (ltb (length w) (stepsAt w)) _ r1 in
+    let rest = or-false-r (badHead w) _ h in
+    let l = in-limits w (or-false-l (badLimits w) (badLengths w) rest) in
+    let z = or-false-r (badLimits w) (badLengths w) rest in
+    let r1 = or-false-r (not (eqb (infoCount w) (planPlaces w - planKept w))) _ z in
+    let r2 = or-false-r (ltb (length w) (stepsAt w)) _ r1 in
     record {
-      first = eqb-true (getD w 0 0) headCount (not-false (eqb (getD w 0 0) headCount) (or-right (ltb (length w) leastNumbers) _ (or-left (badHead w) _ h)));
+      first = eqb-true (getD w 0 0) headCount (not-false (eqb (getD w 0 0) headCount) (or-false-r (ltb (length w) leastNumbers) _ (or-false-l (badHead w) _ h)));
       some-places = l .some-places;
       few-places = l .few-places;
       some-bytes = l .some-bytes;
@@ -105,9 +95,9 @@ counted w h =
       aside-kept = l .aside-kept;
       kept-places = l .kept-places;
       few-kept = l .few-kept;
-      info = eqb-true (infoCount w) (planPlaces w - planKept w) (not-false (eqb (infoCount w) (planPlaces w - planKept w)) (or-left _ _ z));
-      few-steps = ltb-false mostSteps (stepCount w) (or-left (ltb mostSteps (stepCount w)) _ r2);
-      whole = eqb-true (length w) (stepsAt w + stepCount w) (not-false (eqb (length w) (stepsAt w + stepCount w)) (or-right (ltb mostSteps (stepCount w)) _ r2));
+      info = eqb-true (infoCount w) (planPlaces w - planKept w) (not-false (eqb (infoCount w) (planPlaces w - planKept w)) (or-false-l _ _ z));
+      few-steps = ltb-false mostSteps (stepCount w) (or-false-l (ltb mostSteps (stepCount w)) _ r2);
+      whole = eqb-true (length w) (stepsAt w + stepCount w) (not-false (eqb (length w) (stepsAt w + stepCount w)) (or-false-r (ltb mostSteps (stepCount w)) _ r2));
     }
 
 -- ---- places in ascending order

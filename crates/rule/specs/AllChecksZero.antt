@@ -1,14 +1,14 @@
 -- Every check of the table sums to zero after the steps of the rule's plan.
 use mathlib.Core.Path.{_≡_, refl, sym, ap, _∙_, subst}
 use mathlib.Core.Bool.{true, false, not, false≢true}
-use mathlib.Core.List.{List, [], _∷_, map}
+use mathlib.Core.List.{List, [], _∷_, map, append-nil}
 use Prim.Native.Nat.{ℕ, _^_, _<_}
 use lib.ListN.{length, length-map}
 use Rattle.gf2.specs.Gf2.{bit, isZero, column, choose, onto, Group2, XorGroup, sumOver, rowOf, comb}
 use Rattle.gf2.specs.Bit.{bit-hom, bits-zero}
 use Rattle.gf2.specs.Columns.{isZero-sound, comb-lt, fitted-exact, rows-told}
 use Rattle.lists.specs.Lists.{below, Distinct, rev, has, All, All.nil}
-use Rattle.lists.specs.ListLaws.{all-below, all-rev, all-unrev, all-self, none-has, append-nil, filter-back, length-rev, distinct-rev, all-unmap, distinct-filter, distinct-below, all-has, below-of, all-zip, map-all, filter-in, all-in, all-map, all-of}
+use Rattle.lists.specs.ListLaws.{all-below, all-rev, all-unrev, all-self, none-has, filter-back, length-rev, distinct-rev, all-unmap, distinct-filter, distinct-below, all-has, below-of, all-zip, map-all, filter-in, all-in, all-map, all-of}
 use Rattle.gf2.specs.GreedyLaws.{choose-indep, choose-spans, all-choose, onto-all, onto-indep, distinct-choose}
 use Rattle.gf2.specs.Independent.{Indep, Indep.empty}
 use Rattle.gf2.specs.Linear.{lin-zero}

@@ -92,10 +92,6 @@ offset-last t m n s k =
     omega arith
 
 -- the next start
-pub offset-none : (t : List ℕ) (m : ℕ) → 5 + m ≡ 5 + m + offset t 0
-unfolding offset
-offset-none t m = omega arith
-
 pub offset-more : (t : List ℕ) (m j a w : ℕ) → a ≡ 5 + m + offset t j → w ≡ getD t (4 + j) 0 → a + w ≡ 5 + m + offset t (j + 1)
 unfolding offset
 offset-more t m j a w e f = rw (add-one j) (omega arith)

@@ -5,7 +5,7 @@ use mathlib.Core.List.{List, [], _∷_, _++_}
 use Prim.Native.Nat.{ℕ}
 use lib.Dec.{eqb}
 use Rattle.lists.specs.Lists.{has, All.nil, All.cons}
-use Rattle.lists.specs.Tests.{eqb-true, eqb-self, byBool, or-r}
+use Rattle.lists.specs.Tests.{eqb-true, eqb-self, byBool, or-r, or-false-l, or-false-r}
 use Rattle.table.specs.FirstCause.{firstCause, NoneHolds, causeNumbers, RefusedBy}
 
 -- no number twice
@@ -26,23 +26,18 @@ no-right : (a b : Bool) → (not a && b) ≡ true → b ≡ true
 no-right true b h = absurd (false≢true h)
 no-right false b h = h
 
-or-neither : (a b : Bool) → (a || b) ≡ false → (a ≡ false) × (b ≡ false)
-or-neither true b h = absurd (true≢false h)
-or-neither false b h = (refl, h)
-
 -- a number that no cause has is not answered, unless it is 0
 unheard : (k : ℕ) (cs : List (Bool × ℕ)) → has k (causeNumbers cs) ≡ false → firstCause cs ≡ k → (k ≡ 0) × NoneHolds cs
 unheard k [] h e = (sym e, nil)
 unheard k (c ∷ cs) h e =
-    let n = or-neither (eqb k (c .1)) (has k (causeNumbers cs)) h in
     byBool (c .0)
-    (λ t. absurd (true≢false (sym (eqb-self k) ∙ ap (eqb k) (sym (rw t at e)) ∙ n .0)))
-    (λ f. let r = unheard k cs (n .1) (rw f at e) in (r .0, cons f (r .1)))
+    (λ t. absurd (true≢false (sym (eqb-self k) ∙ ap (eqb k) (sym (rw t at e)) ∙ or-false-l (eqb k (c .1)) _ h)))
+    (λ f. let r = unheard k cs (or-false-r (eqb k (c .1)) _ h) (rw f at e) in (r .0, cons f (r .1)))
 
 -- a number that no cause has isn't k's
 apart : (j : ℕ) (before after : List (Bool × ℕ)) (b : Bool) (k : ℕ) → has j (causeNumbers (before ++ ((b, k) ∷ after))) ≡ false → j ≡ k → ⊥
-apart j [] after b k h e = true≢false (sym (eqb-self j) ∙ ap (eqb j) e ∙ or-neither (eqb j k) _ h .0)
-apart j (c ∷ before) after b k h e = apart j before after b k (or-neither (eqb j (c .1)) _ h .1) e
+apart j [] after b k h e = true≢false (sym (eqb-self j) ∙ ap (eqb j) e ∙ or-false-l (eqb j k) _ h)
+apart j (c ∷ before) after b k h e = apart j before after b k (or-false-r (eqb j (c .1)) _ h) e
 
 -- what a number tells
 told : (before after : List (Bool × ℕ)) (b : Bool) (k : ℕ) → allDiffer (causeNumbers (before ++ ((b, k) ∷ after))) ≡ true → (0 ≡ k → ⊥)

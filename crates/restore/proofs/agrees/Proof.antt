@@ -5,7 +5,8 @@ use Rattle.erasure.specs.Restoring.{lostPlaces, consistent}
 use Rattle.erasure.specs.Turns.{stateOf}
 use Rattle.turns.specs.TurnLaws.{at-check}
 use Rattle.restore.proofs.Passing.{agree-passed}
-use Rattle.table.specs.Accepted.{has-weights, check-count, check-is, check-fits, check-in, offset-none, offset-more}
+use Rattle.table.specs.Accepted.{has-weights, check-count, check-is, check-fits, check-in, offset-more}
+use Rattle.table.specs.ChecksLaws.{offset-none}
 use Rattle.table.specs.CodewordLaws.{sum-zero, sum-nonzero}
 use Rattle.restore.proofs.Agreeing.{agree-zero, agree-not, agree-end}
 use Prim.Native.Nat.{_+_, _-_, _≤_, _<_}

@@ -3,7 +3,8 @@ use Rattle.table.specs.Checks.{offset}
 use Rattle.table.specs.Packets.{packets}
 use Rattle.table.specs.Table.{checks}
 use Rattle.verify.specs.Verify.{failing, verdict}
-use Rattle.table.specs.Accepted.{has-weights, check-count, check-is, check-fits, check-in, offset-none, offset-more}
+use Rattle.table.specs.Accepted.{has-weights, check-count, check-is, check-fits, check-in, offset-more}
+use Rattle.table.specs.ChecksLaws.{offset-none}
 use Rattle.table.specs.CodewordLaws.{sum-zero, sum-nonzero}
 use Rattle.verify.proofs.Looking.{fail-hit, fail-miss, fail-end}
 use Prim.Native.Nat.{_+_, _-_, _≤_}
