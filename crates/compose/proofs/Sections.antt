@@ -17,7 +17,8 @@ use Rattle.plan.specs.Step.{pack}
 use Rattle.rule.specs.Rule.{Solved, solvingSteps, scratchSteps, fittingSteps, planSteps, fittedPlaces, inverse, reduced}
 use Rattle.emit.specs.Emit.{Room, WroteSteps, marked, marking, solvedIn, asideIn, solveSteps, wholeSteps, asideSteps, fittingRows, Numbers, Below, Readable}
 use Rattle.emit.specs.MarkLaws.{minus-same, solving-same, scratch-same, none-marked, marked-more, marking-length, below-more}
-use Rattle.emit.specs.WroteLaws.{packed-append, packed-length, Left, left-all, left-is, left-more, left-steps, left-done}
+use Rattle.lists.specs.WroteLaws.{Left, left-all, left-is, left-more, left-done}
+use Rattle.emit.specs.PackedLaws.{packed-append, packed-length, left-steps}
 use Rattle.compose.specs.Compose.{gapSteps, Phases}
 use Rattle.compose.proofs.Fitting.{fitting-is, fitted-low}
 

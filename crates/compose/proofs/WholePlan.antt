@@ -6,7 +6,7 @@ use native.Mathlib.Omega.{arith}
 use lib.ListN.{length, getD, take, drop, length-append}
 use lib.Seq.{take-suc, length-take-le}
 use Rattle.table.specs.Checks.{check}
-use Rattle.lists.specs.Lists.{written}
+use Rattle.lists.specs.Lists.{written, Wrote}
 use Rattle.table.specs.Table.{mostChecks, places, size, number, checks}
 use Rattle.table.specs.TableLaws.{accepted}
 use Rattle.plan.specs.declared.Step.{Step}
@@ -17,8 +17,9 @@ use Rattle.rule.specs.WithinLimits.{steps-limit, numbers-limit, kept-length}
 use Rattle.rule.specs.Buffers.{solved, peeling}
 use Rattle.rule.specs.PlanOf.{planOf, numbersOf}
 use Rattle.rule.specs.Rule.{Solved, owns, planSteps, fittedPlaces, solvedOf, setAsideOf}
-use Rattle.emit.specs.Emit.{Wrote, Room, solvedIn, asideIn}
-use Rattle.emit.specs.WroteLaws.{wrote-is, wrote-length, wrote-append, packed-length}
+use Rattle.emit.specs.Emit.{Room, solvedIn, asideIn}
+use Rattle.lists.specs.WroteLaws.{wrote-is, wrote-length, wrote-append}
+use Rattle.emit.specs.PackedLaws.{packed-length}
 use Rattle.compose.specs.Compose.{planStepsIn, clearCount, freePlaces, infoPlaces, Phases, Composed}
 use Rattle.compose.proofs.ClearSteps.{clears-are}
 use Rattle.compose.proofs.Sections.{aside-length}

@@ -7,7 +7,8 @@ ghost use lib.ListN.{length};
 ghost use Rattle.table.specs.Table.{mostPlaces};
 ghost use Rattle.plan.specs.Layout.{mostAside, mostSteps, leastPlan, infoNumbers, stepNumbers};
 ghost use Rattle.rule.specs.PlanOf.{planOf};
-ghost use Rattle.emit.specs.Emit.{Wrote, WroteSteps, Room, marked, Below};
+ghost use Rattle.lists.specs.Lists.{Wrote};
+ghost use Rattle.emit.specs.Emit.{WroteSteps, Room, marked, Below};
 ghost use Rattle.compose.specs.Compose.{gapStepsIn, planStepsIn, clearCount, freePlaces, infoPlaces, Phases, Composed};
 
 // ---- the steps, from plan[at] on; the place behind them is returned

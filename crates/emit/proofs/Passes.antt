@@ -16,7 +16,7 @@ use Rattle.rule.specs.Buffers.{solved, maskBits}
 use Rattle.rule.specs.Rule.{Solved, clearAndAdd, solvingSteps, scratchSteps, slotsNamed}
 use Rattle.emit.specs.Emit.{marked, solvedIn, asideIn, fittingRows, Readable}
 use Rattle.emit.specs.MarkLaws.{solving-same, none-marked}
-use Rattle.emit.specs.WroteLaws.{packed-append}
+use Rattle.emit.specs.PackedLaws.{packed-append}
 use Rattle.emit.proofs.Sums.{part-length, part-at}
 
 -- ---- a check as code reads it

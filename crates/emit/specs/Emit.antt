@@ -5,21 +5,16 @@ use mathlib.Core.List.{List, [], _∷_, _++_, map}
 use Prim.Native.Nat.{ℕ, zero, suc, _+_, _<_, _≤_}
 use lib.Dec.{eqb}
 use lib.ListN.{length, getD, set, take}
-use Rattle.lists.specs.Lists.{rev, filter, minus, written}
+use Rattle.lists.specs.Lists.{rev, filter, minus, Wrote, from}
 use Rattle.table.specs.Accepted.{Located}
-use Rattle.table.specs.Checks.{check, from}
+use Rattle.table.specs.Checks.{check}
 use Rattle.table.specs.Table.{mostPlaces, places, number}
 use Rattle.plan.specs.declared.Step.{Step}
 use Rattle.plan.specs.Step.{pack}
 use Rattle.rule.specs.Buffers.{solved, maskBits}
 use Rattle.rule.specs.Rule.{Solved, clearAndAdd, solvingSteps, scratchSteps, slotsNamed}
 
--- ---- a list in a longer buffer
--- e is l with ws from at on, and r the next place
-pub record Wrote (l : List ℕ) (at : ℕ) (ws : List ℕ) (e : List ℕ) (r : ℕ) : Type 0 where
-  pub list : e ≡ written l at ws
-  pub next : r ≡ at + length ws
-
+-- ---- steps in a longer buffer
 -- l has room for some steps from at on
 abbrev pub Room : List ℕ → ℕ → List Step → Type 0
 Room l at xs = at + length xs ≤ length l

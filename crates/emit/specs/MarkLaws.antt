@@ -10,8 +10,7 @@ use lib.ListN.{length, getD, set, take, replicate, length-set, List·getD-eq-def
 use lib.Seq.{getD-set-same, getD-set-other, getD-take, length-take-le}
 use Rattle.lists.specs.Tests.{eqb-true, eqb-false, byBool}
 use Rattle.lists.specs.ListLaws.{has-kept, getD-zeros, has-filter}
-use Rattle.lists.specs.Lists.{has, minus}
-use Rattle.table.specs.Checks.{from}
+use Rattle.lists.specs.Lists.{has, minus, from}
 use Rattle.rule.specs.Rule.{Solved, clearAndAdd, solvingSteps, scratchSteps}
 use Rattle.emit.specs.Emit.{marked, marking, Below}
 

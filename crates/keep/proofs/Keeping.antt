@@ -7,10 +7,12 @@ use native.Mathlib.Numerals.{add-one}
 use native.Mathlib.Omega.{arith}
 use lib.Bits.{bitXor}
 use lib.ListN.{length, getD, set, take, drop}
+use Rattle.lists.specs.Lists.{from}
+use Rattle.lists.specs.Numbers.{from-next, from-none}
 use Rattle.gf2.specs.Bit.{bits-zero}
 use Rattle.gf2.specs.Gf2.{Bits, rowsOf, sums, down, isZero, choose, onto, XorGroup, rowOf}
 use Rattle.gf2.specs.EchelonLaws.{bit-nonzero, down-test, down-in, one-more, sums-shift, sums-none}
-use Rattle.table.specs.Checks.{offset, check, from}
+use Rattle.table.specs.Checks.{offset, check}
 use Rattle.table.specs.ChecksLaws.{offset-more}
 use Rattle.bits.specs.Front.{Front, front-none, front-more}
 use Rattle.bits.specs.Row.{row}
@@ -18,17 +20,6 @@ use Rattle.bits.specs.RowLaws.{row-lt}
 use Rattle.rows.specs.Leads.{leads, Owners, Lowered}
 use Rattle.rows.specs.LeadsLaws.{leads-none, owners-lead, leads-kept, owners-kept, owners-below, own-most, lead-here, lead-other, lead-bits}
 use Rattle.keep.specs.Kept.{keptOf}
-
--- ---- numbers in a row
-from-cons : (i m : ℕ) → i < m → from i (m - i) ≡ i ∷ from (i + 1) (m - (i + 1))
-unfolding from
-from-cons i m h =
-    let e : m - i ≡ suc (m - (i + 1)) = omega arith in
-    ap (from i) e ∙ ap (λ (k : ℕ). i ∷ from k (m - (i + 1))) (sym (add-one i))
-
-from-none : (i m : ℕ) → m ≤ i → from i (m - i) ≡ []
-unfolding from
-from-none i m h = let e : m - i ≡ 0 = omega arith in rw e
 
 abbrev pub checkRow : List ℕ → ℕ → ℕ → ℕ
 checkRow t m j = rowOf (check t m j)
@@ -108,7 +99,7 @@ module _ {t : List ℕ} {m n : ℕ} {ids₀ w owner ids e : List ℕ} {k i at : 
         owned = s .owned;
         lead = owners-kept o (d .put) .lead;
         same = λ x. ap (λ (F : ℕ → ℕ). sums (rowsOf F n) x) (leads-kept o (d .put)) ∙ s .same x;
-        decides = s .decides ∙ ap (λ (r : List ℕ). s .ps ++ r) (ap (choose XorGroup isZero f K) (from-cons i m more) ∙ rw (c, choose));
+        decides = s .decides ∙ ap (λ (r : List ℕ). s .ps ++ r) (ap (choose XorGroup isZero f K) (from-next m i more) ∙ rw (c, choose));
       }
 
   module _ (hit : 0 < l) (lo : l ≤ length owner) (li : k < length ids₀) where
@@ -133,7 +124,7 @@ module _ {t : List ℕ} {m n : ℕ} {ids₀ w owner ids e : List ℕ} {k i at : 
               ∙ ap (λ (v : Bool). sums (rowsOf (leads w owner) n) x || v) (sums-shift (rowsOf (leads w owner) n) y (f i) x (down-in (leads w owner) n (f i)))
               ∙ ap₂ _||_ (s .same x) (s .same (bitXor (f i) x))
               ∙ sym (ap (λ (L : List ℕ). sums L x) kr);
-          decides = s .decides ∙ ap (λ (r : List ℕ). s .ps ++ r) (ap (choose XorGroup isZero f K) (from-cons i m more) ∙ rw (c, choose))
+          decides = s .decides ∙ ap (λ (r : List ℕ). s .ps ++ r) (ap (choose XorGroup isZero f K) (from-next m i more) ∙ rw (c, choose))
               ∙ sym (append-assoc (s .ps) (i ∷ []) (choose XorGroup isZero f (f i ∷ K) R))
               ∙ sym (ap (λ (L : List ℕ). (s .ps ++ (i ∷ [])) ++ choose XorGroup isZero f L R) kr);
         }

@@ -2,4 +2,6 @@ pub mod Ascending
 pub mod Buffers
 pub mod ListLaws
 pub mod Lists
+pub mod Numbers
 pub mod Tests
+pub mod WroteLaws

@@ -331,3 +331,20 @@ same-sound (x ∷ a) [] h = absurd (false≢true h)
 same-sound (x ∷ a) (y ∷ b) h = byBool (eqb x y)
     (λ e. ap₂ _∷_ (eqb-true x y e) (same-sound a b (rw e at h)))
     (λ e. absurd (false≢true (rw e at h)))
+
+-- ---- a filter of two parts; where all pass, or none; by another test
+pub filter-append : (f : ℕ → Bool) (a b : List ℕ) → filter f (a ++ b) ≡ filter f a ++ filter f b
+filter-append f [] b = refl
+filter-append f (x ∷ a) b = byBool (f x) (λ e. rw e (ap (λ l. x ∷ l) (filter-append f a b))) (λ e. rw e (filter-append f a b))
+
+pub filter-all : (f : ℕ → Bool) {l : List ℕ} → All (λ x. f x ≡ true) l → filter f l ≡ l
+filter-all f nil = refl
+filter-all f (cons {x = x} h a) = rw h (ap (λ l. x ∷ l) (filter-all f a))
+
+pub filter-none : (f : ℕ → Bool) {l : List ℕ} → All (λ x. f x ≡ false) l → filter f l ≡ []
+filter-none f nil = refl
+filter-none f (cons h a) = rw h (filter-none f a)
+
+pub filter-same : (f g : ℕ → Bool) {l : List ℕ} → All (λ x. f x ≡ g x) l → filter f l ≡ filter g l
+filter-same f g nil = refl
+filter-same f g (cons {x = x} {l = l} e a) = ap₂ (λ b r. cond b (x ∷ r) r) e (filter-same f g a)

@@ -36,6 +36,11 @@ abbrev pub highest : ℕ → (ℕ → Bool) → Option ℕ
 highest zero f = none
 highest (suc k) f = elim (f k) [ true ↦ some k | false ↦ highest k f ]
 
+-- how many members pass
+abbrev pub count : {X : Type 0} → (X → Bool) → List X → ℕ
+count f [] = 0
+count f (x ∷ l) = elim (f x) [ true ↦ suc (count f l) | false ↦ count f l ]
+
 -- ---- members
 -- p is a member
 abbrev pub has : ℕ → List ℕ → Bool
@@ -77,6 +82,16 @@ abbrev pub below : ℕ → List ℕ
 below zero = []
 below (suc k) = k ∷ below k
 
+-- c numbers from i on
+unfoldable pub from : ℕ → ℕ → List ℕ
+from i zero = []
+from i (suc c) = i ∷ from (suc i) c
+
 -- b with x written from at on
 abbrev pub written : List ℕ → ℕ → List ℕ → List ℕ
 written b at x = take at b ++ (x ++ drop (at + length x) b)
+
+-- e is b with ws from at on, and r the next place
+pub record Wrote (b : List ℕ) (at : ℕ) (ws e : List ℕ) (r : ℕ) : Type 0 where
+  pub list : e ≡ written b at ws
+  pub next : r ≡ at + length ws

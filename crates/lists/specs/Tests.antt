@@ -1,6 +1,6 @@
--- Laws of tests: by cases, of equal numbers, of "or" and "exactly one", and of sides.
+-- Laws of tests: by cases, of equal numbers, of "and", "or" and "exactly one", and of sides.
 use mathlib.Core.Path.{_≡_, refl, sym, ap, _∙_, subst}
-use mathlib.Core.Bool.{Bool, true, false, _||_, true≢false, false≢true}
+use mathlib.Core.Bool.{Bool, true, false, _||_, _&&_, true≢false, false≢true}
 use mathlib.Core.Logic.{_≢_, _⊎_, inl, inr}
 use Prim.Native.Nat.{ℕ, _-_, _<_, _≤_}
 use lib.Dec.{T, eqb→eq, eqb-refl, eqb, ltb}
@@ -48,6 +48,18 @@ eqb-comm m n = byBool (eqb m n)
 
 pub eqb-lt : (a b : ℕ) → a < b → eqb a b ≡ false
 eqb-lt a b h = byBool (eqb a b) (λ e. let k = eqb-true a b e in absurd (omega arith)) (λ e. e)
+
+pub eqb-gt : (a b : ℕ) → b < a → eqb a b ≡ false
+eqb-gt a b h = eqb-comm a b ∙ eqb-lt b a h
+
+-- both tests pass: the first, and the second
+pub and-l : (a b : Bool) → (a && b) ≡ true → a ≡ true
+and-l true b e = refl
+and-l false b e = absurd (false≢true e)
+
+pub and-r : (a b : Bool) → (a && b) ≡ true → b ≡ true
+and-r true b e = e
+and-r false b e = absurd (false≢true e)
 
 pub byOpt : {A P : Type 0} (x : Option A) → ((a : A) → x ≡ some a → P) → (x ≡ none → P) → P
 byOpt (some a) f g = f a refl

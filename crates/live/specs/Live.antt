@@ -7,8 +7,7 @@ use Prim.Native.Nat.{ℕ, _+_, _-_, _<_, _≤_}
 use lib.Bits.{bitXor}
 use lib.ListN.{length, getD}
 use Rattle.gf2.specs.Gf2.{XorGroup, sumOver}
-use Rattle.lists.specs.Lists.{has}
-use Rattle.rule.specs.Rule.{count}
+use Rattle.lists.specs.Lists.{has, count}
 use Rattle.live.specs.declared.Found.{Found}
 use Rattle.live.specs.declared.Found.the-variants.{At, Nothing}
 

@@ -10,10 +10,10 @@ use lib.Dec.{eqb}
 use lib.ListN.{getD}
 use Rattle.gf2.specs.Gf2.{XorGroup, sumOver}
 use Rattle.gf2.specs.Group.{cancel-r, left-comm}
-use Rattle.lists.specs.Lists.{highest, has}
+use Rattle.lists.specs.Lists.{highest, has, count}
 use Rattle.lists.specs.ListLaws.{highest-same}
 use Rattle.lists.specs.Tests.{byBool}
-use Rattle.rule.specs.Rule.{count, inOneOnly}
+use Rattle.rule.specs.Rule.{inOneOnly}
 use Rattle.live.specs.Live.{Noted, Forgot, Tally}
 
 pub single-is : (g : ℕ → List ℕ) (JS c x : List ℕ) (n : ℕ) → Tally g JS c x → highest n (λ p. eqb (getD c p 0) 1) ≡ highest n (inOneOnly (map g JS))

@@ -11,7 +11,7 @@ use lib.ListN.{length, getD, set, take, drop, length-set}
 use lib.Seq.{slice, slice-empty, slice-cons, getD-set-same, getD-set-other, take-set-lt, drop-set-lt}
 use Rattle.gf2.specs.Gf2.{XorGroup, isZero, choose, isSum}
 use Rattle.lists.specs.Lists.{bxor, below, rev, All, All.nil, All.cons}
-use Rattle.lists.specs.Tests.{eqb-true, eqb-false, eqb-comm, eqb-lt, byBool}
+use Rattle.lists.specs.Tests.{eqb-true, eqb-false, eqb-gt, byBool}
 use Rattle.masks.specs.Dot.{dot}
 use Rattle.masks.specs.Scan.{mended, Tied, Scan}
 use Rattle.masks.specs.DotLaws.{dot-hom, dot-mend}
@@ -40,9 +40,6 @@ module _ (f : ℕ → ℕ) (M F : List ℕ) where
   at-duals {P} i (suc k) (cons p a) j l h = byBool (eqb j i)
       (λ e. subst (λ (x : ℕ). P (dualAt x)) (sym (eqb-true j i e)) p)
       (λ e. let ne = eqb-false j i e in at-duals (suc i) k a j (omega arith) (omega arith))
-
-eqb-gt : (a b : ℕ) → b < a → eqb a b ≡ false
-eqb-gt a b h = eqb-comm a b ∙ eqb-lt b a h
 
 tied-duals : {f : ℕ → ℕ} {W : List ℕ} {g p free : ℕ} {M F : List ℕ} → Scan f W g p free M F → (i k : ℕ) → free ≤ i → i + k ≤ g → Duals (duals f M F i k)
 tied-duals s i zero h l = done

@@ -11,10 +11,10 @@ use borrow.Author.Tests.{ne-eqb}
 use Rattle.lists.specs.Tests.{eqb-true, eqb-false, eqb-self, byBool}
 use Rattle.gf2.specs.Gf2.{isZero, choose, XorGroup, rowOf, isSum}
 use Rattle.lists.specs.ListLaws.{getD-zeros, all-map}
-use Rattle.lists.specs.Lists.{has, All, All.nil, All.cons}
-use Rattle.table.specs.Checks.{check, from, offset}
+use Rattle.lists.specs.Lists.{has, All, All.nil, All.cons, count, from}
+use Rattle.lists.specs.Numbers.{from-all}
+use Rattle.table.specs.Checks.{check, offset}
 use Rattle.table.specs.Table.{total}
-use Rattle.rule.specs.Rule.{count}
 use Rattle.keep.specs.Kept.{keptOf}
 use Rattle.live.specs.Live.{Tally, Noted}
 use Rattle.live.specs.TallyLaws.{tally-more}
@@ -22,11 +22,6 @@ use Rattle.live.specs.Heaviest.{lives, weight}
 use Rattle.peel.specs.Turn.{Ready, Numbers, Zeros, Entered, First, Peeled}
 
 -- ---- the kept numbers rise
-from-all : (i c : ℕ) → All (λ j. (i ≤ j) × (j < i + c)) (from i c)
-unfolding from
-from-all i zero = nil
-from-all i (suc c) = cons {x = i} (omega arith, omega arith) (all-map (λ j h. let a = h .0 in let b = h .1 in (omega arith, omega arith)) (from-all (suc i) c))
-
 chosen-all : {P : ℕ → Type 0} (f : ℕ → ℕ) (L : List ℕ) {l : List ℕ} → All P l → All P (choose XorGroup isZero f L l)
 chosen-all f L nil = nil
 chosen-all f L (cons {x = x} h a) = byBool (isSum XorGroup isZero L (f x))

@@ -2,8 +2,9 @@
 use mathlib.Core.Path.{_≡_, refl, ap}
 use mathlib.Core.List.{List, [], _∷_, map}
 use Prim.Native.Nat.{ℕ}
+use Rattle.lists.specs.Lists.{from}
 use Rattle.gf2.specs.Gf2.{XorGroup, isZero, choose, rowOf, isSum}
-use Rattle.table.specs.Checks.{check, from}
+use Rattle.table.specs.Checks.{check}
 use Rattle.rule.specs.Rule.{kept}
 use Rattle.lists.specs.Tests.{byBool}
 use Rattle.keep.specs.Kept.{keptOf}

@@ -16,9 +16,9 @@ use Rattle.table.specs.Accepted.{Accepted, each-places}
 use Rattle.table.specs.Checks.{check, offset}
 use Rattle.table.specs.Table.{size}
 use Rattle.lists.specs.Tests.{eqb-true, eqb-false, eqb-self, byBool}
-use Rattle.lists.specs.Lists.{highest, has, All, All.nil, All.cons}
+use Rattle.lists.specs.Lists.{highest, has, All, All.nil, All.cons, count}
 use Rattle.lists.specs.ListLaws.{highest-is}
-use Rattle.rule.specs.Rule.{count, first, without, heaviest, greatest}
+use Rattle.rule.specs.Rule.{first, without, heaviest, greatest}
 use Rattle.live.specs.Live.{Tally, Forgot, found}
 use Rattle.live.specs.Heaviest.{lives, heaviestFrom, weight}
 use Rattle.live.specs.declared.Found.the-variants.{At, Nothing}

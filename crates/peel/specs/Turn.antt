@@ -6,10 +6,10 @@ use mathlib.Core.Option.{none, some}
 use Prim.Native.Nat.{ℕ, _+_, _<_, _≤_}
 use lib.ListN.{length, getD, set, take}
 use lib.Dec.{eqb}
-use Rattle.lists.specs.Lists.{highest, has}
+use Rattle.lists.specs.Lists.{highest, has, count}
 use Rattle.rule.specs.Buffers.{solved}
 use Rattle.table.specs.Checks.{check}
-use Rattle.rule.specs.Rule.{count, inOneOnly, first, without, heaviest, peel, solvedOf, setAsideOf}
+use Rattle.rule.specs.Rule.{inOneOnly, first, without, heaviest, peel, solvedOf, setAsideOf}
 use Rattle.live.specs.Live.{Tally, Noted}
 use Rattle.live.specs.Heaviest.{lives}
 use Rattle.keep.specs.Kept.{keptOf}

@@ -8,7 +8,7 @@ use lib.Bits.{bitXor}
 use lib.Dec.{eqb}
 use lib.ListN.{length}
 use Rattle.gf2.specs.Gf2.{bit, isZero, column, choose, XorGroup, sumOver, maskFor, rowOf}
-use Rattle.lists.specs.Lists.{below, highest, rev, has, minus}
+use Rattle.lists.specs.Lists.{below, count, highest, rev, has, minus}
 use Rattle.table.specs.Table.{ones}
 use Rattle.plan.specs.declared.Step.{Step}
 use Rattle.plan.specs.declared.Step.the-variants.{Clear, Add}
@@ -19,11 +19,6 @@ abbrev pub kept : List (List ℕ) → List (List ℕ)
 kept cs = choose XorGroup isZero rowOf [] cs
 
 -- ---- 2 and 3, over the live checks, in number order
--- how many checks pass
-abbrev pub count : (List ℕ → Bool) → List (List ℕ) → ℕ
-count f [] = 0
-count f (x ∷ l) = elim (f x) [ true ↦ suc (count f l) | false ↦ count f l ]
-
 -- the first check that passes, and the list without it
 abbrev pub first : (List ℕ → Bool) → List (List ℕ) → List ℕ
 first f [] = []

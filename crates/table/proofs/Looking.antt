@@ -12,7 +12,7 @@ use lib.Seq.{drop-cons, drop-drop}
 use Rattle.lists.specs.Lists.{allPass, anyOf}
 use Rattle.lists.specs.Tests.{or-false-l, or-false-r, byBool, or-l, or-r}
 use Rattle.table.specs.LookOver.{weighed}
-use Rattle.table.specs.Table.{places, size, number, weights, onesCount, total, cutUp, rising, outside, tooShort, beyondLimits, badLengths, badPlaces, refusal}
+use Rattle.table.specs.Table.{places, size, number, weights, onesCount, total, cutUp, rising, outside, tooShort, beyondLimits, badLengths, badPlaces, refusal, beyond}
 
 -- ---- the words of t from i up to e
 abbrev pub part : List ℕ → ℕ → ℕ → List ℕ
@@ -75,23 +75,21 @@ out-over most x h = rw (ne-eqb x 0 h)
 pub limit-first : (t : List ℕ) → (getD t 0 0 ≡ 2 → ⊥) → true ≡ beyondLimits t
 limit-first t h = rw (ne-eqb (getD t 0 0) 2 h)
 
-pub limit-places : (t : List ℕ) (x : ℕ) (r : Bool) → x ≡ places t → r ≡ outside 1024 x → r ≡ true → true ≡ beyondLimits t
-limit-places t x r h e k = let o : outside 1024 (places t) ≡ true = ap (outside 1024) (sym h) ∙ sym e ∙ k in
-    sym (or-r (not (eqb (getD t 0 0) 2)) _ (or-l (outside 1024 (places t)) _ o))
+pub limit-rest : (t : List ℕ) (n s m : ℕ) (r : Bool) → getD t 0 0 ≡ 2 → n ≡ places t → s ≡ size t → m ≡ number t → r ≡ beyond n s m → r ≡ beyondLimits t
+limit-rest t n s m r h a b c e = rw (e, a, b, c, eq-eqb (getD t 0 0) 2 h)
 
-pub limit-bytes : (t : List ℕ) (x : ℕ) (r : Bool) → x ≡ size t → r ≡ outside 1024 x → r ≡ true → true ≡ beyondLimits t
-limit-bytes t x r h e k = let o : outside 1024 (size t) ≡ true = ap (outside 1024) (sym h) ∙ sym e ∙ k in
-    sym (or-r (not (eqb (getD t 0 0) 2)) _ (or-r (outside 1024 (places t)) _ (or-l (outside 1024 (size t)) _ o)))
+module _ (n s m : ℕ) where
+  pub beyond-places : {r : Bool} → r ≡ outside 1024 n → r ≡ true → true ≡ beyond n s m
+  beyond-places e k = sym (or-l (outside 1024 n) _ (sym e ∙ k))
 
-pub limit-checks : (t : List ℕ) (n s m : ℕ) (q r : Bool) → getD t 0 0 ≡ 2 → n ≡ places t → q ≡ outside 1024 n → q ≡ false → s ≡ size t → r ≡ outside 1024 s → r ≡ false → m ≡ number t
-    → ltb 512 m ≡ beyondLimits t
-limit-checks t n s m q r a b c d e f g h =
-    let i : outside 1024 (places t) ≡ false = ap (outside 1024) (sym b) ∙ sym c ∙ d in
-    let j : outside 1024 (size t) ≡ false = ap (outside 1024) (sym e) ∙ sym f ∙ g in
-    ap (ltb 512) h ∙ sym (none-before (not (eqb (getD t 0 0) 2)) (outside 1024 (places t)) (outside 1024 (size t)) (ltb 512 (number t)) (ap not (eq-eqb (getD t 0 0) 2 a)) i j)
-  where
-    none-before : (a b c d : Bool) → a ≡ false → b ≡ false → c ≡ false → (a || (b || (c || d))) ≡ d
-    none-before a b c d e f g = rw (e, f, g)
+  pub beyond-bytes : {r : Bool} → r ≡ outside 1024 s → r ≡ true → true ≡ beyond n s m
+  beyond-bytes e k = sym (or-r (outside 1024 n) _ (or-l (outside 1024 s) _ (sym e ∙ k)))
+
+  pub beyond-checks : {q r : Bool} → q ≡ outside 1024 n → q ≡ false → r ≡ outside 1024 s → r ≡ false → ltb 512 m ≡ beyond n s m
+  beyond-checks a b c d = rest (outside 1024 n) (outside 1024 s) (sym a ∙ b) (sym c ∙ d)
+    where
+      rest : (x y : Bool) → x ≡ false → y ≡ false → ltb 512 m ≡ (x || (y || ltb 512 m))
+      rest x y e f = rw (e, f)
 
 -- ---- the checks, by their weights
 abbrev pub passes : ℕ → List ℕ → List ℕ → Bool

@@ -15,11 +15,6 @@ offset t (suc j) = offset t j + getD t (4 + j) 0
 unfoldable pub check : List ℕ → ℕ → ℕ → List ℕ
 check t m j = take (getD t (4 + j) 0) (drop (5 + m + offset t j) t)
 
--- c numbers from i on
-unfoldable pub from : ℕ → ℕ → List ℕ
-from i zero = []
-from i (suc c) = i ∷ from (suc i) c
-
 -- weight places of t from at: inside t, below n, ascending
 pub record Places (t : List ℕ) (at weight n : ℕ) : Type 0 where
   pub room : at + weight ≤ length t

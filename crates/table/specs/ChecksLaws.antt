@@ -9,9 +9,10 @@ use borrow.Author.Tests.{ltb-true, ltb-false, leb-true, leb-false, eqb-true, not
 use lib.Dec.{eqb, ltb, leb}
 use lib.ListN.{length, getD, take, drop, length-map, length-drop}
 use lib.Seq.{length-take-le, getD-take, getD-drop, drop-cons, drop-drop, take-suc}
-use Rattle.lists.specs.Lists.{allPass, anyOf}
-use Rattle.lists.specs.Tests.{or-false-l, or-false-r, byBool}
-use Rattle.table.specs.Checks.{offset, check, from, Places}
+use Rattle.lists.specs.Lists.{allPass, anyOf, from}
+use Rattle.lists.specs.Numbers.{from-length, from-at}
+use Rattle.lists.specs.Tests.{or-false-l, or-false-r, byBool, and-l, and-r}
+use Rattle.table.specs.Checks.{offset, check, Places}
 use Rattle.table.specs.Table.{places, size, number, weights, onesCount, total, cutUp, checks, rising, tooShort, beyondLimits, badLengths, badPlaces, refusal, outside}
 
 -- ---- the limits and the length
@@ -121,17 +122,6 @@ unfolding offset
 checks-listed t h =
     ap (λ k. cutUp (weights t) (drop k t)) (offset-none t (number t)) ∙ cut-from t (number t) 0 (number t) (omega arith)
 
-pub from-length : (i c : ℕ) → length (from i c) ≡ c
-unfolding from
-from-length i zero = refl
-from-length i (suc c) = ap suc (from-length (suc i) c)
-
-pub from-at : (i c j : ℕ) → j < c → getD (from i c) j 0 ≡ i + j
-unfolding from
-from-at i zero j h = absurd (omega arith)
-from-at i (suc c) zero h = omega arith
-from-at i (suc c) (suc j) h = let e = from-at (suc i) c j (omega arith) in omega arith
-
 map-at : {X : Type 0} (f : ℕ → X) (l : List ℕ) (j : ℕ) (d : X) → j < length l → getD (map f l) j d ≡ f (getD l j 0)
 map-at f [] j d h = absurd (omega arith)
 map-at f (x ∷ l) zero d h = refl
@@ -142,16 +132,6 @@ light-at : (ws : List ℕ) (j : ℕ) → j < length ws → anyOf (ltb 64) ws ≡
 light-at [] j h a = absurd (omega arith)
 light-at (w ∷ ws) zero h a = ltb-false 64 w (or-false-l (ltb 64 w) (anyOf (ltb 64) ws) a)
 light-at (w ∷ ws) (suc j) h a = light-at ws j (omega arith) (or-false-r (ltb 64 w) (anyOf (ltb 64) ws) a)
-
--- both tests pass: the first
-and-l : (a b : Bool) → (a && b) ≡ true → a ≡ true
-and-l true b e = refl
-and-l false b e = absurd (false≢true e)
-
--- and the second
-and-r : (a b : Bool) → (a && b) ≡ true → b ≡ true
-and-r true b e = e
-and-r false b e = absurd (false≢true e)
 
 -- what each check passes
 pass-at : (f : List ℕ → Bool) (cs : List (List ℕ)) (j : ℕ) → j < length cs → allPass f cs ≡ true → f (getD cs j []) ≡ true

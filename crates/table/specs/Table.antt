@@ -72,6 +72,10 @@ rising n b (p ∷ c) = leb b p && ltb p n && rising n (suc p) c
 abbrev pub outside : ℕ → ℕ → Bool
 outside most x = eqb x 0 || ltb most x
 
+-- n, s or m beyond its limits
+abbrev pub beyond : ℕ → ℕ → ℕ → Bool
+beyond n s m = outside mostPlaces n || (outside mostBytes s || ltb mostChecks m)
+
 -- ---- the causes
 -- 1: "fewer than 5 words"
 abbrev pub tooShort : List ℕ → Bool
@@ -79,7 +83,7 @@ tooShort t = ltb (length t) 5
 
 -- 2: "first word not 2, or n, s or m beyond its limits"
 abbrev pub beyondLimits : List ℕ → Bool
-beyondLimits t = not (eqb (getD t 0 0) 2) || (outside mostPlaces (places t) || (outside mostBytes (size t) || ltb mostChecks (number t)))
+beyondLimits t = not (eqb (getD t 0 0) 2) || beyond (places t) (size t) (number t)
 
 -- 3: "fewer than 5 + m words, a weight over 64, W0 over 6,144 or not the sum of weights, wrong length"
 abbrev pub badLengths : List ℕ → Bool

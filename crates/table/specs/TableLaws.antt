@@ -8,7 +8,7 @@ use borrow.Author.Tests.{ltb-true, ltb-false, leb-true, not-false}
 use lib.Dec.{eqb, ltb, leb}
 use lib.ListN.{length, getD, take, drop, length-take, length-drop}
 use lib.Seq.{length-take-le}
-use Rattle.lists.specs.Tests.{eqb-true, eqb-false, eqb-lt, or-false-l, or-false-r}
+use Rattle.lists.specs.Tests.{eqb-true, eqb-false, eqb-lt, or-false-l, or-false-r, and-l, and-r}
 use Rattle.lists.specs.Lists.{Distinct, Distinct.dnil, Distinct.dnew, allPass, has, anyOf, All, All.nil, All.cons}
 use Rattle.table.specs.Table.{ones, places, size, number, weights, onesCount, total, cutUp, checks, rising, tooShort, beyondLimits, badLengths, badPlaces, refusal}
 use Rattle.lists.specs.ListLaws.{all-map}
@@ -39,16 +39,6 @@ cut-light : (ws ps : List ℕ) → anyOf (ltb 64) ws ≡ false → All (λ c. le
 cut-light [] ps h = nil
 cut-light (w ∷ ws) ps h = cons {x = take w ps} (let a = length-take w ps in let b = ltb-false 64 w (or-false-l (ltb 64 w) (anyOf (ltb 64) ws) h) in omega arith)
     (cut-light ws (drop w ps) (or-false-r (ltb 64 w) (anyOf (ltb 64) ws) h))
-
--- both tests pass: the first
-and-l : (a b : Bool) → (a && b) ≡ true → a ≡ true
-and-l true b e = refl
-and-l false b e = absurd (false≢true e)
-
--- and the second
-and-r : (a b : Bool) → (a && b) ≡ true → b ≡ true
-and-r true b e = e
-and-r false b e = absurd (false≢true e)
 
 -- places between the bounds
 rising-all : (n b : ℕ) (c : List ℕ) → rising n b c ≡ true → All (λ p. (b ≤ p) × (p < n)) c

@@ -9,7 +9,7 @@ ghost use Rattle.table.specs.Checks.{Starts};
 ghost use Rattle.table.specs.LookOver.{weighed};
 ghost use Rattle.table.specs.PacketCall.{packetRefusal, partAt, packetPart, partStart};
 ghost use Rattle.table.specs.Table.{places, size, number, weights, total, cutUp, rising, beyondLimits, badLengths, badPlaces, refusal};
-ghost use Rattle.table.specs.Table.{outside as isOutside};
+ghost use Rattle.table.specs.Table.{outside as isOutside, beyond as isBeyond};
 
 // ---- the table
 
@@ -43,6 +43,19 @@ fn outside(most: usize, x: usize) -> bool
     most < x
 }
 
+// n, s or m beyond its limits
+pub fn beyond(n: usize, s: usize, m: usize) -> bool
+    ensures { λ r. ⌜ r ≡ isBeyond n s m ⌝ }
+{
+    if outside(MOST_PLACES, n) {
+        return true;
+    }
+    if outside(MOST_BYTES, s) {
+        return true;
+    }
+    MOST_CHECKS < m
+}
+
 // cause 2
 fn beyond_limits(t: &[u16]) -> bool
     requires { ⌜ 5 ≤ length (now t) ⌝ }
@@ -51,13 +64,7 @@ fn beyond_limits(t: &[u16]) -> bool
     if t[0] != 2 {
         return true;
     }
-    if outside(MOST_PLACES, wide(t[1])) {
-        return true;
-    }
-    if outside(MOST_BYTES, wide(t[2])) {
-        return true;
-    }
-    MOST_CHECKS < wide(t[3])
+    beyond(wide(t[1]), wide(t[2]), wide(t[3]))
 }
 
 // the sum of the m weights; 65,536, which no word is, if one is over 64

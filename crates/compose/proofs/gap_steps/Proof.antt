@@ -6,7 +6,7 @@ use Rattle.table.specs.Accepted.{few-places, has-weights}
 use Rattle.plan.specs.Step.{pack}
 use Rattle.emit.specs.Emit.{fittingRows}
 use Rattle.emit.specs.MarkLaws.{below-more}
-use Rattle.emit.specs.WroteLaws.{wrote-is}
+use Rattle.lists.specs.WroteLaws.{wrote-is}
 use Rattle.compose.proofs.Sections.{solved-checks, own-places, set-aside, fitted-below, readable, room-A, room-B, room-C, room-D, all-parts}
 use borrow.Author.Needs.{needs}
 use Rattle.compose.proofs.gap_steps.Statement.{statement}

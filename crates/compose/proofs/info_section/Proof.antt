@@ -4,11 +4,11 @@ use mathlib.Core.List.{_++_}
 use Prim.Native.Nat.{_+_}
 use native.Mathlib.Omega.{arith}
 use lib.ListN.{length, take}
-use Rattle.lists.specs.Lists.{below, rev, minus}
+use Rattle.lists.specs.Lists.{below, rev, minus, Wrote}
 use Rattle.table.specs.Table.{mostPlaces}
-use Rattle.emit.specs.Emit.{marked, Wrote}
+use Rattle.emit.specs.Emit.{marked}
 use Rattle.emit.specs.MarkLaws.{below-more}
-use Rattle.emit.specs.WroteLaws.{wrote-count, wrote-is}
+use Rattle.lists.specs.WroteLaws.{wrote-count, wrote-is}
 use Rattle.compose.proofs.Sections.{info-few, used-long, info-is}
 use borrow.Author.Needs.{needs}
 use Rattle.compose.proofs.info_section.Statement.{statement}

@@ -6,7 +6,8 @@ use Rattle.table.specs.Table.{places}
 use Rattle.plan.specs.Step.{pack}
 use Rattle.rule.specs.Rule.{planSteps}
 use Rattle.emit.specs.Emit.{solvedIn, asideIn}
-use Rattle.emit.specs.WroteLaws.{wrote-count, wrote-is, packed-length}
+use Rattle.lists.specs.WroteLaws.{wrote-count, wrote-is}
+use Rattle.emit.specs.PackedLaws.{packed-length}
 use borrow.Author.Needs.{needs}
 use Rattle.compose.proofs.step_section.Statement.{statement}
 use Rattle.compose.proofs.step_section.Tie as tie

@@ -7,7 +7,7 @@ use native.Mathlib.Omega.{arith}
 use lib.ListN.{length}
 use Rattle.lists.specs.Lists.{below, rev, minus}
 use Rattle.emit.specs.Emit.{marked}
-use Rattle.emit.specs.WroteLaws.{Left, left-all, left-is, left-one, left-room, left-length, left-done}
+use Rattle.lists.specs.WroteLaws.{Left, left-all, left-is, left-one, left-room, left-length, left-done}
 use Rattle.compose.proofs.FreePlaces.{frees, frees-all, frees-none, frees-marked, frees-next}
 use Rattle.compose.proofs.unmarked.Statement.{statement}
 use Rattle.compose.proofs.unmarked.Tie as tie

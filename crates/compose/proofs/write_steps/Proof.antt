@@ -4,7 +4,7 @@ use mathlib.Core.List.{map}
 use native.Mathlib.Omega.{arith}
 use lib.ListN.{length}
 use Rattle.plan.specs.Step.{pack}
-use Rattle.emit.specs.WroteLaws.{wrote-is}
+use Rattle.lists.specs.WroteLaws.{wrote-is}
 use Rattle.compose.proofs.Sections.{solved-checks, own-places, steps-none, steps-some}
 use borrow.Author.Needs.{needs}
 use Rattle.compose.proofs.write_steps.Statement.{statement}

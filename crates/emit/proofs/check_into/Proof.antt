@@ -7,7 +7,7 @@ use Rattle.table.specs.Accepted.{has-weights}
 use Rattle.plan.specs.Step.{pack}
 use Rattle.rule.specs.Rule.{clearAndAdd}
 use Rattle.emit.specs.Emit.{marked}
-use Rattle.emit.specs.WroteLaws.{wrote-is}
+use Rattle.lists.specs.WroteLaws.{wrote-is}
 use Rattle.emit.proofs.Passes.{check-read}
 use borrow.Author.Needs.{needs}
 use Rattle.emit.proofs.check_into.Statement.{statement}

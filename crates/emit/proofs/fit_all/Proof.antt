@@ -8,7 +8,8 @@ use Rattle.plan.specs.Step.{pack}
 use Rattle.rule.specs.Buffers.{maskBits}
 use Rattle.rule.specs.Rule.{clearAndAdd, slotsNamed}
 use Rattle.emit.specs.Emit.{fittingRows}
-use Rattle.emit.specs.WroteLaws.{Left, left-all, left-is, left-more, left-length, left-done, wrote-is, packed-length, left-steps}
+use Rattle.lists.specs.WroteLaws.{Left, left-all, left-is, left-more, left-length, left-done, wrote-is}
+use Rattle.emit.specs.PackedLaws.{packed-length, left-steps}
 use Rattle.emit.proofs.Passes.{fits, fits-all, fits-none, fits-next}
 use Rattle.emit.proofs.fit_all.Statement.{statement}
 use Rattle.emit.proofs.fit_all.Tie as tie

@@ -9,7 +9,7 @@ use Rattle.plan.specs.declared.Step.the-variants.{Clear, Add}
 use Rattle.plan.specs.Step.{pack}
 use Rattle.rule.specs.Buffers.{maskBits}
 use Rattle.rule.specs.Rule.{slotsNamed}
-use Rattle.emit.specs.WroteLaws.{Left, left-all, left-is, left-one, left-room, left-length, left-done, wrote-one, wrote-append, wrote-is}
+use Rattle.lists.specs.WroteLaws.{Left, left-all, left-is, left-one, left-room, left-length, left-done, wrote-one, wrote-append, wrote-is}
 use Rattle.emit.proofs.Slots.{named, named-all, named-none, named-in, named-out}
 use Rattle.emit.proofs.fit_place.Statement.{statement}
 use Rattle.emit.proofs.fit_place.Tie as tie

@@ -10,7 +10,8 @@ use Rattle.table.specs.Checks.{check}
 use Rattle.table.specs.Table.{number, places}
 use Rattle.rule.specs.Rule.{clearAndAdd, scratchSteps}
 use Rattle.emit.specs.Emit.{marked, asideIn}
-use Rattle.emit.specs.WroteLaws.{Left, left-all, left-is, left-more, left-length, left-done, wrote-is, packed-length, left-steps}
+use Rattle.lists.specs.WroteLaws.{Left, left-all, left-is, left-more, left-length, left-done, wrote-is}
+use Rattle.emit.specs.PackedLaws.{packed-length, left-steps}
 use Rattle.emit.proofs.Passes.{scratches, one, scratches-all, scratches-none, scratches-next}
 use Rattle.emit.proofs.set_aside.Statement.{statement}
 use Rattle.emit.proofs.set_aside.Tie as tie

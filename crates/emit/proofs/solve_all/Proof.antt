@@ -10,7 +10,8 @@ use Rattle.table.specs.Checks.{check}
 use Rattle.table.specs.Table.{number}
 use Rattle.rule.specs.Rule.{clearAndAdd, solvingSteps}
 use Rattle.emit.specs.Emit.{marked, solvedIn}
-use Rattle.emit.specs.WroteLaws.{Left, left-all, left-is, left-more, left-length, left-done, packed-length, left-steps}
+use Rattle.lists.specs.WroteLaws.{Left, left-all, left-is, left-more, left-length, left-done}
+use Rattle.emit.specs.PackedLaws.{packed-length, left-steps}
 use Rattle.emit.proofs.Passes.{solves, one, solves-none, solves-next}
 use Rattle.emit.proofs.solve_all.Statement.{statement}
 use Rattle.emit.proofs.solve_all.Tie as tie

@@ -8,7 +8,7 @@ use Rattle.lists.specs.Lists.{rev}
 use Rattle.table.specs.Table.{mostPlaces}
 use Rattle.plan.specs.Step.{pack}
 use Rattle.emit.specs.Emit.{solvedIn}
-use Rattle.emit.specs.WroteLaws.{wrote-is}
+use Rattle.lists.specs.WroteLaws.{wrote-is}
 use Rattle.emit.proofs.Passes.{whole-is}
 use borrow.Author.Needs.{needs}
 use Rattle.emit.proofs.solve_whole.Statement.{statement}

@@ -7,7 +7,7 @@ use native.Mathlib.Omega.{arith}
 use lib.ListN.{length, getD, set, take, drop, length-set}
 use lib.Seq.{drop-length}
 use Rattle.plan.specs.Step.{pack}
-use Rattle.emit.specs.WroteLaws.{Left, left-all, left-is, left-one, left-room, left-length, left-done, wrote-one, wrote-append}
+use Rattle.lists.specs.WroteLaws.{Left, left-all, left-is, left-one, left-room, left-length, left-done, wrote-one, wrote-append}
 use Rattle.emit.proofs.Sums.{adds, adds-length, adds-own, adds-marked, adds-next, part-length, part-at}
 use Rattle.emit.proofs.sum_check.Statement.{statement}
 use Rattle.emit.proofs.sum_check.Tie as tie

@@ -1,6 +1,6 @@
--- `beyond_limits` meets its contract: the tests of cause 2, one by one.
+-- `beyond_limits` meets its contract: the first word, and then the limits.
 use borrow.Author.Needs.{needs}
-use Rattle.table.proofs.Looking.{limit-first, limit-places, limit-bytes, limit-checks}
+use Rattle.table.proofs.Looking.{limit-first, limit-rest}
 use Rattle.table.proofs.beyond_limits.Statement.{statement}
 use Rattle.table.proofs.beyond_limits.Tie as tie
 
@@ -16,23 +16,11 @@ shared-slice-read-wide c = search needs
 wide-requires : tie.Need-wide-requires
 wide-requires c κs = search needs
 
-outside-requires : tie.Need-outside-requires
-outside-requires c κs = search needs
-
-returns-2 : tie.Need-returns-2
-returns-2 c = limit-places (c .before .before .before .before .before .before .before .args .t .now) _ _ (c .before .before .wide .ensures) (c .before .outside .ensures) (c .if2 .taken)
-
 shared-slice-read-wide-2 : tie.Need-shared-slice-read-wide-2
 shared-slice-read-wide-2 c = search needs
 
 wide-requires-2 : tie.Need-wide-requires-2
 wide-requires-2 c κs = search needs
-
-outside-requires-2 : tie.Need-outside-requires-2
-outside-requires-2 c κs = search needs
-
-returns-3 : tie.Need-returns-3
-returns-3 c = limit-bytes (c .before .before .before .before .before .before .before .before .before .before .before .args .t .now) _ _ (c .before .before .wide2 .ensures) (c .before .outside2 .ensures) (c .if3 .taken)
 
 shared-slice-read-wide-3 : tie.Need-shared-slice-read-wide-3
 shared-slice-read-wide-3 c = search needs
@@ -40,8 +28,17 @@ shared-slice-read-wide-3 c = search needs
 wide-requires-3 : tie.Need-wide-requires-3
 wide-requires-3 c κs = search needs
 
-returns-4 : tie.Need-returns-4
-returns-4 c = limit-checks (c .before .before .before .before .before .before .before .before .before .before .before .before .before .args .t .now) _ _ _ _ _ (c .before .before .before .before .before .before .before .before .before .before .if1 .left) (c .before .before .before .before .before .before .before .before .wide .ensures) (c .before .before .before .before .before .before .before .outside .ensures) (c .before .before .before .before .before .before .if2 .left) (c .before .before .before .before .wide2 .ensures) (c .before .before .before .outside2 .ensures) (c .before .before .if3 .left) (c .wide3 .ensures)
+beyond-requires : tie.Need-beyond-requires
+beyond-requires c κs = search needs
+
+returns-2 : tie.Need-returns-2
+returns-2 c =
+    limit-rest (c .before .before .before .before .before .before .before .before .before .before .args .t .now) _ _ _ _
+    (c .before .before .before .before .before .before .before .if1 .left)
+    (c .before .before .before .before .before .wide .ensures)
+    (c .before .before .before .wide2 .ensures)
+    (c .before .wide3 .ensures)
+    (c .beyond .ensures)
 
 pub beyond-limits-spec : {M : Type 1} → statement M
 beyond-limits-spec =
@@ -51,12 +48,9 @@ beyond-limits-spec =
     returns
     shared-slice-read-wide
     wide-requires
-    outside-requires
-    returns-2
     shared-slice-read-wide-2
     wide-requires-2
-    outside-requires-2
-    returns-3
     shared-slice-read-wide-3
     wide-requires-3
-    returns-4)
+    beyond-requires
+    returns-2)

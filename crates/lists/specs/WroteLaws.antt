@@ -1,16 +1,13 @@
 -- Numbers written one list after the other, and what is left to write.
 use mathlib.Core.Path.{_≡_, refl, sym, ap, ap₂, _∙_, subst}
-use mathlib.Core.List.{List, [], _∷_, _++_, append-assoc, map, append-nil}
+use mathlib.Core.List.{List, [], _∷_, _++_, append-assoc, append-nil}
 use Prim.Native.Nat.{ℕ, suc, _+_, _-_, _<_, _≤_}
 use native.Mathlib.Numerals.{add-one}
 use native.Mathlib.Omega.{arith}
-use lib.ListN.{length, getD, set, take, drop, length-take, length-append, length-map, take-append-drop}
+use lib.ListN.{length, getD, set, take, drop, length-take, length-append, take-append-drop}
 use lib.Seq.{drop-cons, set-at, take-at, drop-at, drop-drop, take-suc, length-take-le}
 use Rattle.lists.specs.Buffers.{written-length}
-use Rattle.lists.specs.Lists.{written}
-use Rattle.plan.specs.declared.Step.{Step}
-use Rattle.plan.specs.Step.{pack}
-use Rattle.emit.specs.Emit.{Wrote}
+use Rattle.lists.specs.Lists.{written, Wrote}
 
 -- ---- a list written from a place on
 written-none : (l : List ℕ) (at : ℕ) → l ≡ written l at []
@@ -115,15 +112,3 @@ wrote-count {l} {at} {ws} {e} {r} h w =
           ∙ ap (λ k. take at l ++ (length ws ∷ (ws ++ drop k l))) s;
       next = omega arith;
     }
-
--- ---- packed steps
-pub packed-append : (a b : List Step) → map pack (a ++ b) ≡ map pack a ++ map pack b
-packed-append [] b = refl
-packed-append (x ∷ a) b = ap (λ r. pack x ∷ r) (packed-append a b)
-
-pub packed-length : (a : List Step) → length (map pack a) ≡ length a
-packed-length a = length-map a pack
-
--- the next steps have room
-pub left-steps : {l : List ℕ} {at : ℕ} {ws e : List ℕ} {k : ℕ} (room : at + length ws ≤ length l) (a : List Step) (rest : List ℕ) → Left l at ws (map pack a ++ rest) e k → k + length a ≤ length e
-left-steps room a rest w = let r = left-room room w in let n = left-length room w in let p = packed-length a in let s = length-append (map pack a) rest in omega arith
