@@ -1,2 +1,6 @@
+pub mod FitsLaws
 pub mod Making
+pub mod ReadBack
+pub mod Sorted
+pub mod WrittenAccepted
 pub mod Written

@@ -1,0 +1,3 @@
+pub mod DrawingLaws
+pub mod Draws
+pub mod Generator

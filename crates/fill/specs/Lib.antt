@@ -1,0 +1,6 @@
+pub mod Columns
+pub mod Fill
+pub mod Filled
+pub mod Good
+pub mod PutLaws
+pub mod Rows

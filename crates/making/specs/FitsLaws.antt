@@ -1,0 +1,40 @@
+-- Checks that pass the makers' tests make a table that is accepted.
+use mathlib.Core.Path.{_≡_, refl}
+use mathlib.Core.Bool.{Bool, true, false, _||_}
+use mathlib.Core.List.{List, [], _∷_}
+use Prim.Native.Nat.{ℕ, _≤_}
+use native.Mathlib.Omega.{arith}
+use borrow.Author.Tests.{ltb-false, eqb-false}
+use lib.Dec.{eqb, ltb}
+use lib.ListN.{length}
+use Rattle.lists.specs.Lists.{anyOf, All, All.nil, All.cons}
+use Rattle.lists.specs.Tests.{or-false-l, or-false-r}
+use Rattle.table.specs.Table.{places, size, checks, ones, rising, outside, beyond}
+use Rattle.making.specs.WrittenAccepted.{Fits}
+use Rattle.making.specs.Making.{tooHeavy}
+
+-- not 0
+some-of : (x : ℕ) → eqb x 0 ≡ false → 1 ≤ x
+some-of x e = let z = eqb-false x 0 e in omega arith
+
+-- no weight over the limit
+light-all : (cs : List (List ℕ)) → anyOf (λ c. ltb 64 (length c)) cs ≡ false → All (λ c. length c ≤ 64) cs
+light-all [] h = nil
+light-all (c ∷ cs) h = cons (ltb-false 64 (length c) (or-false-l (ltb 64 (length c)) _ h)) (light-all cs (or-false-r (ltb 64 (length c)) _ h))
+
+-- the tests passed, and ascending places: within the limits
+pub fits-from : (n s : ℕ) (cs : List (List ℕ)) → beyond n s (length cs) ≡ false → tooHeavy cs ≡ false → All (λ c. rising n 0 c ≡ true) cs → Fits n s cs
+fits-from n s cs b h r =
+    let nIn = or-false-l (outside 1024 n) _ b in
+    let rest = or-false-r (outside 1024 n) _ b in
+    let sIn = or-false-l (outside 1024 s) _ rest in
+    record {
+      some-places = some-of n (or-false-l (eqb n 0) _ nIn);
+      few-places = ltb-false 1024 n (or-false-r (eqb n 0) _ nIn);
+      some-bytes = some-of s (or-false-l (eqb s 0) _ sIn);
+      few-bytes = ltb-false 1024 s (or-false-r (eqb s 0) _ sIn);
+      few-checks = ltb-false 512 (length cs) (or-false-r (outside 1024 s) _ rest);
+      few-ones = ltb-false 6144 (ones cs) (or-false-r (anyOf (λ c. ltb 64 (length c)) cs) _ h);
+      light = light-all cs (or-false-l (anyOf (λ c. ltb 64 (length c)) cs) _ h);
+      rises = r;
+    }

@@ -1,0 +1,77 @@
+-- A written table is accepted if its checks are within the limits and ascend.
+use mathlib.Core.Path.{_≡_, refl, sym, ap, ap₂, _∙_}
+use mathlib.Core.Bool.{Bool, true, false, cond, not, _||_}
+use mathlib.Core.List.{List, [], _∷_, _++_, map}
+use Prim.Native.Nat.{ℕ, suc, _+_, _≤_}
+use native.Mathlib.Omega.{arith}
+use borrow.Author.Tests.{le-ltb, ne-eqb, eq-eqb, eqb-true, not-false}
+use lib.Dec.{eqb, ltb}
+use lib.ListN.{length, getD, take, drop, take-append-drop, length-drop}
+use lib.Seq.{length-take-le, drop-cons, drop-drop}
+use Rattle.lists.specs.Lists.{allPass, anyOf, All, All.nil, All.cons}
+use Rattle.lists.specs.Tests.{or-false-l}
+use Rattle.table.specs.ChecksLaws.{Limits, limits, checks-length}
+use Rattle.table.specs.Table.{places, size, number, weights, onesCount, total, cutUp, checks, ones, rising, outside, tooShort, beyondLimits, badLengths, badPlaces, refusal}
+use Rattle.making.specs.ReadBack.{weights-back, ones-back, checks-back, length-written, total-weights}
+use Rattle.making.specs.Written.{flat, tail, tableOf}
+
+-- n, s and checks within document 01's limits, the places of each check ascending below n
+pub record Fits (n s : ℕ) (cs : List (List ℕ)) : Type 0 where
+  pub some-places : 1 ≤ n
+  pub few-places : n ≤ 1024
+  pub some-bytes : 1 ≤ s
+  pub few-bytes : s ≤ 1024
+  pub few-checks : length cs ≤ 512
+  pub few-ones : ones cs ≤ 6144
+  pub light : All (λ c. length c ≤ 64) cs
+  pub rises : All (λ c. rising n 0 c ≡ true) cs
+
+-- a test that holds of each
+all-pass : {X : Type 0} (f : X → Bool) {l : List X} → All (λ x. f x ≡ true) l → allPass f l ≡ true
+all-pass f nil = refl
+all-pass f (cons h a) = rw h (all-pass f a)
+
+-- no weight over 64
+light-any : {cs : List (List ℕ)} → All (λ c. length c ≤ 64) cs → anyOf (ltb 64) (map length cs) ≡ false
+light-any nil = refl
+light-any (cons {x = c} h a) = rw (le-ltb 64 (length c) h) (light-any a)
+
+-- none of two
+neither : (a b : Bool) → a ≡ false → b ≡ false → (a || b) ≡ false
+neither a b e f = rw e f
+
+-- within its limits
+inside : (most x : ℕ) → 1 ≤ x → x ≤ most → outside most x ≡ false
+inside most x a b = neither (eqb x 0) (ltb most x) (ne-eqb x 0 (λ e. omega arith)) (le-ltb most x b)
+
+-- no cause, no refusal
+no-cause : (a b c d : Bool) → a ≡ false → b ≡ false → c ≡ false → d ≡ false → _≡_ {A = ℕ} (cond a 1 (cond b 2 (cond c 3 (cond d 4 0)))) 0
+no-cause a b c d e f g h = rw (e, f, g, h)
+
+module _ (n s : ℕ) (cs : List (List ℕ)) (fits : Fits n s cs) where
+  -- the written table
+  abbrev t : List ℕ
+  t = tableOf n s cs
+
+  -- none of cause 3
+  lengths-good : badLengths t ≡ false
+  lengths-good =
+      let l = length-written n s cs in
+      let w = ones-back n s cs in
+      let v = ap total (weights-back n s cs) ∙ total-weights cs in
+      neither _ _ (le-ltb (length t) (5 + number t) (omega arith))
+      (neither _ _ (ap (anyOf (ltb 64)) (weights-back n s cs) ∙ light-any (fits .light))
+      (neither _ _ (le-ltb 6144 (onesCount t) (omega arith))
+      (neither _ _ (ap not (eq-eqb (onesCount t) (total (weights t)) (w ∙ sym v)))
+      (ap not (eq-eqb (length t) (5 + number t + onesCount t) (omega arith))))))
+
+  -- a table within the limits is accepted
+  pub written-accepted : refusal t ≡ 0
+  written-accepted =
+      let l = length-written n s cs in
+      no-cause (tooShort t) (beyondLimits t) (badLengths t) (badPlaces t)
+      (le-ltb (length t) 5 (omega arith))
+      (neither (outside 1024 n) _ (inside 1024 n (fits .some-places) (fits .few-places))
+      (neither (outside 1024 s) _ (inside 1024 s (fits .some-bytes) (fits .few-bytes)) (le-ltb 512 (length cs) (fits .few-checks))))
+      lengths-good
+      (ap not (ap (allPass (rising n 0)) (checks-back n s cs) ∙ all-pass (rising n 0) (fits .rises)))
