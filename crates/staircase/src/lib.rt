@@ -1,0 +1,1 @@
+// The maker of staircase tables (document 02, C-11).
