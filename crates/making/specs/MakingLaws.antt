@@ -1,8 +1,8 @@
 -- Laws of what the makers of tables share: what weighing tells, and how many numbers are written.
 use mathlib.Core.Path.{_≡_, refl, sym, ap, ap₂, _∙_}
-use mathlib.Core.Bool.{Bool, true, false, cond, _||_}
-use mathlib.Core.List.{List, [], _∷_, _++_, map}
-use Prim.Native.Nat.{ℕ, suc, _+_, _<_, _≤_}
+use mathlib.Core.Bool.{true, false, _||_}
+use mathlib.Core.List.{List, [], _∷_, map}
+use Prim.Native.Nat.{ℕ, _+_, _<_, _≤_}
 use native.Mathlib.Omega.{arith}
 use borrow.Author.Tests.{lt-ltb, le-ltb}
 use lib.Dec.{ltb}
@@ -12,7 +12,7 @@ use Rattle.lists.specs.Numbers.{from-length}
 use Rattle.lists.specs.Tests.{byBool, or-l, or-r}
 use Rattle.table.specs.LookOver.{weighed}
 use Rattle.table.specs.Table.{ones, total, mostWeight, mostOnes}
-use Rattle.bits.specs.Row.{row, placesIn, rowsIn}
+use Rattle.bits.specs.Row.{rowsIn}
 use Rattle.making.specs.Making.{tooHeavy}
 use Rattle.making.specs.Written.{flat}
 
