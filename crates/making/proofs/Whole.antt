@@ -3,22 +3,18 @@ use mathlib.Core.Path.{_≡_, sym, ap, subst}
 use mathlib.Core.List.{List, [], _∷_, map, append-nil}
 use Prim.Native.Nat.{ℕ, _+_, _≤_}
 use native.Mathlib.Omega.{arith}
-use lib.ListN.{length, set, length-append, length-map}
+use lib.ListN.{length, set}
 use Rattle.lists.specs.Lists.{Wrote}
 use Rattle.lists.specs.WroteLaws.{Left, left-all, left-is, left-done, left-more, left-one, wrote-length}
 use Rattle.table.specs.Table.{ones}
 use Rattle.making.specs.Making.{tableWords}
-use Rattle.making.specs.MakingLaws.{flat-length}
+use Rattle.making.specs.ReadBack.{length-written}
 use Rattle.making.specs.Written.{flat, tail, tableOf}
 use Rattle.making.proofs.Rows.{front-room}
 
 module _ (l : List ℕ) (n s m o : ℕ) (cs : List (List ℕ)) (long : length l ≡ tableWords) (rows : length cs ≡ m) (few : m ≤ 512) (sum : o ≡ ones cs) (light : o ≤ 6144) where
   fits : 0 + length (tableOf n s cs) ≤ length l
-  fits =
-      let a = length-append (map length cs) (ones cs ∷ flat cs) in
-      let b = length-map cs length in
-      let c = flat-length cs in
-      omega arith
+  fits = let h = length-written n s cs in omega arith
 
   module _ {e f : List ℕ} (head : Wrote l 0 (2 ∷ n ∷ s ∷ m ∷ []) e 4) (weights : Wrote e 4 (map length cs) f (4 + m)) where
     after-head : Left l 0 (tableOf n s cs) (tail cs) e 4
