@@ -1,3 +1,2 @@
-pub mod Weighing
 pub mod Rows
 pub mod Whole

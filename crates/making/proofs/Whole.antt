@@ -10,7 +10,7 @@ use Rattle.table.specs.Table.{ones}
 use Rattle.making.specs.Making.{tableWords}
 use Rattle.making.specs.ReadBack.{length-written}
 use Rattle.making.specs.Written.{flat, tail, tableOf}
-use Rattle.making.proofs.Rows.{front-room}
+use Rattle.lists.specs.WroteLaws.{front-room}
 
 module _ (l : List ℕ) (n s m o : ℕ) (cs : List (List ℕ)) (long : length l ≡ tableWords) (rows : length cs ≡ m) (few : m ≤ 512) (sum : o ≡ ones cs) (light : o ≤ 6144) where
   fits : 0 + length (tableOf n s cs) ≤ length l

@@ -7,7 +7,7 @@ use lib.ListN.{length}
 use Rattle.table.specs.LookOver.{weighed}
 use Rattle.bits.specs.Row.{rowsIn}
 use Rattle.making.proofs.Rows.{rowsFrom, rows-all, rows-next, rows-none}
-use Rattle.making.proofs.Weighing.{weighedOn, weigh-start, weigh-heavy, weigh-light, weigh-end}
+use Rattle.table.specs.WeighLaws.{weighedOn, weigh-start, weigh-heavy, weigh-light, weigh-end}
 use Rattle.making.proofs.weigh.Statement.{statement}
 use Rattle.making.proofs.weigh.Tie as tie
 
@@ -18,7 +18,7 @@ abbrev μ-loop : tie.MeasureT-loop
 μ-loop w m sum₀ i₀ sum i = m - i
 
 loop-holds : tie.Need-loop-holds Inv-loop μ-loop
-loop-holds c = let a = c .before .args in (omega arith, omega arith, weigh-start _ _ (ap (map length) (rows-all (a .w .now) (a .m))))
+loop-holds c = let a = c .before .args in (omega arith, omega arith, weigh-start _ _ (sym (ap (map length) (rows-all (a .w .now) (a .m)))))
 
 ones-of-requires : tie.Need-ones-of-requires Inv-loop μ-loop
 ones-of-requires c κs = omega arith

@@ -6,7 +6,7 @@ use lib.ListN.{getD}
 use Rattle.lists.specs.WroteLaws.{Left, left-all, left-is, left-done, left-length, left-more}
 use Rattle.bits.specs.Row.{row, placesIn}
 use Rattle.bits.specs.WordPlaces.{placesOf, placesFrom, row-places, words-next, words-none}
-use Rattle.making.proofs.Rows.{front-room}
+use Rattle.lists.specs.WroteLaws.{front-room}
 use Rattle.making.proofs.write_row.Statement.{statement}
 use Rattle.making.proofs.write_row.Tie as tie
 
