@@ -24,6 +24,7 @@ use Rattle.making.specs.Written.{tableOf}
 use Rattle.fill.specs.Fill.{State, fill}
 use Rattle.fill.specs.Filled.{Filled, fill-gives}
 use Rattle.staircase.specs.Ascending.{stairs-count, stairs-rise, sources-rise, sources-two, column-count, own-sources}
+use Rattle.staircase.specs.Parameters.{fine}
 use Rattle.staircase.specs.Staircase.{mostDraws, badParameters, leftSide, checksMade, drawsSpent, staircaseCauses, staircaseRefusalAt, staircaseTable}
 use Rattle.staircase.specs.Stairs.{staircase, sources, checksOf}
 
@@ -105,19 +106,14 @@ module _ (k n ones seed s : ℕ) (above : k < n) (inside : beyond n s (n - k) �
       }
 
 module _ (k n ones seed s : ℕ) where
-  -- what the parameters' test leaves
-  above-of : badParameters k n ones seed ≡ false → (0 < k) × (k < n)
-  above-of e = (let z = eqb-false k 0 (or-false-l (eqb k 0) _ e) in omega arith, leb-false n k (or-false-l (leb n k) _ (or-false-r (eqb k 0) _ e)))
-
   -- after the fill
   made-filled : (o : Option State) → o ≡ leftSide k n ones seed → badParameters k n ones seed ≡ false → beyond n s (n - k) ≡ false → drawsSpent o ≡ false
       → tooHeavy (checksMade k o) ≡ false → MadeTable k n ones seed s (tableOf n s (checksMade k o))
   made-filled none q a b d e = absurd (true≢false d)
   made-filled (some f) q a b d e =
-      let p = above-of a in
-      let hk = p .0 in
-      let hn = p .1 in
-      made-of k n ones seed s hn b f (fill-gives k (n - k) ones seed mostDraws f hk (omega arith) (sym q)) e (sym q)
+      let p = fine k n ones seed a in
+      let above = p .above in
+      made-of k n ones seed s above b f (fill-gives k (n - k) ones seed mostDraws f (p .some-sources) (omega arith) (sym q)) e (sym q)
 
   -- no cause holds
   pub made-by : (buffer : ℕ) → NoneHolds (staircaseCauses k n ones seed s buffer) → MadeTable k n ones seed s (staircaseTable k n ones seed s)
