@@ -3,8 +3,8 @@ ghost use mathlib.Core.Path.{_≡_};
 ghost use Prim.Native.Nat.{ℕ, _+_, _*_, _≤_, _<_, _^_};
 ghost use lib.ListN.{length, getD, take, drop, replicate};
 ghost use lib.Bits.{bitXor};
-ghost use Rattle.gf2.specs.Gf2.{Short, Bits, rowOf};
-ghost use Rattle.bits.specs.Row.{row, RowPut};
+ghost use Rattle.gf2.specs.Gf2.{bit, Short, Bits, rowOf};
+ghost use Rattle.bits.specs.Row.{row, placesIn, RowPut};
 
 pub fn wide(x: u16) -> usize
     ensures { λ r. ⌜ r ≡ x ⌝ }
@@ -20,6 +20,30 @@ pub fn flip(w: &mut [u64], r: usize, p: usize)
 {
     let i = r * 16 + p / 64;
     w[i] = w[i] ^ (1 << (p % 64));
+}
+
+// row r has place p
+pub fn has_place(w: &[u64], r: usize, p: usize) -> bool
+    requires { ⌜ (r * 16 + 16 ≤ length (now w))
+        × (p < 1024) ⌝ }
+    ensures { λ x. ⌜ x ≡ bit p (row (now (w .entry)) r) ⌝ }
+{
+    (w[r * 16 + p / 64] >> (p % 64)) & 1 == 1
+}
+
+// how many places row r has
+pub fn ones_of(w: &[u64], r: usize) -> usize
+    requires { ⌜ r * 16 + 16 ≤ length (now w) ⌝ }
+    ensures { λ x. ⌜ (x ≡ length (placesIn (row (now (w .entry)) r)))
+        × (x ≤ 1024) ⌝ }
+{
+    let mut n = 0;
+    let mut i = 0;
+    while i < 16 {
+        n += u64::count_ones(w[r * 16 + i]) as usize;
+        i += 1;
+    }
+    n
 }
 
 // row r becomes zero
