@@ -3,8 +3,8 @@ use mathlib.Core.Path.{_≡_}
 use mathlib.Core.Bool.{Bool, true, false, not}
 use mathlib.Core.List.{List}
 use mathlib.Core.Option.{Option, none, some}
-use Prim.Native.Nat.{ℕ, _<_}
-use lib.ListN.{length, set}
+use Prim.Native.Nat.{ℕ, _+_, _<_}
+use lib.ListN.{length, getD, set}
 use Rattle.gf2.specs.Gf2.{bit}
 use Rattle.bits.specs.Row.{row}
 use Rattle.draws.specs.Generator.{modulus, Drawn, until}
@@ -12,6 +12,10 @@ use Rattle.draws.specs.Generator.{modulus, Drawn, until}
 -- no one at (r, j)
 abbrev pub free : List ℕ → ℕ → ℕ → Bool
 free w j r = not (bit j (row w r))
+
+-- no one in column j of the row that entry t + v of u names
+abbrev pub freeEntry : List ℕ → List ℕ → ℕ → ℕ → ℕ → Bool
+freeEntry w u t j v = free w j (getD u (t + v) 0)
 
 -- e is w with a one at (r, j)
 pub record Put (w : List ℕ) (r j : ℕ) (e : List ℕ) : Type 0 where

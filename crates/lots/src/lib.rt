@@ -6,7 +6,7 @@ ghost use Prim.Native.Nat.{ℕ, _+_, _-_, _%_, _≤_, _<_};
 ghost use lib.ListN.{length, getD, take, drop};
 ghost use Rattle.lists.specs.Lists.{anyOf, from};
 ghost use Rattle.draws.specs.Generator.{modulus};
-ghost use Rattle.lots.specs.Grid.{free, Put, PutIf, putIf, Sought};
+ghost use Rattle.lots.specs.Grid.{free, freeEntry, Put, PutIf, putIf, Sought};
 
 // no one at (r, j)
 fn vacant(w: &[u64], r: usize, j: usize) -> bool
@@ -97,7 +97,7 @@ fn draw_order(w: &[u64], u: &[u16], t: usize, e: usize, j: usize, raw: usize, le
         × (j < 1024)
         × (length (now w) ≡ 8192)
         × (raw < modulus) ⌝ }
-    ensures { λ r. ⌜ Sought (e - t) raw left (λ v. free (now (w .entry)) j (getD (now (u .entry)) (t + v) 0)) (r .found) (r .value) (r .raw) (r .left) ⌝ }
+    ensures { λ r. ⌜ Sought (e - t) raw left (freeEntry (now (w .entry)) (now (u .entry)) t j) (r .found) (r .value) (r .raw) (r .left) ⌝ }
 {
     let mut x = raw;
     let mut l = left;
@@ -199,7 +199,15 @@ pub fn by_row(w: &mut [u64], j: usize, m: usize, raw: usize, left: usize) -> Lot
 }
 
 // the entry of u drawn gives the row of the one put, and takes the entry at t
-pub fn by_order(w: &mut [u64], u: &mut [u16], t: usize, e: usize, j: usize, raw: usize, left: usize) -> Lot
+pub fn by_order(
+    w: &mut [u64],
+    u: &mut [u16],
+    t: usize,
+    e: usize,
+    j: usize,
+    raw: usize,
+    left: usize,
+) -> Lot
     requires { ⌜ (t < e)
         × (e ≤ 10240)
         × (e ≤ length (now u))
@@ -207,7 +215,7 @@ pub fn by_order(w: &mut [u64], u: &mut [u16], t: usize, e: usize, j: usize, raw:
         × (j < 1024)
         × (length (now w) ≡ 8192)
         × (raw < modulus) ⌝ }
-    ensures { λ r. ⌜ Sought (e - t) raw left (λ v. free (now (w .entry)) j (getD (now (u .entry)) (t + v) 0)) (r .found) (r .value) (r .raw) (r .left)
+    ensures { λ r. ⌜ Sought (e - t) raw left (freeEntry (now (w .entry)) (now (u .entry)) t j) (r .found) (r .value) (r .raw) (r .left)
         × PutIf (r .found) (now (w .entry)) (getD (now (u .entry)) (t + r .value) 0) j (now (w .exit))
         × (now (u .exit) ≡ putIf (r .found) (now (u .entry)) (t + r .value) (getD (now (u .entry)) t 0)) ⌝ }
 {

@@ -3,7 +3,7 @@ use Prim.Native.Nat.{_+_}
 use mathlib.Core.Path.{refl, ap, _∙_}
 use native.Mathlib.Omega.{arith}
 use borrow.Author.Needs.{needs}
-use Rattle.lots.specs.Grid.{free}
+use Rattle.lots.specs.Grid.{free, freeEntry}
 use Rattle.lots.proofs.Putting.{put-at}
 use Rattle.lots.proofs.Seeking.{drawn-passes}
 use Rattle.lots.proofs.by_order.Statement.{statement}
@@ -31,7 +31,7 @@ put-requires c κs =
     let d = c .before .before .before .before .before .draw-order in
     let y = c .wide .ensures in
     let l = p .3 (a .t + d .result .value) in
-    (omega arith, p .4, p .5, ap (free (a .w .now) (a .j)) y ∙ drawn-passes (d .ensures) (c .before .before .before .before .if1 .taken))
+    (omega arith, p .4, p .5, ap (free (a .w .now) (a .j)) y ∙ drawn-passes {f = freeEntry (a .w .now) (a .u .now) (a .t) (a .j)} (d .ensures) (c .before .before .before .before .if1 .taken))
 
 mul-u : tie.Need-mul-u
 mul-u c = search needs

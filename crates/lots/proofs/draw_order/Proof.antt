@@ -3,14 +3,13 @@ use Prim.Native.Nat.{_+_, _-_}
 use mathlib.Core.Path.{sym, ap, _∙_}
 use native.Mathlib.Omega.{arith}
 use borrow.Author.Needs.{needs}
-use lib.ListN.{getD}
-use Rattle.lots.specs.Grid.{free}
+use Rattle.lots.specs.Grid.{free, freeEntry}
 use Rattle.lots.proofs.Seeking.{Goes, starts, passes, fails, ends}
 use Rattle.lots.proofs.draw_order.Statement.{statement}
 use Rattle.lots.proofs.draw_order.Tie as tie
 
 abbrev Inv-loop : tie.InvT-loop
-Inv-loop w u t e j raw left x₀ l₀ x l = Goes (e - t) raw left (λ v. free w j (getD u (t + v) 0)) x l
+Inv-loop w u t e j raw left x₀ l₀ x l = Goes (e - t) raw left (freeEntry w u t j) x l
 
 abbrev μ-loop : tie.MeasureT-loop
 μ-loop w u t e j raw left x₀ l₀ x l = l
