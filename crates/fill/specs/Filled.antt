@@ -22,7 +22,7 @@ pub record Filled (k m ones : ℕ) (rows : List (List ℕ)) : Type 0 where
   pub row-ones : (i : ℕ) → i < m → 2 ≤ length (getD rows i [])
 
 -- the start
-start-good : (k m entries seed draws : ℕ) → 0 < m → Good k m entries (start m entries seed draws)
+pub start-good : (k m entries seed draws : ℕ) → 0 < m → Good k m entries (start m entries seed draws)
 unfolding from
 start-good k m entries seed draws h = record { long = length-replicate m []; each = empties m; low = below 0 entries; whole = length-map (from 0 entries) _ ∙ from-length 0 entries; within = omega arith }
   where

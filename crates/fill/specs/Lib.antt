@@ -2,5 +2,6 @@ pub mod Columns
 pub mod Fill
 pub mod Filled
 pub mod Good
+pub mod Held
 pub mod PutLaws
 pub mod Rows
