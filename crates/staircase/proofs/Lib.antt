@@ -1,1 +1,4 @@
+pub mod Afterwards
+pub mod Answering
+pub mod RowsMade
 pub mod StairRows

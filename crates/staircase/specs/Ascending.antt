@@ -75,9 +75,13 @@ sources-two k (dnew {x = p} {l = l} e d, a) h = second l e a h
         first-of true b e = e
         first-of false b e = refl
 
+-- so a check ascends
+pub check-rises : (n k i : ℕ) (row : List ℕ) → k + i < n → rising n 0 (sources k row ++ stair k i) ≡ true
+check-rises n k i row h = rising-append n k 0 (sources k row) (stair k i) (omega arith) (omega arith) (sources-rise k row) (rising-stair n k i h)
+
 -- ---- the columns of a staircase
 -- a source place lies in no stair
-stair-not : (k i j : ℕ) → j < k → has j (stair k i) ≡ false
+pub stair-not : (k i j : ℕ) → j < k → has j (stair k i) ≡ false
 stair-not k zero j h = rw (eqb-lt j (k + 0) (omega arith))
 stair-not k (suc i) j h = rw (eqb-lt j (k + i) (omega arith), eqb-lt j (k + suc i) (omega arith))
 

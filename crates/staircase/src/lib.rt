@@ -1,12 +1,13 @@
 // The maker of staircase tables (document 02, C-11).
 use making::Made;
+use table::MOST_ONES;
 ghost use mathlib.Core.Path.{_≡_};
 ghost use mathlib.Core.Bool.{false};
 ghost use Prim.Native.Nat.{ℕ, _+_, _*_, _-_, _≤_, _<_};
 ghost use lib.Bits.{bitXor};
 ghost use lib.ListN.{length, getD};
 ghost use Rattle.gf2.specs.Gf2.{rowOf};
-ghost use Rattle.table.specs.Table.{beyond as isBeyond};
+ghost use Rattle.table.specs.Table.{beyond};
 ghost use Rattle.bits.specs.Row.{row, RowPut};
 ghost use Rattle.making.specs.Making.{tableWords, makeAnswerOf, makeAnswerAt};
 ghost use Rattle.staircase.specs.Stairs.{stair};
@@ -78,4 +79,78 @@ fn put_stairs(w: &mut [u64], k: usize, m: usize)
         put_stair(w, k, i);
         i += 1;
     }
+}
+
+// a refusal: nothing is written
+fn refused(number: u32) -> Made
+    ensures { λ r. ⌜ makeAnswerOf r ≡ record { refusal = number; length = 0 } ⌝ }
+{
+    Made {
+        refusal: number,
+        length: 0,
+    }
+}
+
+// the fill, the staircase, and the table if no check is too heavy; w is zero
+fn make_in(
+    w: &mut [u64],
+    k: usize,
+    n: usize,
+    ones: usize,
+    seed: usize,
+    s: usize,
+    table: &mut [u16],
+) -> Made
+    requires rows { ⌜ (length (now w) ≡ 8192)
+        × ((p : ℕ) → getD (now w) p 0 ≡ 0) ⌝ }
+    requires parameters { ⌜ badParameters k n ones seed ≡ false ⌝ }
+    requires limits { ⌜ beyond n s (n - k) ≡ false ⌝ }
+    requires room { ⌜ length (now table) ≡ tableWords ⌝ }
+    ensures answer { λ r. ⌜ makeAnswerOf r ≡ staircaseAnswer k n ones seed s (now (table .entry)) ⌝ }
+    ensures table { λ _. ⌜ now (table .exit) ≡ staircaseTableAfter k n ones seed s (now (table .entry)) ⌝ }
+{
+    let m = n - k;
+    if !fill::fill(w, k, m, ones, seed, MOST_DRAWS) {
+        return refused(11);
+    }
+    put_stairs(w, k, m);
+    let total = making::weigh(w, m);
+    if MOST_ONES < total {
+        return refused(3);
+    }
+    let length = making::write(table, n, s, w, m, total);
+    Made {
+        refusal: 0,
+        length: length as u32,
+    }
+}
+
+// the same, with rows of zeros
+fn make_table(k: usize, n: usize, ones: usize, seed: usize, s: usize, table: &mut [u16]) -> Made
+    requires parameters { ⌜ badParameters k n ones seed ≡ false ⌝ }
+    requires limits { ⌜ beyond n s (n - k) ≡ false ⌝ }
+    requires room { ⌜ length (now table) ≡ tableWords ⌝ }
+    ensures answer { λ r. ⌜ makeAnswerOf r ≡ staircaseAnswer k n ones seed s (now (table .entry)) ⌝ }
+    ensures table { λ _. ⌜ now (table .exit) ≡ staircaseTableAfter k n ones seed s (now (table .entry)) ⌝ }
+{
+    let mut w = [0u64; ROW_WORDS];
+    make_in(&mut w, k, n, ones, seed, s, table)
+}
+
+// the staircase's table (RFC 5170) of k source packets among n, with so many ones in a source column, from the seed, for packets of s
+// bytes
+pub fn make(k: usize, n: usize, ones: usize, seed: usize, s: usize, table: &mut [u16]) -> Made
+    ensures answer { λ r. ⌜ makeAnswerOf r ≡ staircaseAnswer k n ones seed s (now (table .entry)) ⌝ }
+    ensures table { λ _. ⌜ now (table .exit) ≡ staircaseTableAfter k n ones seed s (now (table .entry)) ⌝ }
+{
+    if bad_parameters(k, n, ones, seed) {
+        return refused(11);
+    }
+    if table::beyond(n, s, n - k) {
+        return refused(2);
+    }
+    if table.len() != TABLE_WORDS {
+        return refused(5);
+    }
+    make_table(k, n, ones, seed, s, table)
 }
