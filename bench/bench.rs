@@ -1,5 +1,6 @@
 //! Benchmarks of the libraries' calls, as ratios within one run. Built with
-//! --cfg uplink (plan, encode), --cfg receiver (repair, verify) or both.
+//! --cfg uplink (plan, encode), --cfg receiver (repair, verify), --cfg tables
+//! (make), or some of them.
 //!
 //! A round is one call of each kind in turn: the library's, the pure
 //! exclusive-or of as many additions on hot packets, the same additions at
@@ -7,7 +8,7 @@
 //! its median over all rounds is given, and the tenth and ninetieth percentile.
 //! With QUICK=1 there are fewer rounds.
 
-#![allow(unexpected_cfgs, dead_code, unused_imports)]
+#![allow(unexpected_cfgs, dead_code, unused_imports, unused_mut, unused_variables)]
 
 mod calls;
 #[path = "../tests/gen.rs"]
@@ -29,6 +30,9 @@ const TABLES: [(&str, usize, usize); 4] = [
     ("regular", 256, 128),
     ("staircase", 256, 128),
 ];
+/// Sources, packets, ones and seed of the tables to make: the largest, and a
+/// usual one.
+const MADE: [[usize; 4]; 2] = [[512, 1024, 10, 1], [800, 1000, 3, 12_345]];
 const SIZES: [usize; 7] = [1, 17, 64, 100, 256, 1000, 1024];
 
 // ---------------------------------------------------------------- measuring
@@ -57,7 +61,7 @@ impl fmt::Display for Ratio {
 }
 
 /// Microseconds, and the ratios to the pure exclusive-or on hot packets and
-/// over the real block, and to plain Rust. Plan has only the last.
+/// over the real block, and to plain Rust. Plan and make have only the last.
 struct Figures {
     time: f64,
     limits: Option<[Ratio; 2]>,
@@ -168,9 +172,11 @@ fn calls_of(table: &[u16]) -> Vec<(&'static str, Box<dyn Call>)> {
 
 /// The most that the ratios may be where n is 1,024, m is 512 and the block is
 /// warm: to the pure exclusive-or at s 64 and at s 1,024, and to plain Rust.
+/// Make has its mark for each table that is made.
 fn marks_of(call: &str, kind: &str) -> Option<([f64; 2], f64)> {
     match (call, kind) {
         ("plan", _) => Some(([0.0, 0.0], 1.3)),
+        ("make", _) => Some(([0.0, 0.0], 3.0)),
         ("encode", "regular") => Some(([1.75, 1.35], 0.75)),
         ("encode", _) => Some(([2.1, 1.6], 0.85)),
         ("repair 20 %", _) => Some(([2.9, 1.6], 0.8)),
@@ -248,6 +254,15 @@ fn main() {
                 }
             }
         }
+    }
+    #[cfg(tables)]
+    for set in MADE {
+        let [sources, packets, ones, _] = set;
+        let name = format!("{packets} {}", packets - sources);
+        eprintln!("{:4} s: making {name}", start.elapsed().as_secs());
+        let made = measure(&mut calls::Staircase::new(set), 64, true, millis(2000));
+        report.row(&format!("{name}, ones {ones}"), "make", "-", 64, &made);
+        report.marks.extend(mark_lines("make", &name, 64, &made));
     }
     eprintln!("{:4} s: done", start.elapsed().as_secs());
     report.print();

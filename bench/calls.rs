@@ -11,6 +11,9 @@ pub use uplink::{Encode, Plan};
 #[cfg(receiver)]
 pub use receiver::{Repair, Verify};
 
+#[cfg(tables)]
+pub use tables::Staircase;
+
 use crate::gen::Rng;
 use crate::model;
 use crate::plain::{self, add, add_slots};
@@ -384,6 +387,74 @@ mod receiver {
         }
         fn packets(&self) -> Vec<&[u8]> {
             vec![&self.lent.slots[..self.lent.bytes()]]
+        }
+    }
+}
+
+// ------------------------------------------------------------------- tables
+
+#[cfg(tables)]
+mod tables {
+    use super::*;
+
+    #[link(name = "tables", kind = "static")]
+    extern "C" {
+        fn bs_staircase(
+            sources: usize,
+            packets: usize,
+            ones: usize,
+            seed: usize,
+            size: usize,
+            table: *mut u16,
+            table_len: usize,
+        ) -> model::Made;
+    }
+
+    /// No packets here: the making of one table.
+    pub struct Staircase {
+        /// Sources, packets, ones and seed.
+        set: [usize; 4],
+        table: Vec<u16>,
+        answer: model::Made,
+    }
+
+    impl Staircase {
+        /// Both makers give the same table, and keep the rest of the buffer.
+        pub fn new(set: [usize; 4]) -> Self {
+            let [sources, packets, ones, seed] = set;
+            let mut expected = vec![7; model::TABLE_BUFFER];
+            let answer = model::staircase(sources, packets, ones, seed, 64, &mut expected);
+            assert_eq!(answer.refusal, 0);
+            let mut call = Staircase { set, table: Vec::new(), answer };
+            for by in [Self::library, Self::plain] {
+                call.table = vec![7; model::TABLE_BUFFER];
+                by(&mut call);
+                assert!(call.table == expected, "another table");
+            }
+            call
+        }
+    }
+
+    impl Call for Staircase {
+        fn additions(&self) -> usize {
+            0
+        }
+        fn library(&mut self) {
+            let [sources, packets, ones, seed] = self.set;
+            let table = &mut self.table;
+            let answer = unsafe {
+                bs_staircase(sources, packets, ones, seed, 64, table.as_mut_ptr(), table.len())
+            };
+            assert_eq!(answer, self.answer);
+        }
+        fn real(&mut self) {}
+        fn plain(&mut self) {
+            let [sources, packets, ones, seed] = black_box(self.set);
+            let answer = plain::staircase(sources, packets, ones, seed, 64, &mut self.table);
+            assert_eq!(answer, self.answer);
+        }
+        fn packets(&self) -> Vec<&[u8]> {
+            Vec::new()
         }
     }
 }

@@ -1,6 +1,7 @@
-//! Repair, verification and encoding in plain Rust, for comparison.
+//! Repair, verification, encoding and the staircase maker in plain Rust, for
+//! comparison.
 
-use crate::model::{Encoded, Repaired, Verified};
+use crate::model::{Encoded, Made, Repaired, Verified};
 use crate::model::{MAX_CHECKS, MAX_GAP, MAX_ONES, MAX_PLACES, MAX_SIZE, MAX_STEPS, MAX_WEIGHT};
 use std::cmp::Reverse;
 use std::collections::BinaryHeap;
@@ -279,4 +280,106 @@ pub fn encode(
         }
     }
     Encoded { refusal: 0, additions }
+}
+
+// -------------------------------------------------------------- staircases
+
+/// Park and Miller's generator with the draws that are left.
+struct Draws {
+    raw: u64,
+    left: u32,
+}
+
+impl Draws {
+    #[inline]
+    fn below(&mut self, max: usize) -> Option<usize> {
+        self.left = self.left.checked_sub(1)?;
+        self.raw = self.raw * 16_807 % 0x7fff_ffff;
+        Some((max as u64 * self.raw / 0x7fff_ffff) as usize)
+    }
+}
+
+/// RFC 5170's fill: for each check its source places, ascending. None if it
+/// needs more than 65,536 draws.
+fn source_rows(k: usize, m: usize, ones: usize, seed: usize) -> Option<Vec<Vec<u16>>> {
+    let mut draws = Draws { raw: seed as u64, left: 65_536 };
+    let mut rows: Vec<Vec<u16>> = vec![Vec::with_capacity(ones * k / m + 4); m];
+    let mut choices: Vec<u16> = (0..ones * k).map(|h| (h % m) as u16).collect();
+    let mut used = 0;
+    for j in 0..k as u16 {
+        for _ in 0..ones {
+            if choices[used..].iter().any(|r| !rows[*r as usize].contains(&j)) {
+                let (at, row) = loop {
+                    let at = used + draws.below(choices.len() - used)?;
+                    let row = &mut rows[choices[at] as usize];
+                    if !row.contains(&j) {
+                        break (at, row);
+                    }
+                };
+                row.push(j);
+                choices[at] = choices[used];
+                used += 1;
+            } else {
+                let row = loop {
+                    let row = &mut rows[draws.below(m)?];
+                    if !row.contains(&j) {
+                        break row;
+                    }
+                };
+                row.push(j);
+            }
+        }
+    }
+    for row in rows.iter_mut().filter(|row| row.len() < 2) {
+        while row.len() < 2 {
+            let j = draws.below(k)? as u16;
+            if !row.contains(&j) {
+                row.push(j);
+            }
+        }
+        row.sort_unstable();
+    }
+    Some(rows)
+}
+
+pub fn staircase(
+    sources: usize,
+    packets: usize,
+    ones: usize,
+    seed: usize,
+    size: usize,
+    table: &mut [u16],
+) -> Made {
+    let m = packets.saturating_sub(sources);
+    let seed_fits = seed >= 1 && seed <= 0x7fff_fffe;
+    if sources == 0 || m == 0 || ones < 3 || ones > m.min(10) || !seed_fits {
+        return Made::refused(11);
+    }
+    if packets > MAX_PLACES || size == 0 || size > MAX_SIZE || m > MAX_CHECKS {
+        return Made::refused(2);
+    }
+    if table.len() != 6_661 {
+        return Made::refused(5);
+    }
+    let Some(mut rows) = source_rows(sources, m, ones, seed) else { return Made::refused(11) };
+    let mut total = 0;
+    for (i, row) in rows.iter_mut().enumerate() {
+        if i > 0 {
+            row.push((sources + i - 1) as u16);
+        }
+        row.push((sources + i) as u16);
+        total += row.len();
+    }
+    if total > MAX_ONES || rows.iter().any(|row| row.len() > MAX_WEIGHT) {
+        return Made::refused(3);
+    }
+    table[..4].copy_from_slice(&[2, packets as u16, size as u16, m as u16]);
+    table[4 + m] = total as u16;
+    let mut next = 5 + m;
+    for (i, row) in rows.iter().enumerate() {
+        table[4 + i] = row.len() as u16;
+        table[next..next + row.len()].copy_from_slice(row);
+        next += row.len();
+    }
+    Made { refusal: 0, length: next as u32 }
 }

@@ -1,7 +1,8 @@
 #!/bin/sh
 # Builds and runs the benchmarks: bench/run.sh [DIR]
-# DIR, or LIBDIR, holds libreceiver.a and libuplink.a (default: the current
-# directory); each of the two that is there is measured. QUICK=1: fewer rounds.
+# DIR, or LIBDIR, holds libreceiver.a, libuplink.a and libtables.a (default: the
+# current directory); each of them that is there is measured. QUICK=1: fewer
+# rounds.
 # A line for each table as its turn comes, then all figures, then the marks.
 # The ratios are what to go by; times are medians in microseconds.
 set -eu
@@ -10,7 +11,7 @@ dir=${1:-${LIBDIR:-.}}
 build=$(mktemp -d)
 trap 'rm -rf "$build"' EXIT
 parts=
-for part in uplink receiver; do
+for part in uplink receiver tables; do
     if [ -f "$dir/lib$part.a" ]; then
         parts="$parts --cfg $part"
     else

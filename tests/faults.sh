@@ -1,14 +1,19 @@
 #!/bin/sh
 # Plants one fault after another in the model and expects the comparison to find each.
 #
-#   tests/faults.sh -d DIR
+#   tests/faults.sh -d DIR [receiver] [uplink] [tables]
 #
-# DIR holds libreceiver.a and libuplink.a. A line a fault; the last line counts found and missed.
+# DIR holds libreceiver.a, libuplink.a and libtables.a. Without names: the faults of all three. A line a
+# fault; the last line counts found and missed.
 
 set -u
 here=$(cd "$(dirname "$0")" && pwd)
 dir=.
-[ "${1:-}" = -d ] && dir=$2
+if [ "${1:-}" = -d ]; then
+    dir=$2
+    shift 2
+fi
+parts=" ${*:-receiver uplink tables} "
 build=$(mktemp -d)
 trap 'rm -rf "$build"' EXIT
 
@@ -17,6 +22,10 @@ missed=0
 
 # part, name, what stands in the model, what is put in its place
 fault() {
+    case $parts in
+        *" $1 "*) ;;
+        *) return ;;
+    esac
     cp "$here"/*.rs "$build"/
     sed -i "s~$3~$4~" "$build/model.rs"
     if cmp -s "$here/model.rs" "$build/model.rs"; then
@@ -52,6 +61,27 @@ fault uplink "fitted places left out of the last pass" '\*own, &\[\]);' '*own, \
 fault uplink "clear steps counted" 'Step::Clear(to) => slots\[to\] = vec!\[0; p.s\],' 'Step::Clear(to) => { slots[to] = vec![0; p.s]; count += 1 }'
 fault uplink "limit off by one" 'p.steps.iter().take(limit)' 'p.steps.iter().take(limit.saturating_add(1))'
 fault uplink "solved in the order of taking" 'taken.into_iter().rev().collect()' 'taken.into_iter().collect()'
+fault tables "a rejected draw isn't counted" 'if free(drawn) {' 'self.draws -= !free(drawn) as usize; if free(drawn) {'
+fault tables "a choice isn't replaced by the lowest unused one" 'u\[i\] = u\[t\];' ''
+fault tables "the generator stands still at a rejected draw" 'let drawn = self.draw(max)?;' 'let raw = self.raw; let drawn = self.draw(max)?; if !free(drawn) { self.raw = raw; }'
+fault tables "a number drawn before advancing" 'let raw = self.advance();' 'let raw = self.raw; self.advance();'
+fault tables "the modulus a power of 2" '16_807 \* self.raw % MODULUS' '16_807 * self.raw % (MODULUS + 1)'
+# Only the model's own cases can see this one: no set ends near the limit.
+fault tables "one draw too many allowed" 'self.draws == MAX_DRAWS' 'self.draws > MAX_DRAWS'
+fault tables "used choices count as left" '(t..all).any(' '(0..all).any('
+fault tables "no choice left: the list drawn from goes on" 'generator.draw_free(m, |d| !left\[d\]\[j\])?' '{ t += 1; generator.draw_free(m, |d| !left[d][j])? }'
+fault tables "an empty row gets no first extra one" 'degree(&left\[i\]) == 0' 'i > MAX_CHECKS'
+fault tables "the second extra one missing" 'degree(&left\[i\]) == 1' 'i > MAX_CHECKS'
+fault tables "the second extra one may fall on the first" 'generator.draw_free(k, |d| !left\[i\]\[d\])?' 'generator.draw(k)?'
+fault tables "the lower stair missing" 'check.push(k + i - 1);' ''
+fault tables "weight 64 refused" 'c.len() > MAX_WEIGHT) ||' 'c.len() >= MAX_WEIGHT) ||'
+fault tables "6,144 ones refused" 'all_ones > MAX_ONES' 'all_ones >= MAX_ONES'
+fault tables "seed 2,147,483,647 taken" 'MAX_SEED: usize = 2_147_483_646' 'MAX_SEED: usize = 2_147_483_647'
+fault tables "a longer buffer taken" 'buffer != TABLE_BUFFER' 'buffer < TABLE_BUFFER'
+fault tables "2 before 11" '!(3..=10).contains(&ones)' 'packets <= MAX_PLACES \&\& !(3..=10).contains(\&ones)'
+fault tables "3 before 5" 'buffer != TABLE_BUFFER' 'buffer != TABLE_BUFFER \&\& staircase_checks(sources, m, ones, seed).map_or(true, |cs| cs.iter().all(|c| c.len() <= MAX_WEIGHT))'
+fault tables "the draws before 5" 'buffer != TABLE_BUFFER' 'buffer != TABLE_BUFFER \&\& staircase_checks(sources, m, ones, seed).is_ok()'
+fault tables "5 before 2" 'packets > MAX_PLACES ||' 'buffer == TABLE_BUFFER \&\& packets > MAX_PLACES ||'
 
 echo "$found found, $missed missed"
 [ "$missed" -eq 0 ]

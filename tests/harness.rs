@@ -10,6 +10,11 @@ static BARE: AtomicBool = AtomicBool::new(false);
 static SEED: AtomicU64 = AtomicU64::new(0);
 static CASE: AtomicI64 = AtomicI64::new(-1);
 
+/// Whether buffers are bare, as under valgrind.
+pub fn bare() -> bool {
+    BARE.load(Ordering::Relaxed)
+}
+
 // ----------------------------------------------------------- lent buffers
 
 /// Kinds of numbers that buffers hold.
@@ -49,7 +54,7 @@ pub struct Lent<T> {
 
 impl<T: Word> Lent<T> {
     pub fn new(rng: &mut Rng, content: &[T]) -> Self {
-        let bare = BARE.load(Ordering::Relaxed);
+        let bare = bare();
         let from = if bare { 0 } else { 16 + rng.below(17) };
         let behind = if bare { 0 } else { 32 };
         let mut all = Vec::with_capacity(from + content.len() + behind);
@@ -172,6 +177,11 @@ impl Run {
             }
         }
         CASE.store(-1, Ordering::Relaxed);
+    }
+
+    /// Whether no case has failed so far.
+    pub fn clean(&self) -> bool {
+        self.failed == 0
     }
 
     /// The last line, and the exit status.

@@ -1,11 +1,12 @@
 #!/bin/sh
 # Builds and runs the tests against the static libraries.
 #
-#   tests/run.sh [-d DIR] [receiver] [uplink] [planlist]
+#   tests/run.sh [-d DIR] [receiver] [uplink] [tables] [all] [planlist]
 #
-# DIR, or LIBDIR, holds libreceiver.a and libuplink.a (default: the current
-# directory). Without names: each part that is there. planlist is the program
-# that PLANLIST names, or DIR/planlist.
+# DIR, or LIBDIR, holds libreceiver.a, libuplink.a and libtables.a (default: the
+# current directory). Without names: each part that is there. all links the
+# three into one program. planlist is the program that PLANLIST names, or
+# DIR/planlist.
 #
 # SEED, COUNT   of the random cases; each part has its own default count
 # TIMEOUT       seconds for one program (default: 900)
@@ -22,16 +23,18 @@ parts=
 while [ $# -gt 0 ]; do
     case $1 in
         -d) dir=$2; shift ;;
-        receiver|uplink|planlist) parts="$parts $1" ;;
-        *) echo "usage: run.sh [-d DIR] [receiver] [uplink] [planlist]" >&2; exit 2 ;;
+        receiver|uplink|tables|all|planlist) parts="$parts $1" ;;
+        *) echo "usage: run.sh [-d DIR] [receiver] [uplink] [tables] [all] [planlist]" >&2; exit 2 ;;
     esac
     shift
 done
 PLANLIST=${PLANLIST:-$dir/planlist}
 export PLANLIST
 if [ -z "$parts" ]; then
-    [ -f "$dir/libreceiver.a" ] && parts="$parts receiver"
-    [ -f "$dir/libuplink.a" ] && parts="$parts uplink"
+    for part in receiver uplink tables; do
+        [ -f "$dir/lib$part.a" ] && parts="$parts $part"
+    done
+    [ "$parts" = " receiver uplink tables" ] && parts="$parts all"
     [ -x "$PLANLIST" ] && parts="$parts planlist"
     if [ -z "$parts" ]; then
         echo "nothing to test in $dir" >&2
@@ -93,15 +96,22 @@ rust() {
     rustc --edition 2021 -O -L "$dir" "$1" -o "$build/$2"
 }
 
+# An example, then the libraries that it needs.
 c_example() {
+    source=$1
+    shift
+    for library; do
+        set -- "$@" "$dir/lib$library.a"
+        shift
+    done
     # shellcheck disable=SC2086
-    ${CC:-cc} -std=c99 -Wall -Wextra -I "$root/include" "$root/examples/$1.c" \
-        "$dir/lib$1.a" ${CLIBS:--lpthread -ldl -lm} -o "$build/${1}_c"
+    ${CC:-cc} -std=c99 -Wall -Wextra -I "$root/include" "$root/examples/$source.c" \
+        "$@" ${CLIBS:--lpthread -ldl -lm} -o "$build/${source}_c"
 }
 
 example() {
     echo "examples of $1"
-    whole "building examples/$1.c" c_example "$1"
+    whole "building examples/$1.c" c_example "$1" "$1"
     whole "examples/$1.c" "$build/${1}_c"
     whole "building examples/$1.rs" rust "$root/examples/$1.rs" "${1}_rs"
     whole "examples/$1.rs" "$build/${1}_rs"
@@ -118,12 +128,19 @@ memory() {
 
 for part in $parts; do
     case $part in
-        receiver|uplink)
+        receiver|uplink|tables)
             whole "building compare_$part" rust "$here/compare_$part.rs" "compare_$part"
             # shellcheck disable=SC2086
             cases "compare_$part" "$build/compare_$part" "$seed" ${COUNT:-}
-            memory "compare_$part" 96
+            few=96
+            [ "$part" = tables ] && few=640
+            memory "compare_$part" "$few"
             example "$part"
+            ;;
+        all)
+            echo "examples of all libraries"
+            whole "building examples/week.c" c_example week tables uplink receiver
+            whole "examples/week.c" "$build/week_c"
             ;;
         planlist)
             whole "building compare_planlist" rust "$here/compare_planlist.rs" compare_planlist

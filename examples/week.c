@@ -1,0 +1,102 @@
+/* The week in one program, over all three libraries: makes a staircase table,
+ * plans it, encodes a file, loses packets, repairs the block and verifies it. */
+
+#include <stdio.h>
+#include <string.h>
+
+#include "receiver.h"
+#include "tables.h"
+#include "uplink.h"
+
+enum { MOST_PLACES = 1024, MOST_SIZE = 64, FIRST_INFORMATION = 6 };
+
+static uint16_t table[BS_TABLE_WORDS];
+static uint32_t plan[BS_PLAN_WORDS];
+static uint64_t work[BS_WORK_WORDS];
+static uint8_t file[MOST_PLACES * MOST_SIZE];
+static uint8_t sent[MOST_PLACES * MOST_SIZE];
+static uint8_t block[MOST_PLACES * MOST_SIZE];
+static uint8_t map[MOST_PLACES];
+static uint8_t scratch[1]; /* no check is set aside: no scratch is lent */
+
+static int failed(const char *what, unsigned number)
+{
+    printf("week.c: %s: %u\n", what, number);
+    return 1;
+}
+
+/* A file of so many bytes; the rest of its last packet is zero. */
+static void write_file(size_t bytes)
+{
+    static const char text[] = "Light 14 moved 0.2 miles south. Wreck at 54 11 N 007 53 E. ";
+    memset(file, 0, sizeof file);
+    for (size_t i = 0; i < bytes; i++)
+        file[i] = (uint8_t)(text[i % (sizeof text - 1)] + i / (sizeof text - 1) % 7);
+}
+
+/* Carries one file from the uplink to the receiver. Every step-th packet is
+ * lost. 0 if all went well. */
+static int carry(size_t sources, size_t packets, size_t ones, size_t seed, size_t size, size_t step)
+{
+    bs_made made = bs_staircase(sources, packets, ones, seed, size, table, BS_TABLE_WORDS);
+    if (made.refusal != 0)
+        return failed("table refused", made.refusal);
+
+    /* The uplink. The file lies in the block as it is, then the repair packets. */
+    bs_planned planned = bs_plan(table, made.length, plan, BS_PLAN_WORDS, work, BS_WORK_WORDS);
+    if (planned.refusal != 0)
+        return failed("planning refused", planned.refusal);
+    if (planned.gap != 0)
+        return failed("checks set aside", planned.gap);
+    if (planned.kept != packets - sources)
+        return failed("checks kept", planned.kept);
+    for (size_t i = 0; i < sources; i++)
+        if (plan[FIRST_INFORMATION + i] != i)
+            return failed("not in natural order: information place", plan[FIRST_INFORMATION + i]);
+    write_file(sources * size - 5);
+    bs_encoded encoded = bs_encode(plan, planned.length, file, sources * size,
+                                   sent, packets * size, scratch, 0, SIZE_MAX);
+    if (encoded.refusal != 0)
+        return failed("encoding refused", encoded.refusal);
+    if (memcmp(sent, file, sources * size) != 0)
+        return failed("the file isn't at the lowest places, sources", (unsigned)sources);
+
+    /* On the way: every step-th packet is lost. */
+    unsigned lost = 0;
+    memcpy(block, sent, packets * size);
+    memset(map, 0, packets);
+    for (size_t place = step / 2; place < packets; place += step) {
+        map[place] = 1;
+        memset(block + place * size, 0xee, size);
+        lost++;
+    }
+    if (bs_verify(table, made.length, block, packets * size).codeword != 0)
+        return failed("passed with lost packets", lost);
+
+    /* The receiver. */
+    bs_repaired repaired = bs_repair(table, made.length, block, packets * size, map, packets);
+    if (repaired.refusal != 0)
+        return failed("repair refused", repaired.refusal);
+    if (repaired.restored != lost || repaired.lost != 0)
+        return failed("still lost", repaired.lost);
+    bs_verified verified = bs_verify(table, made.length, block, packets * size);
+    if (verified.refusal != 0 || verified.codeword != 1)
+        return failed("check fails", verified.check);
+    if (memcmp(block, sent, packets * size) != 0)
+        return failed("another block came back, lost", lost);
+
+    printf("week.c: %u packets of %u bytes, %u checks, %u ones; encoded with %u additions;\n"
+           "        %u lost, %u restored with %u additions; the file came back in natural order\n",
+           (unsigned)packets, (unsigned)size, (unsigned)planned.kept, (unsigned)planned.ones,
+           (unsigned)encoded.additions, lost, (unsigned)repaired.restored,
+           (unsigned)repaired.additions);
+    return 0;
+}
+
+int main(void)
+{
+    /* A small file, and one of 51,195 bytes. */
+    if (carry(20, 30, 3, 2024, 16, 6) != 0)
+        return 1;
+    return carry(800, 1000, 3, 12345, 64, 10);
+}
