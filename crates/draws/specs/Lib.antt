@@ -1,3 +1,4 @@
+pub mod CheckValue
 pub mod DrawingLaws
 pub mod Draws
 pub mod Generator

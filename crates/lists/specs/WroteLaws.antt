@@ -98,6 +98,14 @@ module _ {l : List ℕ} {at : ℕ} {ws : List ℕ} (room : at + length ws ≤ le
   pub left-one : {rest e : List ℕ} {k v : ℕ} → Left l at ws (v ∷ rest) e k → Left l at ws rest (set e k v) (k + 1)
   left-one {rest} {e} {k} {v} w = let h = left-room w in let n = left-length w in left-more (v ∷ []) rest w (wrote-one e k v (omega arith))
 
+-- the first of what is left has room
+pub front-room : {l : List ℕ} {at : ℕ} {ws e : List ℕ} {k : ℕ} (vs rest : List ℕ) → at + length ws ≤ length l → Left l at ws (vs ++ rest) e k → k + length vs ≤ length e
+front-room vs rest room w =
+    let r = left-room room w in
+    let n = left-length room w in
+    let a = length-append vs rest in
+    omega arith
+
 -- a list written behind the place for its length, and then the length
 pub wrote-count : {l : List ℕ} {at : ℕ} {ws e : List ℕ} {r : ℕ} → at + 1 + length ws ≤ length l → Wrote l (at + 1) ws e r → Wrote l at (length ws ∷ ws) (set e at (r - at - 1)) r
 wrote-count {l} {at} {ws} {e} {r} h w =

@@ -22,9 +22,16 @@ light-all : (cs : List (List ℕ)) → anyOf (λ c. ltb 64 (length c)) cs ≡ fa
 light-all [] h = nil
 light-all (c ∷ cs) h = cons (ltb-false 64 (length c) (or-false-l (ltb 64 (length c)) _ h)) (light-all cs (or-false-r (ltb 64 (length c)) _ h))
 
--- the tests passed, and ascending places: within the limits
-pub fits-from : (n s : ℕ) (cs : List (List ℕ)) → beyond n s (length cs) ≡ false → tooHeavy cs ≡ false → All (λ c. rising n 0 c ≡ true) cs → Fits n s cs
-fits-from n s cs b h r =
+-- n, s and m within their limits
+pub record Inside (n s m : ℕ) : Type 0 where
+  pub some-places : 1 ≤ n
+  pub few-places : n ≤ 1024
+  pub some-bytes : 1 ≤ s
+  pub few-bytes : s ≤ 1024
+  pub few-checks : m ≤ 512
+
+pub inside : (n s m : ℕ) → beyond n s m ≡ false → Inside n s m
+inside n s m b =
     let nIn = or-false-l (outside 1024 n) _ b in
     let rest = or-false-r (outside 1024 n) _ b in
     let sIn = or-false-l (outside 1024 s) _ rest in
@@ -33,7 +40,19 @@ fits-from n s cs b h r =
       few-places = ltb-false 1024 n (or-false-r (eqb n 0) _ nIn);
       some-bytes = some-of s (or-false-l (eqb s 0) _ sIn);
       few-bytes = ltb-false 1024 s (or-false-r (eqb s 0) _ sIn);
-      few-checks = ltb-false 512 (length cs) (or-false-r (outside 1024 s) _ rest);
+      few-checks = ltb-false 512 m (or-false-r (outside 1024 s) _ rest);
+    }
+
+-- the tests passed, and ascending places: within the limits
+pub fits-from : (n s : ℕ) (cs : List (List ℕ)) → beyond n s (length cs) ≡ false → tooHeavy cs ≡ false → All (λ c. rising n 0 c ≡ true) cs → Fits n s cs
+fits-from n s cs b h r =
+    let i = inside n s (length cs) b in
+    record {
+      some-places = i .some-places;
+      few-places = i .few-places;
+      some-bytes = i .some-bytes;
+      few-bytes = i .few-bytes;
+      few-checks = i .few-checks;
       few-ones = ltb-false 6144 (ones cs) (or-false-r (anyOf (λ c. ltb 64 (length c)) cs) _ h);
       light = light-all cs (or-false-l (anyOf (λ c. ltb 64 (length c)) cs) _ h);
       rises = r;

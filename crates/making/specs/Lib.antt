@@ -1,5 +1,6 @@
 pub mod FitsLaws
 pub mod Making
+pub mod MakingLaws
 pub mod ReadBack
 pub mod Sorted
 pub mod WrittenAccepted

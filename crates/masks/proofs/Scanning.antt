@@ -11,7 +11,7 @@ use lib.ListN.{length, getD, set, take, drop, length-set}
 use lib.Seq.{slice, slice-empty, slice-cons, getD-set-same, getD-set-other, take-set-lt, drop-set-lt}
 use Rattle.gf2.specs.Gf2.{XorGroup, isZero, choose, isSum}
 use Rattle.lists.specs.Lists.{bxor, below, rev, All, All.nil, All.cons}
-use Rattle.lists.specs.Tests.{eqb-true, eqb-false, eqb-gt, byBool}
+use Rattle.lists.specs.Tests.{eqb-true, eqb-false, eqb-comm, eqb-lt, eqb-gt, byBool}
 use Rattle.masks.specs.Dot.{dot}
 use Rattle.masks.specs.Scan.{mended, Tied, Scan}
 use Rattle.masks.specs.DotLaws.{dot-hom, dot-mend}

@@ -73,13 +73,17 @@ one-of (c ∷ cs) = byBool (c .0)
     among true b c h = refl
     among false b c h = or-r b c h
 
+-- where nothing is refused, none holds
+pub none-of : (cs : List (Bool × ℕ)) → has 0 (causeNumbers cs) ≡ false → firstCause cs ≡ 0 → NoneHolds cs
+none-of cs h e = unheard 0 cs h e .1
+
 module _ (cs : List (Bool × ℕ)) (d : Numbered cs) where
   -- the one law of all refusals
   no-zero : has 0 (causeNumbers cs) ≡ false
   no-zero = no-left (has 0 (causeNumbers cs)) _ d
 
   pub none-holds : firstCause cs ≡ 0 → NoneHolds cs
-  none-holds e = unheard 0 cs no-zero e .1
+  none-holds e = none-of cs no-zero e
 
   pub refused-by : RefusedBy (firstCause cs) cs
   refused-by = record {

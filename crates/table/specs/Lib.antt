@@ -15,3 +15,4 @@ pub mod Packets
 pub mod SumLaws
 pub mod Table
 pub mod TableLaws
+pub mod WeighLaws

@@ -2,6 +2,11 @@ pub mod Demands
 pub mod OwnPlan
 pub mod Refusals
 pub mod Restoring
+pub mod Staircase
+pub mod StaircaseRefusals
+pub mod StairsKept
+pub mod StairsPeeled
+pub mod StairsPlanned
 pub mod Starred
 pub mod Week
 pub mod Worked

@@ -4,7 +4,8 @@ use Prim.Native.Nat.{_+_, _-_, _*_, _≤_}
 use native.Mathlib.Omega.{arith}
 use lib.ListN.{take, drop}
 use Rattle.table.specs.LookOver.{weighed}
-use Rattle.table.proofs.Looking.{part, part-all, part-none, part-cons, weighedOn, weigh-start, weigh-heavy, weigh-light, weigh-end}
+use Rattle.table.proofs.Looking.{part, part-all, part-none, part-cons}
+use Rattle.table.specs.WeighLaws.{weighedOn, weigh-start, weigh-heavy, weigh-light, weigh-end}
 use Rattle.table.proofs.weigh.Statement.{statement}
 use Rattle.table.proofs.weigh.Tie as tie
 
