@@ -16,7 +16,7 @@ use Rattle.draws.specs.DrawingLaws.{drawn-low, until-gives}
 use Rattle.draws.specs.Generator.{modulus, next, drawn, Drawn, until}
 use Rattle.lots.specs.Grid.{free, freeEntry, Put, PutIf, putIf, Sought}
 use Rattle.fill.specs.Fill.{State, vacant, put, byOrder, byRow, one}
-use Rattle.fill.specs.Good.{Good, put-gives, entry-low, entry-set, free-there}
+use Rattle.fill.specs.Good.{put-gives, entry-low, entry-set, free-there}
 use Rattle.fill.specs.Held.{Rep, Order, Both, Ends}
 
 -- tests that agree below the bound draw the same

@@ -3,7 +3,7 @@ use Prim.Native.Nat.{_*_}
 use native.Mathlib.Omega.{arith}
 use borrow.Author.Needs.{needs}
 use borrow.Author.Tests.{not-true, not-false}
-use Rattle.fill.specs.Fill.{extras, fill}
+use Rattle.fill.specs.Fill.{extras}
 use Rattle.fill.proofs.Beginning.{entries-low}
 use Rattle.fill.proofs.Going.{finish, rest-holds}
 use Rattle.fill.proofs.Whole.{begins, columns-passed, columns-failed}

@@ -1,6 +1,5 @@
 -- `two_ones` meets its contract.
 use mathlib.Core.Path.{refl}
-use native.Mathlib.Omega.{arith}
 use borrow.Author.Needs.{needs}
 use borrow.Author.Tests.{not-true, not-false}
 use Rattle.fill.specs.Fill.{firstOne, secondOne}
