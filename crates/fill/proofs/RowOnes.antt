@@ -1,5 +1,5 @@
 -- The places of a row of bits and the state's row: as many; the extra ones.
-use mathlib.Core.Path.{_≡_, refl, sym, ap, ap₂, _∙_, subst}
+use mathlib.Core.Path.{_≡_, refl, sym, ap, ap₂, _∙_}
 use mathlib.Core.Bool.{Bool, true, false, not, _||_}
 use mathlib.Core.List.{List, [], _∷_}
 use mathlib.Core.Option.{Option, none, some}
@@ -17,7 +17,7 @@ use Rattle.bits.specs.Row.{row, placesIn}
 use Rattle.draws.specs.DrawingLaws.{until-gives}
 use Rattle.draws.specs.Generator.{Drawn, until}
 use Rattle.lots.specs.Grid.{free, PutIf, Sought}
-use Rattle.fill.specs.Fill.{State, vacant, put, extra, firstOne, secondOne}
+use Rattle.fill.specs.Fill.{State, put, extra, firstOne, secondOne}
 use Rattle.fill.specs.Held.{Rep, Ends}
 use Rattle.fill.proofs.Turns.{until-same, rep-put, ends-some, ends-none, ends-is}
 

@@ -16,7 +16,7 @@ use Rattle.draws.specs.DrawingLaws.{drawn-low, until-gives}
 use Rattle.draws.specs.Generator.{modulus, next, drawn, Drawn, until}
 use Rattle.lots.specs.Grid.{free, freeEntry, Put, PutIf, putIf, Sought}
 use Rattle.fill.specs.Fill.{State, vacant, put, byOrder, byRow, one}
-use Rattle.fill.specs.Good.{Good, put-gives, entry-low, entry-set, free-there}
+use Rattle.fill.specs.Good.{put-gives, entry-low, entry-set, free-there}
 use Rattle.fill.specs.Held.{Rep, Order, Both, Ends}
 
 -- tests that agree below the bound draw the same
@@ -179,21 +179,23 @@ module _ (k m e : ℕ) (w u : List ℕ) (used raw left : ℕ) (s : State) (both 
   scan-is = sym (ap (λ x. anyOf (free w j) (drop used x)) (both .order .listed) ∙ ap (λ x. anyOf (free w j) (drop x (s .order))) (sym (both .order .used-is))
       ∙ any-same (free w j) (vacant (s .rows) j) (all-map (λ x h. both .rep .cells x j h inside) (all-drop (s .used) (both .rep .good .low))))
 
-  pub below-end : anyOf (free w j) (drop used (take e u)) ≡ true → used < e
-  below-end t = let h = free-there (free w j) used (take e u) t in let z = length-take-le e u (both .order .long) in omega arith
+  pub below-end : (scanned : Bool) → scanned ≡ anyOf (free w j) (drop used (take e u)) → scanned ≡ true → used < e
+  below-end b a t = let h = free-there (free w j) used (take e u) (sym a ∙ t) in let z = length-take-le e u (both .order .long) in omega arith
 
   -- what `one` ends in
-  pub order-done : anyOf (free w j) (drop used (take e u)) ≡ true → (found : Bool) (v x l : ℕ) → Sought (e - used) raw left (freeEntry w u used j) found v x l
+  pub order-done : (scanned : Bool) → scanned ≡ anyOf (free w j) (drop used (take e u)) → scanned ≡ true
+      → (found : Bool) (v x l : ℕ) → Sought (e - used) raw left (freeEntry w u used j) found v x l
       → (w′ u′ : List ℕ) → PutIf found w (getD u (used + v) 0) j w′ → u′ ≡ putIf found u (used + v) (getD u used 0) → Ends (one e m j s) found (Both k m e w′ u′ (used + 1) x l)
-  order-done t found v x l d w′ u′ p eu =
-      let t′ = scan-is ∙ t in
+  order-done b a t found v x l d w′ u′ p eu =
+      let t′ = scan-is ∙ sym a ∙ t in
       let q : one e m j s ≡ byOrder e j s = rw (t′, one) in
       ends-is found (Both k m e w′ u′ (used + 1) x l) q
-      (subst (λ b. Ends (byOrder e j s) found (Both k m e w′ b (used + 1) x l)) (sym eu) (order-step (below-end t) found v x l w′ d p))
+      (subst (λ y. Ends (byOrder e j s) found (Both k m e w′ y (used + 1) x l)) (sym eu) (order-step (below-end b a t) found v x l w′ d p))
 
-  pub row-done : anyOf (free w j) (drop used (take e u)) ≡ false → (found : Bool) (v x l : ℕ) → Sought m raw left (free w j) found v x l
+  pub row-done : (scanned : Bool) → scanned ≡ anyOf (free w j) (drop used (take e u)) → scanned ≡ false
+      → (found : Bool) (v x l : ℕ) → Sought m raw left (free w j) found v x l
       → (w′ : List ℕ) → PutIf found w v j w′ → Ends (one e m j s) found (Both k m e w′ u used x l)
-  row-done t found v x l d w′ p =
-      let t′ = scan-is ∙ t in
+  row-done b a t found v x l d w′ p =
+      let t′ = scan-is ∙ sym a ∙ t in
       let q : one e m j s ≡ byRow m j s = rw (t′, one) in
       ends-is found (Both k m e w′ u used x l) q (row-step found v x l w′ d p)

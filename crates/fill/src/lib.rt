@@ -9,12 +9,12 @@ ghost use Rattle.fill.specs.Held.{Both, Ready, Held, HeldRows, RowReady,
 
 // ---- the columns
 
-// whether the draws were enough, and the list's t, the generator's value and the draws left after it
-pub struct Turn {
-    pub ok: bool,
-    pub used: usize,
-    pub raw: usize,
-    pub left: usize,
+// whether the draws were enough; the list's t, the generator's value and the draws left after it
+struct Turn {
+    ok: bool,
+    used: usize,
+    raw: usize,
+    left: usize,
 }
 
 // one one in column j
@@ -170,7 +170,7 @@ fn second_one(w: &mut [u64], i: usize, k: usize, raw: usize, left: usize) -> lot
     unchanged(raw, left)
 }
 
-// both
+// a first one and then a second one in row i, where they are missing
 fn two_ones(w: &mut [u64], i: usize, k: usize, raw: usize, left: usize) -> lots::Lot
     requires { ⌜ RowReady k i (now w) raw left ⌝ }
     ensures { λ r. ⌜ RowStepped k i (λ s. andThen (firstOne k i s) (λ x. secondOne k i x))

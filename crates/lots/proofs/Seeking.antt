@@ -1,11 +1,10 @@
 -- Drawing until a draw passes: one draw of a loop, and what it ends in.
-use mathlib.Core.Path.{_≡_, refl, sym, ap, _∙_, subst}
+use mathlib.Core.Path.{_≡_, refl, sym, ap, _∙_}
 use mathlib.Core.Bool.{Bool, true, false}
-use mathlib.Core.Option.{some}
 use Prim.Native.Nat.{ℕ, _<_}
 use Rattle.draws.specs.Draws.{Draws}
 use Rattle.draws.specs.DrawingLaws.{draw-hit, draw-miss, until-gives}
-use Rattle.draws.specs.Generator.{modulus, Drawn, until}
+use Rattle.draws.specs.Generator.{modulus, until}
 use Rattle.lots.specs.Grid.{outcome, Sought}
 
 -- drawing goes on from x, with l draws left

@@ -83,7 +83,7 @@ fn draw_row(w: &[u64], j: usize, m: usize, raw: usize, left: usize) -> Lot
             return found(d);
         }
         x = d.raw;
-        l = d.left;
+        l = d.left; // a rejected draw counts
     }
     spent(x)
 }

@@ -39,8 +39,9 @@ returns c =
     let a = c .before .before .before .before .before .before .before .before .before .before .before .before .before .args in
     let v = c .before .before .before .before .before .before .before .before .before .before .loop in
     let r = c .before .before .before .before .before .before .one in
-    let t = not-true _ (c .if1 .taken) in
-    λ k g s b. column-stop (a .e) (a .m) (a .j) (v .c) _ _ _ (r .result .ok) (c .before .before .before .before .before .before .before .before .before .loop-test .taken) (r .ensures k g) t (v .inv .2 k g s b) _ _ t
+    let h = c .before .before .before .before .before .before .before .before .before .loop-test .taken in
+    let t = not-true (r .result .ok) (c .if1 .taken) in
+    λ k g s b. column-stop (a .e) (a .m) (a .j) (v .c) _ _ _ (r .result .ok) h (r .ensures k g) t (v .inv .2 k g s b) _ _ t
 
 sub-c : tie.Need-sub-c Inv-loop μ-loop
 sub-c c = search needs
@@ -53,8 +54,12 @@ loop-again c =
     let a = c .before .before .before .before .before .before .before .before .before .before .before .before .before .args in
     let v = c .before .before .before .before .before .before .before .before .before .before .loop in
     let r = c .before .before .before .before .before .before .one in
-    let t = not-false _ (c .if1 .left) in
-    (search needs, search needs, λ k g s b. column-turn (a .e) (a .m) (a .j) (v .c) _ _ _ (r .result .ok) (c .before .before .before .before .before .before .before .before .before .loop-test .taken) (r .ensures k g) t (v .inv .2 k g s b))
+    let h = c .before .before .before .before .before .before .before .before .before .loop-test .taken in
+    let t = not-false (r .result .ok) (c .if1 .left) in (
+      search needs,
+      search needs,
+      λ k g s b. column-turn (a .e) (a .m) (a .j) (v .c) _ _ _ (r .result .ok) h (r .ensures k g) t (v .inv .2 k g s b),
+    )
 
 same-length-3 : tie.Need-same-length-3 Inv-loop μ-loop
 same-length-3 c = search needs

@@ -40,7 +40,7 @@ returns c =
     let v = c .before .before .before .before .before .before .before .before .before .before .loop in
     let r = c .before .before .before .before .before .before .column in
     let h = c .before .before .before .before .before .before .before .before .before .loop-test .taken in
-    let t = not-true _ (c .if1 .taken) in
+    let t = not-true (r .result .ok) (c .if1 .taken) in
     λ s b. columns-stop (a .e) (a .m) (a .ones) (v .j) (a .k) _ _ _ (r .result .ok) h (r .ensures (a .k) h) t (v .inv .3 s b) _ _ t
 
 add-j : tie.Need-add-j Inv-loop μ-loop
@@ -55,8 +55,12 @@ loop-again c =
     let v = c .before .before .before .before .before .before .before .before .before .before .loop in
     let r = c .before .before .before .before .before .before .column in
     let h = c .before .before .before .before .before .before .before .before .before .loop-test .taken in
-    let t = not-false _ (c .if1 .left) in
-    (omega arith, search needs, search needs, λ s b. columns-turn (a .e) (a .m) (a .ones) (v .j) (a .k) _ _ _ (r .result .ok) h (r .ensures (a .k) h) t (v .inv .3 s b))
+    let t = not-false (r .result .ok) (c .if1 .left) in (
+      omega arith,
+      search needs,
+      search needs,
+      λ s b. columns-turn (a .e) (a .m) (a .ones) (v .j) (a .k) _ _ _ (r .result .ok) h (r .ensures (a .k) h) t (v .inv .3 s b),
+    )
 
 same-length-3 : tie.Need-same-length-3 Inv-loop μ-loop
 same-length-3 c = search needs

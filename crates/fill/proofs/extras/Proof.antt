@@ -37,7 +37,8 @@ returns c =
     let v = c .before .before .before .before .before .before .before .loop in
     let d = c .before .before .before .before .two-ones in
     let h = c .before .before .before .before .before .before .loop-test .taken in
-    λ e s r. extras-stop (a .k) (v .i) (a .m) _ _ _ (d .result .found) h (d .ensures (a .m) e h) (not-true _ (c .if1 .taken)) (v .inv .2 e s r) _ _ refl
+    let t = not-true (d .result .found) (c .if1 .taken) in
+    λ e s r. extras-stop (a .k) (v .i) (a .m) _ _ _ (d .result .found) h (d .ensures (a .m) e h) t (v .inv .2 e s r) _ _ refl
 
 add-i : tie.Need-add-i Inv-loop μ-loop
 add-i c = search needs
@@ -51,7 +52,11 @@ loop-again c =
     let v = c .before .before .before .before .before .before .before .loop in
     let d = c .before .before .before .before .two-ones in
     let h = c .before .before .before .before .before .before .loop-test .taken in
-    (omega arith, search needs, λ e s r. extras-turn (a .k) (v .i) (a .m) _ _ _ (d .result .found) h (d .ensures (a .m) e h) (not-false _ (c .if1 .left)) (v .inv .2 e s r))
+    let t = not-false (d .result .found) (c .if1 .left) in (
+      omega arith,
+      search needs,
+      λ e s r. extras-turn (a .k) (v .i) (a .m) _ _ _ (d .result .found) h (d .ensures (a .m) e h) t (v .inv .2 e s r),
+    )
 
 same-length-2 : tie.Need-same-length-2 Inv-loop μ-loop
 same-length-2 c = search needs

@@ -1,6 +1,5 @@
 -- `fill` meets its contract.
 use Prim.Native.Nat.{ℕ}
-use native.Mathlib.Omega.{arith}
 use borrow.Author.Needs.{needs}
 use lib.ListN.{length-replicate}
 use Rattle.lists.specs.ListLaws.{getD-zeros}

@@ -35,7 +35,8 @@ returns c =
     let r = d .result in
     let q = d .ensures in
     let z = sym (c .before .before .before .before .before .ones-of .ensures .0) ∙ c .before .before .before .before .if1 .taken in
-    λ m e h s rep. first-put (a .k) m e (a .w .now) (a .raw) (a .left) s rep (a .i) h z (r .found) (r .value) (r .raw) (r .left) (q .0) _ (q .1)
+    λ m e h s rep. first-put (a .k) m e (a .w .now) (a .raw) (a .left) s rep (a .i) h z
+    (r .found) (r .value) (r .raw) (r .left) (q .0) _ (q .1)
 
 unchanged-requires : tie.Need-unchanged-requires
 unchanged-requires c κs = search needs
@@ -46,7 +47,8 @@ same-length-2 c = search needs
 returns-2 : tie.Need-returns-2
 returns-2 c =
     let a = c .before .before .before .before .before .args in
-    λ m e h s rep. first-keep (a .k) m e (a .w .now) (a .raw) (a .left) s rep (a .i) h (λ z. c .before .if1 .left (c .before .before .ones-of .ensures .0 ∙ z)) (c .unchanged .ensures)
+    λ m e h s rep. first-keep (a .k) m e (a .w .now) (a .raw) (a .left) s rep (a .i) h
+    (λ z. c .before .if1 .left (c .before .before .ones-of .ensures .0 ∙ z)) (c .unchanged .ensures)
 
 pub first-one-spec : {M : Type 1} → statement M
 first-one-spec =

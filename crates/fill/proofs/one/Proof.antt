@@ -1,5 +1,4 @@
 -- `one` meets its contract.
-use mathlib.Core.Path.{sym, _∙_}
 use native.Mathlib.Omega.{arith}
 use borrow.Author.Needs.{needs}
 use Rattle.fill.proofs.Turns.{below-end, order-done, row-done}
@@ -14,8 +13,9 @@ by-order-requires c κs =
     let a = c .before .before .before .before .before .before .before .before .args in
     let p = c .before .before .before .before .before .before .before .before .pre in
     let b = p .both in
-    let t = sym (c .before .before .before .scan .ensures) ∙ c .before .before .if1 .taken in
-    let h = below-end (p .k) (a .m) (a .e) (a .w .now) (a .u .now) (a .used) (a .raw) (a .left) (p .state) b (a .j) (p .col) t in
+    let q = c .before .before .before .scan in
+    let h = below-end (p .k) (a .m) (a .e) (a .w .now) (a .u .now) (a .used) (a .raw) (a .left) (p .state) b (a .j) (p .col)
+    (q .result) (q .ensures) (c .before .before .if1 .taken) in
     let z = b .rep .sizes .k-low in
     let y = p .col in
     (h, b .rep .sizes .e-low, b .order .long, b .order .small, omega arith, b .rep .wide, b .rep .low)
@@ -35,8 +35,10 @@ returns c =
     let d = c .before .before .before .before .by-order in
     let r = d .result in
     let f = d .ensures in
-    let t = sym (c .before .before .before .before .before .before .before .before .scan .ensures) ∙ c .before .before .before .before .before .before .before .if1 .taken in
-    λ k h s b. order-done k (a .m) (a .e) (a .w .now) (a .u .now) (a .used) (a .raw) (a .left) s b (a .j) h t (r .found) (r .value) (r .raw) (r .left) (f .0) _ _ (f .1) (f .2)
+    let q = c .before .before .before .before .before .before .before .before .scan in
+    let t = c .before .before .before .before .before .before .before .if1 .taken in
+    λ k h s b. order-done k (a .m) (a .e) (a .w .now) (a .u .now) (a .used) (a .raw) (a .left) s b (a .j) h
+    (q .result) (q .ensures) t (r .found) (r .value) (r .raw) (r .left) (f .0) _ _ (f .1) (f .2)
 
 by-row-requires : tie.Need-by-row-requires
 by-row-requires c κs = search needs
@@ -53,8 +55,10 @@ returns-2 c =
     let d = c .before .before .by-row in
     let r = d .result in
     let f = d .ensures in
-    let t = sym (c .before .before .before .before .before .scan .ensures) ∙ c .before .before .before .before .if1 .left in
-    λ k h s b. row-done k (a .m) (a .e) (a .w .now) (a .u .now) (a .used) (a .raw) (a .left) s b (a .j) h t (r .found) (r .value) (r .raw) (r .left) (f .0) _ (f .1)
+    let q = c .before .before .before .before .before .scan in
+    let t = c .before .before .before .before .if1 .left in
+    λ k h s b. row-done k (a .m) (a .e) (a .w .now) (a .u .now) (a .used) (a .raw) (a .left) s b (a .j) h
+    (q .result) (q .ensures) t (r .found) (r .value) (r .raw) (r .left) (f .0) _ (f .1)
 
 pub one-spec : {M : Type 1} → statement M
 one-spec =

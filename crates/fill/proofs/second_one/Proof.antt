@@ -32,7 +32,8 @@ returns c =
     let r = d .result in
     let q = d .ensures in
     let z = sym (c .before .before .before .before .before .ones-of .ensures .0) ∙ c .before .before .before .before .if1 .taken in
-    λ m e h s rep. second-put (a .k) m e (a .w .now) (a .raw) (a .left) s rep (a .i) h z (r .found) (r .value) (r .raw) (r .left) (q .0) _ (q .1)
+    λ m e h s rep. second-put (a .k) m e (a .w .now) (a .raw) (a .left) s rep (a .i) h z
+    (r .found) (r .value) (r .raw) (r .left) (q .0) _ (q .1)
 
 unchanged-requires : tie.Need-unchanged-requires
 unchanged-requires c κs = search needs
@@ -43,7 +44,8 @@ same-length-2 c = search needs
 returns-2 : tie.Need-returns-2
 returns-2 c =
     let a = c .before .before .before .before .before .args in
-    λ m e h s rep. second-keep (a .k) m e (a .w .now) (a .raw) (a .left) s rep (a .i) h (λ z. c .before .if1 .left (c .before .before .ones-of .ensures .0 ∙ z)) (c .unchanged .ensures)
+    λ m e h s rep. second-keep (a .k) m e (a .w .now) (a .raw) (a .left) s rep (a .i) h
+    (λ z. c .before .if1 .left (c .before .before .ones-of .ensures .0 ∙ z)) (c .unchanged .ensures)
 
 pub second-one-spec : {M : Type 1} → statement M
 second-one-spec =

@@ -31,13 +31,14 @@ put-requires c κs =
     let d = c .before .before .before .before .before .draw-order in
     let y = c .wide .ensures in
     let l = p .3 (a .t + d .result .value) in
-    (omega arith, p .4, p .5, ap (free (a .w .now) (a .j)) y ∙ drawn-passes {f = freeEntry (a .w .now) (a .u .now) (a .t) (a .j)} (d .ensures) (c .before .before .before .before .if1 .taken))
+    let f = drawn-passes {f = freeEntry (a .w .now) (a .u .now) (a .t) (a .j)} (d .ensures) (c .before .before .before .before .if1 .taken) in
+    (omega arith, p .4, p .5, ap (free (a .w .now) (a .j)) y ∙ f)
 
 mul-u : tie.Need-mul-u
-mul-u c = search needs
+mul-u c = let b = c .before .before .before .before .before .before .before .before .draw-order .ensures .below in omega arith
 
 slice-read-u : tie.Need-slice-read-u
-slice-read-u c = search needs
+slice-read-u c = let b = c .before .before .before .before .before .before .before .before .before .draw-order .ensures .below in omega arith
 
 mul-u-2 : tie.Need-mul-u-2
 mul-u-2 c = let b = c .before .before .before .before .before .before .before .before .before .draw-order .ensures .below in omega arith
@@ -54,7 +55,8 @@ same-length-2 c = search needs
 returns : tie.Need-returns
 returns c =
     let t = c .before .before .before .before .before .before .before .before .if1 .taken in
-    (c .before .before .before .before .before .before .before .before .before .draw-order .ensures, rw t (put-at (c .before .before .before .before .wide .ensures) (c .before .before .before .put .ensures)), rw t refl)
+    let p = put-at (c .before .before .before .before .wide .ensures) (c .before .before .before .put .ensures) in
+    (c .before .before .before .before .before .before .before .before .before .draw-order .ensures, rw t p, rw t refl)
 
 same-length-3 : tie.Need-same-length-3
 same-length-3 c = search needs

@@ -48,15 +48,17 @@ found-requires c κs = search needs
 returns : tie.Need-returns Inv-loop μ-loop
 returns c =
     let a = c .before .before .before .before .before .before .before .before .before .before .before .args in
-    passes (c .before .before .before .before .before .before .before .before .loop .inv) (c .before .before .before .before .before .before .draw .ensures) (ap (free (a .w .now) (a .j)) (sym (c .before .before .before .wide .ensures)) ∙ sym (c .before .before .vacant .ensures) ∙ c .before .if1 .taken) (c .found .ensures)
-
-loop-less : tie.Need-loop-less Inv-loop μ-loop
-loop-less c = let l = c .before .before .before .before .before .draw .ensures .left-is in omega arith
+    let t = ap (free (a .w .now) (a .j)) (sym (c .before .before .before .wide .ensures)) ∙ sym (c .before .before .vacant .ensures) ∙ c .before .if1 .taken in
+    passes (c .before .before .before .before .before .before .before .before .loop .inv) (c .before .before .before .before .before .before .draw .ensures) t (c .found .ensures)
 
 loop-again : tie.Need-loop-again Inv-loop μ-loop
 loop-again c =
     let a = c .before .before .before .before .before .before .before .before .before .before .args in
-    fails (c .before .before .before .before .before .before .before .loop .inv) (c .before .before .before .before .before .draw .ensures) (ap (free (a .w .now) (a .j)) (sym (c .before .before .wide .ensures)) ∙ sym (c .before .vacant .ensures) ∙ c .if1 .left)
+    let t = ap (free (a .w .now) (a .j)) (sym (c .before .before .wide .ensures)) ∙ sym (c .before .vacant .ensures) ∙ c .if1 .left in
+    fails (c .before .before .before .before .before .before .before .loop .inv) (c .before .before .before .before .before .draw .ensures) t
+
+loop-less : tie.Need-loop-less Inv-loop μ-loop
+loop-less c = let l = c .before .before .before .before .before .draw .ensures .left-is in omega arith
 
 spent-requires : tie.Need-spent-requires Inv-loop μ-loop
 spent-requires c κs = search needs

@@ -1,5 +1,4 @@
 -- `put` meets its contract.
-use native.Mathlib.Omega.{arith}
 use borrow.Author.Needs.{needs}
 use Rattle.lots.proofs.Putting.{flip-puts}
 use Rattle.lots.proofs.put.Statement.{statement}

@@ -40,8 +40,9 @@ returns c =
     let a = c .before .before .before .before .before .before .before .before .args in
     let s = c .before .before .before .before .before .loop in
     let g = free (a .w .now) (a .j) in
+    let l = c .before .before .before .before .loop-test .taken in
     let t = ap g (sym (c .before .before .wide .ensures)) ∙ sym (c .before .vacant .ensures) ∙ c .if1 .taken in
-    sym (s .inv .2 ∙ any-hit g (a .u .now) (a .e) (c .before .before .before .before .before .before .before .before .pre .1) (s .i) (c .before .before .before .before .loop-test .taken) t)
+    sym (s .inv .2 ∙ any-hit g (a .u .now) (a .e) (c .before .before .before .before .before .before .before .before .pre .1) (s .i) l t)
 
 add-i : tie.Need-add-i Inv-loop μ-loop
 add-i c = search needs
@@ -54,8 +55,9 @@ loop-again c =
     let a = c .before .before .before .before .before .before .before .before .args in
     let s = c .before .before .before .before .before .loop in
     let g = free (a .w .now) (a .j) in
+    let l = c .before .before .before .before .loop-test .taken in
     let t = ap g (sym (c .before .before .wide .ensures)) ∙ sym (c .before .vacant .ensures) ∙ c .if1 .left in
-    (omega arith, omega arith, s .inv .2 ∙ any-miss g (a .u .now) (a .e) (c .before .before .before .before .before .before .before .before .pre .1) (s .i) (c .before .before .before .before .loop-test .taken) t)
+    (omega arith, omega arith, s .inv .2 ∙ any-miss g (a .u .now) (a .e) (c .before .before .before .before .before .before .before .before .pre .1) (s .i) l t)
 
 returns-2 : tie.Need-returns-2 Inv-loop μ-loop
 returns-2 c =

@@ -1,7 +1,6 @@
 -- `vacant` meets its contract.
 use mathlib.Core.Path.{ap}
 use mathlib.Core.Bool.{not}
-use native.Mathlib.Omega.{arith}
 use borrow.Author.Needs.{needs}
 use Rattle.lots.proofs.vacant.Statement.{statement}
 use Rattle.lots.proofs.vacant.Tie as tie
