@@ -1,5 +1,6 @@
 pub mod Columns
 pub mod Fill
+pub mod FillCases
 pub mod Filled
 pub mod Good
 pub mod Held

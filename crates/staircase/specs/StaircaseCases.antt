@@ -1,10 +1,8 @@
 -- Worked tables of the maker, and its refusals in their order, by computing.
 use mathlib.Core.Path.{_≡_, refl}
-use mathlib.Core.List.{[], _∷_, map}
-use mathlib.Core.Option.{Option, none, some}
-use Prim.Native.Nat.{ℕ, suc}
+use mathlib.Core.List.{[], _∷_}
+use Prim.Native.Nat.{ℕ}
 use Rattle.lists.specs.Lists.{from}
-use Rattle.fill.specs.Fill.{State, fill}
 use Rattle.staircase.specs.Staircase.{staircaseRefusalAt, staircaseTable}
 
 -- ---- tables
@@ -36,22 +34,6 @@ pub larger-table : staircaseTable 16 28 5 2147483646 1024
     23 ∷ 24 ∷ 0 ∷ 2 ∷ 3 ∷ 6 ∷ 8 ∷ 11 ∷ 24 ∷ 25 ∷ 2 ∷ 6 ∷ 8 ∷ 9 ∷ 12 ∷ 13 ∷ 25 ∷ 26 ∷ 3 ∷ 5 ∷ 8 ∷ 10 ∷ 13 ∷ 14 ∷ 26 ∷ 27 ∷ []
 unfolding staircaseTable from
 larger-table = refl
-
--- ---- draws
--- the draws left, and one more; 0 if there were too few
-abbrev drawsLeft : Option State → ℕ
-drawsLeft none = 0
-drawsLeft (some s) = suc (s .left)
-
--- its 30 draws: no draw more than that is asked for ..
-pub draws-counted : map (λ d. drawsLeft (fill 4 13 3 1 d)) (30 ∷ 31 ∷ 65536 ∷ []) ≡ 1 ∷ 2 ∷ 65507 ∷ []
-unfolding from
-draws-counted = refl
-
--- .. and one less is too few
-pub draws-spent : drawsLeft (fill 4 13 3 1 29) ≡ 0
-unfolding from
-draws-spent = refl
 
 -- ---- refusals: each before those after it
 abbrev refuses : ℕ → ℕ → ℕ → ℕ → ℕ → ℕ → ℕ
