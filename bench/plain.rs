@@ -306,13 +306,14 @@ fn source_rows(k: usize, m: usize, ones: usize, seed: usize) -> Option<Vec<Vec<u
     let mut rows: Vec<Vec<u16>> = vec![Vec::with_capacity(ones * k / m + 4); m];
     let mut choices: Vec<u16> = (0..ones * k).map(|h| (h % m) as u16).collect();
     let mut used = 0;
+    // columns ascend, so that a row's one in column j is its last
     for j in 0..k as u16 {
         for _ in 0..ones {
-            if choices[used..].iter().any(|r| !rows[*r as usize].contains(&j)) {
+            if choices[used..].iter().any(|r| rows[*r as usize].last() != Some(&j)) {
                 let (at, row) = loop {
                     let at = used + draws.below(choices.len() - used)?;
                     let row = &mut rows[choices[at] as usize];
-                    if !row.contains(&j) {
+                    if row.last() != Some(&j) {
                         break (at, row);
                     }
                 };
@@ -322,7 +323,7 @@ fn source_rows(k: usize, m: usize, ones: usize, seed: usize) -> Option<Vec<Vec<u
             } else {
                 let row = loop {
                     let row = &mut rows[draws.below(m)?];
-                    if !row.contains(&j) {
+                    if row.last() != Some(&j) {
                         break row;
                     }
                 };
