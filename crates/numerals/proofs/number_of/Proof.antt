@@ -1,5 +1,5 @@
 -- `numerals::number_of` meets its contract. The loop's invariant: x comes of the first i bytes, and the rest decides.
-use mathlib.Core.Path.{_≡_, refl, sym, ap, _∙_}
+use mathlib.Core.Path.{sym, _∙_}
 use Prim.Native.Nat.{_-_}
 use native.Mathlib.Omega.{arith}
 use borrow.Author.Tests.{not-true, not-false}
