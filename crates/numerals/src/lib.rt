@@ -1,6 +1,5 @@
 // A number in decimal digits, read.
 ghost use mathlib.Core.Path.{_≡_};
-ghost use mathlib.Core.Bool.{true};
 ghost use Rattle.numerals.specs.Numerals.{isDigit, numberOf};
 
 // a number, or none

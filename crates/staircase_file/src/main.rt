@@ -41,6 +41,7 @@ fn print_counts(numbers: usize, checks: usize, ones: usize) {
     text::print_count(libc::STDOUT_FILENO, b"", ones as u64, b" ones\n");
 }
 
+// The same of an accepted table.
 fn print_table(table: &[u16])
     requires { ⌜ refusal (now table) ≡ 0 ⌝ }
 {
@@ -60,6 +61,7 @@ fn write_bytes(table: &[u16], file: &mut [u8])
     }
 }
 
+// The same with a buffer of its own.
 fn write_table(table: &[u16])
     requires { ⌜ refusal (now table) ≡ 0 ⌝ }
 {
