@@ -1,9 +1,9 @@
 #!/bin/sh
-# Carries a sample correction file through the week: cut into sources, encoded to blocks, packets lost on the way, repaired,
-# verified, and put together again. Ends with status 0 if the file comes back byte for byte.
+# Carries a sample correction file through the week: a staircase's table made, the file cut into sources, encoded to blocks,
+# packets lost on the way, repaired, verified, and put together again. Ends with status 0 if the file comes back byte for byte.
 #
 #   tools/week.sh            builds the programs first
-#   tools/week.sh DIR        takes encode_file, repair_file, verify_file and planlist from DIR
+#   tools/week.sh DIR        takes staircase_file, planlist, encode_file, repair_file and verify_file from DIR
 
 set -eu
 root=$(cd "$(dirname "$0")/.." && pwd)
@@ -13,7 +13,7 @@ else
     bin=$root/target/bin
     mkdir -p "$root/target"
     # a line for each crate as it is done; the whole log only where something fails
-    { cd "$root" && rt check planlist encode_file repair_file verify_file 2>&1; echo $? >"$root/target/week.status"; } |
+    { cd "$root" && rt check staircase_file planlist encode_file repair_file verify_file 2>&1; echo $? >"$root/target/week.status"; } |
         tee "$root/target/week.log" | grep '^rt: ' || true
     [ "$(cat "$root/target/week.status")" = 0 ] || {
         cat "$root/target/week.log"
@@ -37,28 +37,38 @@ bytes() {
     printf "$(awk '{ for (i = 1; i <= NF; i++) printf "\\%03o", $i }')"
 }
 
-# A table of 64 places of 64 bytes and 24 checks, 16-bit numbers low byte first: each information place, 0 to 39, lies in three
-# checks, and check j has the parity places 40 + j and, as on a staircase, 39 + j.
-awk 'BEGIN {
-    n = 64; s = 64; m = 24
-    for (p = 0; p < n - m; p++) { on[p % m, p] = 1; on[(5 * p + 7) % m, p] = 1; on[(11 * p + 3) % m, p] = 1 }
-    for (j = 0; j < m; j++) { on[j, n - m + j] = 1; if (j > 0) on[j, n - m + j - 1] = 1 }
-    for (j = 0; j < m; j++) for (p = 0; p < n; p++) if ((j, p) in on) { weight[j]++; place[ones++] = p }
-    k = split("2 " n " " s " " m, word)
-    for (j = 0; j < m; j++) word[++k] = weight[j]
-    word[++k] = ones
-    for (i = 0; i < ones; i++) word[++k] = place[i]
-    for (i = 1; i <= k; i++) print word[i] % 256, int(word[i] / 256)
-}' | bytes >table
+# refuses WORDS ARGUMENT..: staircase_file must say the words on standard error, and neither print nor write anything
+refuses() {
+    words=$1
+    shift
+    said "staircase_file $*" '' "$("$bin/staircase_file" "$@" none 2>errors)"
+    said "staircase_file $*" "$words" "$(cat errors)"
+    [ ! -e none ] || { echo "staircase_file $*: wrote a file"; exit 1; }
+}
+
+# A small table, number by number, low byte first; and arguments of which no table is made.
+said 'staircase_file' 'table of 28 numbers, 4 checks, 19 ones' "$("$bin/staircase_file" 4 8 3 1 1 small)"
+said 'the small table' '2 8 1 4 4 5 5 5 19 0 1 3 4 0 2 3 4 5 0 1 2 5 6 1 2 3 6 7' \
+    "$(echo $(od -An -v -tu1 small | awk '{ for (i = 1; i < NF; i += 2) print $i + 256 * $(i + 1) }'))"
+refuses 'refused 11' 4 8 3 2147483647 1
+refuses 'refused 2' 4 8 3 1 1025
+refuses 'refused 3' 64 67 3 1 1
+refuses 'SEED is not a decimal number below 2^64' 4 8 3 -1 1
+refuses 'SIZE is not a decimal number below 2^64' 4 8 3 1 18446744073709551616
+
+# The week's table: 40 sources among 64 packets of 64 bytes, three ones in a source column, seed 1.
+said 'staircase_file' 'table of 196 numbers, 24 checks, 167 ones' "$("$bin/staircase_file" 40 64 3 1 64 table)"
 
 # and a correction file of 9,000 bytes
 awk 'BEGIN { x = 1; for (i = 0; i < 9000; i++) { x = (x * 75 + 74) % 65537; print x % 256 } }' | bytes >corrections
 
 "$bin/planlist" <table >plan
 echo "table: $(head -n 1 plan), $(tail -n 1 plan)"
-information=$(sed -n 's/^info *//p' plan)
+# no check is set aside, and the sources lie at the lowest places
+said planlist 'places 64 size 64 kept 24 ones 167 gap 0' "$(head -n 1 plan)"
+said planlist "info $(seq -s ' ' 0 39)" "$(sed -n 2p plan)"
 size=64
-source=$(($(echo $information | wc -w) * size))
+source=$((40 * size))
 split -b $source corrections source.
 echo "correction file: $(wc -c <corrections) bytes, cut into $(ls source.* | wc -l) sources of up to $source bytes"
 
@@ -80,12 +90,10 @@ for part in source.*; do
     echo "$part: encoded, packets $start to $((start + 9)) lost, $counts, codeword"
     start=$((start + 17))
 
-    # the information packets, at the places of the plan's second line
-    for place in $information; do
-        tail -c +$((place * size + 1)) "$block" | head -c $size
-    done >information
-    head -c "$(wc -c <"$part")" information | cmp - "$part" || exit 1
-    head -c "$(wc -c <"$part")" information >>received
+    # the source packets, in natural order
+    head -c "$(wc -c <"$part")" "$block" >source
+    cmp source "$part"
+    cat source >>received
 done
 
 cmp received corrections

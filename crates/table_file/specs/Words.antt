@@ -1,7 +1,7 @@
 -- The words of a table's file (document 01, "The table of checks" and "Program planlist").
 use mathlib.Core.Bool.{Bool, true, false, not, _||_}
 use mathlib.Core.List.{List, [], _∷_, _++_}
-use Prim.Native.Nat.{ℕ, _+_, _*_, _%_}
+use Prim.Native.Nat.{ℕ, _+_, _*_, _/_, _%_}
 use lib.Dec.{eqb, ltb}
 use lib.ListN.{length, drop}
 use Rattle.table_file.specs.declared.Words.{Words}
@@ -28,3 +28,8 @@ wordsRead file = elim (unfit file) [ true ↦ Refused | false ↦ Count (length 
 -- they stand at the start of the buffer; the rest is kept
 unfoldable pub wordsAfter : List ℕ → List ℕ → List ℕ
 wordsAfter file words = elim (unfit file) [ true ↦ words | false ↦ wordsOf file ++ drop (length (wordsOf file)) words ]
+
+-- the bytes of words, "low byte first"
+abbrev pub bytesOf : List ℕ → List ℕ
+bytesOf [] = []
+bytesOf (word ∷ rest) = (word % 256) ∷ (word / 256) ∷ bytesOf rest

@@ -1,17 +1,17 @@
 -- Laws of the words of a table's file.
-use mathlib.Core.Path.{_≡_, refl, sym, ap, _∙_}
+use mathlib.Core.Path.{_≡_, refl, sym, ap, ap₂, _∙_}
 use mathlib.Core.Bool.{Bool, true, false, not, _||_}
-use mathlib.Core.List.{List, [], _∷_}
-use Prim.Native.Nat.{ℕ, _-_, _*_, _/_, _%_, _≤_}
+use mathlib.Core.List.{List, [], _∷_, _++_}
+use Prim.Native.Nat.{ℕ, _+_, _-_, _*_, _/_, _%_, _≤_}
 use native.Mathlib.Omega.{arith}
-use borrow.Author.Tests.{eqb-true, ltb-false}
+use borrow.Author.Tests.{eqb-true, ltb-false, eq-eqb, le-ltb}
 use lib.Dec.{eqb, ltb}
 use lib.ListN.{length, take, drop, length-append}
 use lib.Seq.{take-at}
 use Rattle.io.specs.Counts.{Counts}
 use Rattle.table_file.specs.declared.Words.{Words}
 use Rattle.table_file.specs.declared.Words.the-variants.{Refused, Count}
-use Rattle.table_file.specs.Words.{wordsOf, unfit, wordsRead, wordsAfter}
+use Rattle.table_file.specs.Words.{wordsOf, unfit, wordsRead, wordsAfter, bytesOf}
 
 -- as many words as pairs of bytes
 pub words-length : (file : List ℕ) (n : ℕ) → length file ≡ 2 * n → length (wordsOf file) ≡ n
@@ -68,3 +68,26 @@ words-none file e = go (unfit file) refl
 pub words-within : (file words : List ℕ) {r : Words} {words' : List ℕ} {n : ℕ} → 6661 ≤ length words → r ≡ wordsRead file → words' ≡ wordsAfter file words
     → r ≡ Count n → Counts n words'
 words-within file words {r} {words'} {n} h e f z = rw f (words-taken file words n h (sym e ∙ z) .counts)
+
+-- ---- a file that is written
+pub bytes-length : (words : List ℕ) → length (bytesOf words) ≡ 2 * length words
+bytes-length [] = refl
+bytes-length (w ∷ words) = let h = bytes-length words in omega arith
+
+-- its words are those that were written
+pub words-back : (words : List ℕ) → wordsOf (bytesOf words) ≡ words
+words-back [] = refl
+words-back (w ∷ words) = let e : w % 256 + w / 256 * 256 ≡ w = omega arith in ap₂ (λ (x : ℕ) (l : List ℕ). x ∷ l) e (words-back words)
+
+-- and up to 6,661 of them are read again, to the start of any buffer
+pub written-fit : (words : List ℕ) → length words ≤ 6661 → unfit (bytesOf words) ≡ false
+written-fit words h =
+    let l = bytes-length words in
+    rw (eq-eqb (length (bytesOf words) % 2) 0 (omega arith), le-ltb 13322 (length (bytesOf words)) (omega arith)) refl
+
+pub read-back : (words buffer : List ℕ) → length words ≤ 6661
+    → (wordsRead (bytesOf words) ≡ Count (length words)) × (wordsAfter (bytesOf words) buffer ≡ words ++ drop (length words) buffer)
+unfolding wordsRead wordsAfter
+read-back words buffer h =
+    let f = written-fit words h in
+    (rw (f, wordsRead, words-back) refl, rw (f, wordsAfter, words-back) refl)

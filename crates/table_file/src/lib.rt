@@ -1,8 +1,8 @@
 // A table's file as words.
 ghost use mathlib.Core.Path.{_≡_};
-ghost use Prim.Native.Nat.{_+_, _*_, _≤_};
+ghost use Prim.Native.Nat.{_+_, _*_, _/_, _%_, _≤_};
 ghost use lib.ListN.{length};
-ghost use Rattle.table_file.specs.Words.{wordsOf, wordsRead, wordsAfter};
+ghost use Rattle.table_file.specs.Words.{wordsOf, wordsRead, wordsAfter, bytesOf};
 
 // the most bytes and words of a table's file
 pub const MOST_BYTES: usize = 13322;
@@ -49,4 +49,31 @@ pub fn words_in(file: &[u8], words: &mut [u16]) -> Words
     let count = file.len() / 2;
     fill_words(file, &mut words[..count]);
     Words::Count(count)
+}
+
+// the low byte of a word
+fn low(word: u16) -> u8
+    ensures { λ r. ⌜ r ≡ word % 256 ⌝ }
+{
+    (word % 256) as u8
+}
+
+// its high byte
+fn high(word: u16) -> u8
+    ensures { λ r. ⌜ r ≡ word / 256 ⌝ }
+{
+    (word / 256) as u8
+}
+
+// The bytes of a table's file, from its words.
+pub fn bytes_of(words: &[u16], file: &mut [u8])
+    requires { ⌜ length (now file) ≡ 2 * length (now words) ⌝ }
+    ensures { λ _. ⌜ now (file .exit) ≡ bytesOf (now (words .entry)) ⌝ }
+{
+    let mut i = 0;
+    while i < words.len() {
+        file[2 * i] = low(words[i]);
+        file[2 * i + 1] = high(words[i]);
+        i += 1;
+    }
 }
