@@ -9,7 +9,7 @@ table/FirstCause table/Table table/Packets table/PacketCall table/Codewords
 making/Written making/Making draws/Generator fill/Fill staircase/Stairs staircase/Staircase
 verify/Verify erasure/Restoring repair/Repair
 plan/Step plan/Steps plan/Layout rule/Rule rule/PlanOf planner/Planning encoder/Encoding
-table_file/Words text/Lines plan_text/PlanText listing/Listing
+numerals/Numerals table_file/Words text/Lines plan_text/PlanText listing/Listing
 receiver/Answers encoder/Answers uplink/Answers tables/Answers'
 
 # what a file cites: crate/File, and 'declared' for the structs and enums of its own code
