@@ -1,6 +1,5 @@
 -- What code writes into the plan's buffer for one check, for a pass over the solved checks, for the checks set aside and for the
 -- fitted places, and what it reads for it.
-use mathlib.Core.Path.{_≡_}
 use mathlib.Core.List.{List, [], _∷_, _++_, map}
 use Prim.Native.Nat.{ℕ, zero, suc, _+_, _<_, _≤_}
 use lib.Dec.{eqb}

@@ -3,12 +3,10 @@ use mathlib.Core.Path.{_≡_, refl, sym, ap, _∙_, subst}
 use mathlib.Core.Bool.{Bool, true, false, false≢true}
 use mathlib.Core.List.{List, [], _∷_}
 use mathlib.Core.Option.{Option, none, some}
-use Prim.Native.Nat.{ℕ, zero, suc, _+_, _-_, _<_, _≤_}
+use Prim.Native.Nat.{ℕ, zero, suc, _-_, _<_, _≤_}
 use native.Mathlib.Omega.{arith}
 use lib.ListN.{length, getD, set, drop, length-set}
 use Rattle.lists.specs.Lists.{has, anyOf, All, All.nil, All.cons, count}
-use Rattle.draws.specs.DrawingLaws.{until-gives}
-use Rattle.draws.specs.Generator.{Drawn, until}
 use Rattle.fill.specs.Fill.{State, put, andThen}
 use Rattle.fill.specs.PutLaws.{count-put, count-keeps, length-put, length-keeps, Row, row-put}
 
@@ -68,10 +66,6 @@ free-there f zero [] e = absurd (false≢true e)
 free-there f zero (x ∷ u) e = omega arith
 free-there f (suc t) [] e = absurd (false≢true e)
 free-there f (suc t) (x ∷ u) e = let h = free-there f t u e in omega arith
-
--- so the index t + draw(N1·k − t) lies inside u
-pub index-inside : (left raw entries t : ℕ) (f : ℕ → Bool) (d : Drawn) → t < entries → until left raw (entries - t) f ≡ some d → t + d .value < entries
-index-inside left raw entries t f d h e = let v = until-gives left raw (entries - t) f d e .1 (omega arith) in omega arith
 
 -- ---- one put
 module _ (k m entries : ℕ) where

@@ -237,7 +237,7 @@ fn fill_by(
     extras(w, m, k, t.raw, t.left)
 }
 
-// the left side of k columns and m rows, with `ones` ones a column, from the seed; false if it needs more than `draws` draws
+// the left side of k columns and m rows, with at least `ones` ones a column, from the seed; false if it needs more than `draws` draws
 pub fn fill(w: &mut [u64], k: usize, m: usize, ones: usize, seed: usize, draws: usize) -> bool
     requires { ⌜ (length (now w) ≡ 8192)
         × ((p : ℕ) → getD (now w) p 0 ≡ 0)

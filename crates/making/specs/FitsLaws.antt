@@ -1,6 +1,6 @@
 -- Checks that pass the makers' tests make a table that is accepted.
-use mathlib.Core.Path.{_≡_, refl}
-use mathlib.Core.Bool.{Bool, true, false, _||_}
+use mathlib.Core.Path.{_≡_}
+use mathlib.Core.Bool.{true, false}
 use mathlib.Core.List.{List, [], _∷_}
 use Prim.Native.Nat.{ℕ, _≤_}
 use native.Mathlib.Omega.{arith}
@@ -9,7 +9,7 @@ use lib.Dec.{eqb, ltb}
 use lib.ListN.{length}
 use Rattle.lists.specs.Lists.{anyOf, All, All.nil, All.cons}
 use Rattle.lists.specs.Tests.{or-false-l, or-false-r}
-use Rattle.table.specs.Table.{places, size, checks, ones, rising, outside, beyond}
+use Rattle.table.specs.Table.{ones, rising, outside, beyond}
 use Rattle.making.specs.WrittenAccepted.{Fits}
 use Rattle.making.specs.Making.{tooHeavy}
 

@@ -2,18 +2,19 @@
 use mathlib.Core.Path.{_≡_, refl, sym, ap, ap₂, _∙_}
 use mathlib.Core.Bool.{true, false, _||_}
 use mathlib.Core.List.{List, [], _∷_, map}
-use Prim.Native.Nat.{ℕ, _<_, _≤_}
+use Prim.Native.Nat.{ℕ, _+_, _<_, _≤_}
 use native.Mathlib.Omega.{arith}
 use borrow.Author.Tests.{lt-ltb, le-ltb}
 use lib.Dec.{ltb}
-use lib.ListN.{length, length-map}
+use lib.ListN.{length, take, drop, length-map}
+use lib.Seq.{take-at}
 use Rattle.lists.specs.Lists.{anyOf}
 use Rattle.lists.specs.Numbers.{from-length}
 use Rattle.lists.specs.Tests.{byBool, or-l, or-r}
 use Rattle.table.specs.LookOver.{weighed}
 use Rattle.table.specs.Table.{ones, mostWeight, mostOnes}
 use Rattle.bits.specs.Row.{rowsIn}
-use Rattle.making.specs.Making.{tooHeavy}
+use Rattle.making.specs.Making.{tooHeavy, makeAnswerAt, makeTableAfter}
 use Rattle.making.specs.ReadBack.{total-weights}
 
 -- the weights are tested as the checks are
@@ -37,3 +38,7 @@ weighed-light cs h = byBool (anyOf (ltb mostWeight) (map length cs))
 -- as many rows as are asked for
 pub rows-length : (w : List ℕ) (m : ℕ) → length (rowsIn w m) ≡ m
 rows-length w m = simp (length-map, from-length)
+
+-- as many numbers of the buffer as the answer says are the table
+pub table-lent : (t b : List ℕ) → take (makeAnswerAt 0 t .length) (makeTableAfter 0 t b) ≡ t
+table-lent t b = take-at t (drop (0 + length t) b) (length t) refl

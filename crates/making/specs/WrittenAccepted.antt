@@ -1,19 +1,16 @@
 -- A written table is accepted if its checks are within the limits and ascend.
-use mathlib.Core.Path.{_≡_, refl, sym, ap, ap₂, _∙_}
+use mathlib.Core.Path.{_≡_, refl, sym, ap, _∙_}
 use mathlib.Core.Bool.{Bool, true, false, cond, not, _||_}
-use mathlib.Core.List.{List, [], _∷_, _++_, map}
-use Prim.Native.Nat.{ℕ, suc, _+_, _≤_}
+use mathlib.Core.List.{List, map}
+use Prim.Native.Nat.{ℕ, _+_, _≤_}
 use native.Mathlib.Omega.{arith}
-use borrow.Author.Tests.{le-ltb, ne-eqb, eq-eqb, eqb-true, not-false}
+use borrow.Author.Tests.{le-ltb, ne-eqb, eq-eqb}
 use lib.Dec.{eqb, ltb}
-use lib.ListN.{length, getD, take, drop, take-append-drop, length-drop}
-use lib.Seq.{length-take-le, drop-cons, drop-drop}
+use lib.ListN.{length}
 use Rattle.lists.specs.Lists.{allPass, anyOf, All, All.nil, All.cons}
-use Rattle.lists.specs.Tests.{or-false-l}
-use Rattle.table.specs.ChecksLaws.{Limits, limits, checks-length}
-use Rattle.table.specs.Table.{places, size, number, weights, onesCount, total, cutUp, checks, ones, rising, outside, tooShort, beyondLimits, badLengths, badPlaces, refusal}
+use Rattle.table.specs.Table.{number, weights, onesCount, total, ones, rising, outside, tooShort, beyondLimits, badLengths, badPlaces, refusal}
 use Rattle.making.specs.ReadBack.{weights-back, ones-back, checks-back, length-written, total-weights}
-use Rattle.making.specs.Written.{flat, tail, tableOf}
+use Rattle.making.specs.Written.{tableOf}
 
 -- n, s and checks within document 01's limits, the places of each check ascending below n
 pub record Fits (n s : ℕ) (cs : List (List ℕ)) : Type 0 where

@@ -1,5 +1,5 @@
 -- After the fill: no draws left, checks too heavy, or the table.
-use mathlib.Core.Path.{_≡_, sym, ap, _∙_, subst}
+use mathlib.Core.Path.{_≡_, sym, _∙_, subst}
 use mathlib.Core.Bool.{Bool, true, false, false≢true, true≢false}
 use mathlib.Core.List.{List, map}
 use mathlib.Core.Option.{none, some}

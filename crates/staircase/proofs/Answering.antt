@@ -1,20 +1,18 @@
 -- The answers of the maker: the first cause that holds, what is answered then, and what the buffer holds.
-use mathlib.Core.Path.{_≡_, refl, sym, ap, ap₂, _∙_, subst}
-use mathlib.Core.Bool.{Bool, true, false, false≢true, true≢false}
-use mathlib.Core.List.{List, []}
-use mathlib.Core.Option.{Option, none, some}
-use Prim.Native.Nat.{ℕ, zero, suc, _+_, _-_, _<_, _≤_}
+use mathlib.Core.Path.{_≡_, sym, ap, _∙_, subst}
+use mathlib.Core.Bool.{true, false}
+use mathlib.Core.List.{List}
+use mathlib.Core.Option.{none, some}
+use Prim.Native.Nat.{ℕ, suc, _+_, _-_}
 use native.Mathlib.Omega.{arith}
 use borrow.Author.Tests.{ne-eqb, eq-eqb}
 use lib.ListN.{length}
 use Rattle.lists.specs.Lists.{Wrote}
-use Rattle.table.specs.LookOver.{weighed}
 use Rattle.table.specs.Table.{beyond}
-use Rattle.making.specs.Making.{tableWords, tooHeavy, MakeAnswer, makeAnswerAt, makeTableAfter}
+use Rattle.making.specs.Making.{tableWords, tooHeavy, makeAnswerAt, makeTableAfter}
 use Rattle.making.specs.Written.{tableOf}
 use Rattle.fill.specs.Fill.{State}
-use Rattle.fill.specs.Held.{Ends}
-use Rattle.staircase.specs.Staircase.{leftSide, checksMade, badParameters, drawsSpent, staircaseRefusalAt, staircaseTable, staircaseAnswer, staircaseTableAfter}
+use Rattle.staircase.specs.Staircase.{leftSide, checksMade, badParameters, staircaseRefusalAt, staircaseTable, staircaseAnswer, staircaseTableAfter}
 use Rattle.staircase.specs.Stairs.{checksOf}
 
 -- what the call answers, and what it leaves in the buffer

@@ -5,7 +5,7 @@ use mathlib.Core.List.{List, [], _∷_}
 use mathlib.Core.Option.{Option, none, some}
 use Prim.Native.Nat.{ℕ, _-_}
 use lib.Dec.{eqb, ltb, leb}
-use lib.ListN.{length}
+use lib.ListN.{length, take}
 use Rattle.table.specs.FirstCause.{firstCause, wrongLength}
 use Rattle.table.specs.Table.{outside, beyond}
 use Rattle.making.specs.Making.{tableWords, tooHeavy, MakeAnswer, makeAnswerAt, makeTableAfter}
@@ -31,10 +31,13 @@ mostDraws = 65536
 abbrev pub leftSide : ℕ → ℕ → ℕ → ℕ → Option State
 leftSide k n ones seed = fill k (n - k) ones seed mostDraws
 
--- its checks
+-- the checks of a left side
 abbrev pub checksMade : ℕ → Option State → List (List ℕ)
 checksMade k none = []
 checksMade k (some f) = checksOf k f
+
+abbrev pub staircaseChecks : ℕ → ℕ → ℕ → ℕ → List (List ℕ)
+staircaseChecks k n ones seed = checksMade k (leftSide k n ones seed)
 
 -- ---- the causes
 -- 11: "source count 0, packet count not above it, ones per column outside 3 to 10 or above the number of checks, seed outside 1 to
@@ -47,18 +50,18 @@ abbrev pub drawsSpent : Option State → Bool
 drawsSpent none = true
 drawsSpent (some f) = false
 
--- "Order: 11 but for the draws, 2, 5, the draws, 3."; buffer is the length of the table buffer
+-- "Order: 11 but for the draws, 2, 5, the draws, 3."
 abbrev pub staircaseCauses : ℕ → ℕ → ℕ → ℕ → ℕ → ℕ → List (Bool × ℕ)
-staircaseCauses k n ones seed s buffer =
-    (badParameters k n ones seed, 11) ∷ (beyond n s (n - k), 2) ∷ (wrongLength buffer tableWords, 5)
-    ∷ (drawsSpent (leftSide k n ones seed), 11) ∷ (tooHeavy (checksMade k (leftSide k n ones seed)), 3) ∷ []
+staircaseCauses k n ones seed s bufferLength =
+    (badParameters k n ones seed, 11) ∷ (beyond n s (n - k), 2) ∷ (wrongLength bufferLength tableWords, 5)
+    ∷ (drawsSpent (leftSide k n ones seed), 11) ∷ (tooHeavy (staircaseChecks k n ones seed), 3) ∷ []
 
 unfoldable pub staircaseRefusalAt : ℕ → ℕ → ℕ → ℕ → ℕ → ℕ → ℕ
-staircaseRefusalAt k n ones seed s buffer = firstCause (staircaseCauses k n ones seed s buffer)
+staircaseRefusalAt k n ones seed s bufferLength = firstCause (staircaseCauses k n ones seed s bufferLength)
 
 -- the numbers of the table
 unfoldable pub staircaseTable : ℕ → ℕ → ℕ → ℕ → ℕ → List ℕ
-staircaseTable k n ones seed s = tableOf n s (checksMade k (leftSide k n ones seed))
+staircaseTable k n ones seed s = tableOf n s (staircaseChecks k n ones seed)
 
 -- ---- the call
 module _ (k n ones seed s : ℕ) (buffer : List ℕ) where
@@ -71,3 +74,7 @@ module _ (k n ones seed s : ℕ) (buffer : List ℕ) where
   -- the table buffer afterwards
   abbrev pub staircaseTableAfter : List ℕ
   staircaseTableAfter = makeTableAfter staircaseRefusal (staircaseTable k n ones seed s) buffer
+
+  -- the table to be lent on: as many numbers of the buffer as the answer says
+  abbrev pub staircaseLent : List ℕ
+  staircaseLent = take (staircaseAnswer .length) staircaseTableAfter

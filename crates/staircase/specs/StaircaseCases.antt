@@ -59,3 +59,9 @@ length-third = refl
 pub draws-and-weights : refuses 1 5 3 1 1 6661 ∷ refuses 64 67 3 1 1 6661 ∷ [] ≡ 11 ∷ 3 ∷ []
 unfolding staircaseRefusalAt from
 draws-and-weights = refl
+
+-- no refusal: the worked tables; 64 places in a check are taken, 65 aren't
+pub taken : refuses 4 8 3 1 1 6661 ∷ refuses 3 7 3 1 1 6661 ∷ refuses 4 17 3 1 1 6661 ∷ refuses 16 28 5 2147483646 1024 6661 ∷ refuses 62 65 3 1 1 6661
+    ∷ refuses 63 66 3 1 1 6661 ∷ [] ≡ 0 ∷ 0 ∷ 0 ∷ 0 ∷ 0 ∷ 3 ∷ []
+unfolding staircaseRefusalAt from
+taken = refl

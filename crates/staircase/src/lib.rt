@@ -1,6 +1,7 @@
 // The maker of staircase tables (document 02, C-11).
 use making::Made;
 use table::MOST_ONES;
+use table::MOST_WORDS;
 ghost use mathlib.Core.Path.{_≡_};
 ghost use mathlib.Core.Bool.{false};
 ghost use Prim.Native.Nat.{ℕ, _+_, _*_, _-_, _≤_, _<_};
@@ -9,7 +10,7 @@ ghost use lib.ListN.{length, getD};
 ghost use Rattle.gf2.specs.Gf2.{rowOf};
 ghost use Rattle.table.specs.Table.{beyond};
 ghost use Rattle.bits.specs.Row.{row, RowPut};
-ghost use Rattle.making.specs.Making.{tableWords, makeAnswerOf, makeAnswerAt};
+ghost use Rattle.making.specs.Making.{tableWords, makeAnswerOf};
 ghost use Rattle.staircase.specs.Stairs.{stair};
 ghost use Rattle.staircase.specs.Staircase.{badParameters, staircaseAnswer, staircaseTableAfter};
 ghost use Rattle.staircase.specs.Staired.{Staired};
@@ -24,9 +25,6 @@ pub const MOST_SEED: usize = 2147483646;
 
 // the most draws, rejected ones counted
 pub const MOST_DRAWS: usize = 65536;
-
-// the length of the table buffer
-pub const TABLE_WORDS: usize = 6661;
 
 // the words of the rows of bits
 const ROW_WORDS: usize = 8192;
@@ -137,8 +135,8 @@ fn make_table(k: usize, n: usize, ones: usize, seed: usize, s: usize, table: &mu
     make_in(&mut w, k, n, ones, seed, s, table)
 }
 
-// the staircase's table (RFC 5170) of k source packets among n, with so many ones in a source column, from the seed, for packets of s
-// bytes
+// the staircase's table (RFC 5170) of k source packets among n packets of s bytes, with at least so many ones in a source column, from
+// the seed
 pub fn make(k: usize, n: usize, ones: usize, seed: usize, s: usize, table: &mut [u16]) -> Made
     ensures answer { λ r. ⌜ makeAnswerOf r ≡ staircaseAnswer k n ones seed s (now (table .entry)) ⌝ }
     ensures table { λ _. ⌜ now (table .exit) ≡ staircaseTableAfter k n ones seed s (now (table .entry)) ⌝ }
@@ -149,7 +147,7 @@ pub fn make(k: usize, n: usize, ones: usize, seed: usize, s: usize, table: &mut 
     if table::beyond(n, s, n - k) {
         return refused(2);
     }
-    if table.len() != TABLE_WORDS {
+    if table.len() != MOST_WORDS {
         return refused(5);
     }
     make_table(k, n, ones, seed, s, table)

@@ -10,7 +10,7 @@ use Rattle.table.specs.Table.{refusal, number, places, size}
 use Rattle.making.specs.Making.{makeAnswerAt, makeAnswerOf, makeTableAfter}
 use Rattle.making.specs.declared.Made.{Made}
 use Rattle.staircase.specs.Staircase.{staircaseRefusal, staircaseAnswer, staircaseTable, staircaseTableAfter}
-use Rattle.staircase.specs.StaircaseLaws.{made-accepted}
+use Rattle.staircase.specs.StaircaseLaws.{made-accepted, table-written}
 
 pub record TableMade (t : List ℕ) (r : ℕ) (buf : List ℕ) : Type 0 where
   pub within : r ≤ length buf
@@ -36,7 +36,7 @@ table-made k n ones seed s buf buf' r a b z =
       within = omega (arith, simp length-append at (ap length w));
       counts = sym (ap length f ∙ l);
       numbers = f;
-      accepted = ap refusal f ∙ made-accepted k n ones seed s (length buf) e .accepted;
+      accepted = ap refusal (f ∙ sym (table-written k n ones seed s buf e)) ∙ made-accepted k n ones seed s buf e .accepted;
     }
 
 -- of an accepted table: its length

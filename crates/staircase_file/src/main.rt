@@ -72,7 +72,7 @@ fn write_table(table: &[u16])
 
 // Makes the table and writes it.
 fn make_file(k: usize, n: usize, ones: usize, seed: usize, s: usize) {
-    let mut table = [0u16; staircase::TABLE_WORDS];
+    let mut table = [0u16; table::MOST_WORDS];
     let made = staircase::make(k, n, ones, seed, s, &mut table);
     if made.refusal != 0 {
         text::say_refused(made.refusal);

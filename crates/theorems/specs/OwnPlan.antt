@@ -12,7 +12,7 @@ use Rattle.table.specs.TableLaws.{Good, accepted}
 use Rattle.plan.specs.Step.{unpack, unpackAll}
 use Rattle.plan.specs.LayoutLaws.{Sound}
 use Rattle.plan.specs.ReadBack.{numbers-length, info-back, count-back, steps-back, packed-good, packed-back}
-use Rattle.plan.specs.Layout.{mostAside, mostSteps, leastNumbers, infoCount, infoIn, stepCount, stepsAt, stepsOf, badCounts, goodStep, wellFormed, planRefusal}
+use Rattle.plan.specs.Layout.{mostAside, mostSteps, leastNumbers, infoCount, infoIn, stepCount, stepsAt, stepsOf, badCounts, goodStep, wellFormed, planRefusal, planKept}
 use Rattle.rule.specs.Rule.{Plan}
 use Rattle.rule.specs.WellFormed.{well-formed, info-low}
 use Rattle.rule.specs.Info.{info-number, kept-few}
@@ -75,6 +75,10 @@ module _ (t : List ℕ) (ok : refusal t ≡ 0) (few : planOf t .g ≤ mostAside)
   pub own-places : infoCount (numbersOf t) ≡ n - P .M
   unfolding planOf numbersOf
   own-places = info-number n (checks t) (good .distinct) (good .low)
+
+  pub own-kept : planKept (numbersOf t) ≡ P .M
+  unfolding planOf numbersOf
+  own-kept = refl
 
   counts : badCounts (numbersOf t) ≡ false
   unfolding planOf numbersOf

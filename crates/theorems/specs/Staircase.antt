@@ -4,27 +4,31 @@ use mathlib.Core.Path.{_≡_, sym, ap, _∙_, subst}
 use mathlib.Core.Bool.{false}
 use mathlib.Core.List.{List}
 use mathlib.Core.Logic.{_⊎_}
-use Prim.Native.Nat.{ℕ, _+_, _-_, _<_, _≤_}
+use Prim.Native.Nat.{ℕ, _+_, _-_, _*_, _/_, _%_, _<_, _≤_}
+use native.Mathlib.Nat.{div-add-mod', div-lt-iff-lt-mul, mod-lt, mul-le-mul}
 use native.Mathlib.Omega.{arith}
 use borrow.Author.Tests.{le-ltb}
-use lib.ListN.{length, getD}
+use lib.ListN.{length, getD, take}
+use lib.Seq.{ext-getD, getD-take, length-take-le}
+use Rattle.lists.specs.Buffers.{getD-part}
 use Rattle.lists.specs.ListLaws.{all-map}
 use Rattle.lists.specs.Lists.{from}
 use Rattle.lists.specs.Numbers.{from-at}
 use Rattle.table.specs.PacketCall.{partAt}
 use Rattle.table.specs.Table.{places, size, checks}
+use Rattle.table.specs.TableLaws.{accepted}
 use Rattle.making.specs.Sorted.{rising-low}
 use Rattle.staircase.specs.Ascending.{stairs-count}
-use Rattle.staircase.specs.Staircase.{staircaseRefusalAt, staircaseTable}
-use Rattle.staircase.specs.StaircaseLaws.{MadeTable, made-accepted}
+use Rattle.staircase.specs.Staircase.{staircaseChecks, staircaseRefusal, staircaseLent}
+use Rattle.staircase.specs.StaircaseLaws.{MadeTable, LeftSide, made-accepted, left-side}
 use Rattle.staircase.specs.Stairs.{staircase}
-use Rattle.plan.specs.Layout.{mostAside, infoIn, infoCount}
+use Rattle.plan.specs.Layout.{mostAside, planKept, infoIn, infoCount}
 use Rattle.rule.specs.Rule.{plan}
 use Rattle.planner.specs.Planning.{leastPlan, workWords, tooManyAside, planOf, planningRefusal}
 use Rattle.planner.specs.PlanningLaws.{gap-decides, lengths-decide}
 use Rattle.encoder.specs.Encoding.{encodeBlockAfter}
-use Rattle.theorems.specs.Demands.{handed, plan-written, ToTheLastStep, planning-then-encoding}
-use Rattle.theorems.specs.OwnPlan.{own-info, own-places}
+use Rattle.theorems.specs.Demands.{handed, plan-written, ToTheLastStep, TheOneBlock, planning-then-encoding}
+use Rattle.theorems.specs.OwnPlan.{own-info, own-places, own-kept}
 use Rattle.theorems.specs.StairsPlanned.{Natural, staircase-planned}
 
 -- the plan of a table t of k sources and n packets: every check is kept and none set aside, the sources are the information places, in
@@ -37,34 +41,46 @@ pub record PlannedInOrder (k n : ℕ) (t : List ℕ) : Type 0 where
   pub accepted : (planBuffer work : List ℕ) → leastPlan ≤ length planBuffer → length work ≡ workWords → planningRefusal t planBuffer work ≡ 0
   pub refused : (planBuffer work : List ℕ) → (planningRefusal t planBuffer work ≡ 0) ⊎ (planningRefusal t planBuffer work ≡ 5)
 
--- "files go out in natural order": packet j of the block that is sent is packet j of the information
-pub record SentInOrder (k : ℕ) (t : List ℕ) : Type 0 where
-  pub in-order : (planBuffer work information blockBuffer scratchBuffer : List ℕ) (limit : ℕ)
-      → planningRefusal t planBuffer work ≡ 0
-      → ToTheLastStep t (handed t planBuffer work) information blockBuffer scratchBuffer limit
-      → (j : ℕ) → j < k
-      → partAt (size t) j (encodeBlockAfter (handed t planBuffer work) information blockBuffer scratchBuffer limit) ≡ partAt (size t) j information
+-- packets alike, so bytes alike
+same-bytes : (s k : ℕ) (b c : List ℕ) → 0 < s → k * s ≤ length b → length c ≡ k * s → ((j : ℕ) → j < k → partAt s j b ≡ partAt s j c) → take (k * s) b ≡ c
+same-bytes s k b c some long whole same = ext-getD 0 (take (k * s) b) c (length-take-le (k * s) b long ∙ sym whole) (λ i h.
+    let l : i < k * s = subst (λ (x : ℕ). i < x) (length-take-le (k * s) b long) h in
+    let j = i / s in
+    let r = i % s in
+    let e : j * s + r ≡ i = div-add-mod' i s in
+    let low : r < s = mod-lt i some in
+    let into : j < k = div-lt-iff-lt-mul {k = s} {x = i} {y = k} some .1 l in
+    getD-take (k * s) b i 0 l ∙ ap (λ (x : ℕ). getD b x 0) (sym e) ∙ sym (getD-part b (j * s) s r low)
+    ∙ ap (λ x. getD x r 0) (same j into)
+    ∙ getD-part c (j * s) s r low ∙ ap (λ (x : ℕ). getD c x 0) e)
 
-module _ (k n ones seed s buffer : ℕ) (made : staircaseRefusalAt k n ones seed s buffer ≡ 0) where
+-- the table t that the call has left in its buffer
+module _ (k n ones seed s : ℕ) (buffer : List ℕ) (made : staircaseRefusal k n ones seed s buffer ≡ 0) where
   abbrev t : List ℕ
-  t = staircaseTable k n ones seed s
+  t = staircaseLent k n ones seed s buffer
 
   facts : MadeTable k n ones seed s t
   facts = made-accepted k n ones seed s buffer made
 
+  left : LeftSide k n (staircaseChecks k n ones seed)
+  left = left-side k n ones seed s buffer made
+
+  by-left : checks t ≡ staircase k (left .left)
+  by-left = facts .checks-are ∙ left .stairs
+
   checks-count : length (checks t) ≡ n - k
-  checks-count = ap length (facts .by-left) ∙ stairs-count k 0 (facts .left) ∙ facts .left-side .rows
+  checks-count = ap length by-left ∙ stairs-count k 0 (left .left) ∙ left .rows
 
   -- the rule's plan of it
   natural : Natural k (checks t) (planOf t)
   unfolding planOf
   natural =
-      let a = facts .left-side .above in
-      let b = facts .left-side .rows in
-      let z : k + length (facts .left) ≡ places t = omega (arith, facts .places-are) in
-      subst (λ x. Natural k x (plan (places t) x)) (sym (facts .by-left))
-      (subst (λ x. Natural k (staircase k (facts .left)) (plan x (staircase k (facts .left)))) z
-      (staircase-planned k (facts .left) (all-map (λ l r. rising-low k 0 l r) (facts .left-side .ascending))))
+      let a = left .above in
+      let b = left .rows in
+      let z : k + length (left .left) ≡ places t = omega (arith, facts .places-are) in
+      subst (λ x. Natural k x (plan (places t) x)) (sym by-left)
+      (subst (λ x. Natural k (staircase k (left .left)) (plan x (staircase k (left .left)))) z
+      (staircase-planned k (left .left) (all-map (λ l r. rising-low k 0 l r) (left .ascending))))
 
   few : planOf t .g ≤ mostAside
   few = let g = natural .none-aside in omega arith
@@ -83,23 +99,51 @@ module _ (k n ones seed s buffer : ℕ) (made : staircaseRefusalAt k n ones seed
     refused = λ p w. lengths-decide t (length p) (length w) (facts .accepted) quiet-aside;
   }
 
-  pub made-in-order : SentInOrder k t
-  made-in-order = record {
-    in-order = λ p w i b c limit ok lent j h.
-        let c0 = planning-then-encoding t p w ok i b c limit lent .carries .carries j (below p w ok j h) in
-        ap (λ x. partAt (size t) x (encodeBlockAfter (handed t p w) i b c limit)) (sym (place p w ok j h)) ∙ c0;
-  }
-    where
-      info-is : (p w : List ℕ) → planningRefusal t p w ≡ 0 → infoIn (handed t p w) ≡ from 0 k
-      info-is p w ok = ap infoIn (plan-written t p w ok) ∙ own-info t (facts .accepted) few ∙ natural .information
+  -- "files go out in natural order": the block that planning and then encoding to the last step gives begins with the information
+  module _ (planBuffer work information blockBuffer scratchBuffer : List ℕ) (limit : ℕ) (planned : planningRefusal t planBuffer work ≡ 0)
+      (lent : ToTheLastStep t (handed t planBuffer work) information blockBuffer scratchBuffer limit) where
+    -- the plan and the block, as they were written
+    abbrev p : List ℕ
+    p = handed t planBuffer work
 
-      below : (p w : List ℕ) → planningRefusal t p w ≡ 0 → (j : ℕ) → j < k → j < infoCount (handed t p w)
-      below p w ok j h =
-          let e : infoCount (handed t p w) ≡ places t - planOf t .M = ap infoCount (plan-written t p w ok) ∙ own-places t (facts .accepted) few in
-          let m : planOf t .M ≡ n - k = natural .all-kept ∙ checks-count in
-          let q = facts .places-are in
-          let a = facts .left-side .above in
-          omega arith
+    abbrev sent : List ℕ
+    sent = encodeBlockAfter p information blockBuffer scratchBuffer limit
 
-      place : (p w : List ℕ) → planningRefusal t p w ≡ 0 → (j : ℕ) → j < k → getD (infoIn (handed t p w)) j 0 ≡ j
-      place p w ok j h = let z : 0 + j ≡ j = omega arith in ap (λ l. getD l j 0) (info-is p w ok) ∙ from-at 0 k j h ∙ z
+    one : TheOneBlock t p information blockBuffer scratchBuffer limit
+    one = planning-then-encoding t planBuffer work planned information blockBuffer scratchBuffer limit lent
+
+    kept-are : planOf t .M ≡ n - k
+    kept-are = natural .all-kept ∙ checks-count
+
+    info-is : infoIn p ≡ from 0 k
+    info-is = ap infoIn (plan-written t planBuffer work planned) ∙ own-info t (facts .accepted) few ∙ natural .information
+
+    below : (j : ℕ) → j < k → j < infoCount p
+    below j h =
+        let e : infoCount p ≡ places t - planOf t .M = ap infoCount (plan-written t planBuffer work planned) ∙ own-places t (facts .accepted) few in
+        let m = kept-are in
+        let q = facts .places-are in
+        let a = left .above in
+        omega arith
+
+    in-order : (j : ℕ) → j < k → partAt (size t) j sent ≡ partAt (size t) j information
+    in-order j h =
+        let z : 0 + j ≡ j = omega arith in
+        ap (λ x. partAt (size t) x sent) (sym (ap (λ l. getD l j 0) info-is ∙ from-at 0 k j h ∙ z)) ∙ one .carries .carries j (below j h)
+
+    information-long : length information ≡ k * size t
+    information-long =
+        let a = left .above in
+        let q = facts .places-are in
+        let m : planKept p ≡ n - k = ap planKept (plan-written t planBuffer work planned) ∙ own-kept t (facts .accepted) few ∙ kept-are in
+        let z : places t - planKept p ≡ k = omega arith in
+        lent .info-long ∙ ap (λ x. x * size t) z
+
+    pub made-in-order : take (k * size t) sent ≡ information
+    made-in-order =
+        let a = left .above in
+        let q = facts .places-are in
+        let g = accepted t (facts .accepted) in
+        let fits : k * size t ≤ places t * size t = mul-le-mul {n₂ = places t} {m₂ = size t} (omega arith) (omega arith) in
+        let l = one .carries .long in
+        same-bytes (size t) k sent information (g .some-bytes) (omega arith) information-long in-order

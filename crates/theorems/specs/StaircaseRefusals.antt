@@ -11,7 +11,7 @@ use Rattle.lists.specs.Lists.{has, All.nil, All.cons}
 use Rattle.table.specs.FirstCause.{firstCause, wrongLength, NoneHolds}
 use Rattle.table.specs.Table.{beyond}
 use Rattle.making.specs.Making.{tableWords, tooHeavy, makeAnswerAt}
-use Rattle.staircase.specs.Staircase.{leftSide, checksMade, badParameters, drawsSpent, staircaseRefusalAt, staircaseRefusal, staircaseTable, staircaseAnswer}
+use Rattle.staircase.specs.Staircase.{leftSide, staircaseChecks, badParameters, drawsSpent, staircaseRefusalAt, staircaseRefusal, staircaseTable, staircaseAnswer}
 
 -- r is the answer by five causes in their order: 0 exactly if none holds, each number exactly if a cause of it holds and none before
 -- that, and no other
@@ -91,12 +91,12 @@ by-cases false false false false false = record {
 
 pub staircase-refusals : (k n ones seed s : ℕ) (buffer : List ℕ)
     → StaircaseRefused (badParameters k n ones seed) (beyond n s (n - k)) (wrongLength (length buffer) tableWords) (drawsSpent (leftSide k n ones seed))
-    (tooHeavy (checksMade k (leftSide k n ones seed))) (staircaseAnswer k n ones seed s buffer .refusal)
+    (tooHeavy (staircaseChecks k n ones seed)) (staircaseAnswer k n ones seed s buffer .refusal)
 unfolding staircaseRefusalAt
 staircase-refusals k n ones seed s buffer =
     subst
     (StaircaseRefused (badParameters k n ones seed) (beyond n s (n - k)) (wrongLength (length buffer) tableWords) (drawsSpent (leftSide k n ones seed))
-    (tooHeavy (checksMade k (leftSide k n ones seed))))
+    (tooHeavy (staircaseChecks k n ones seed)))
     (sym (told (staircaseRefusal k n ones seed s buffer)))
     (by-cases _ _ _ _ _)
   where

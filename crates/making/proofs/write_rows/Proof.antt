@@ -1,6 +1,6 @@
 -- `making::write_rows` meets its contract: what is left to write are the places of the rows left.
-use mathlib.Core.Path.{ap}
 use mathlib.Core.List.{[]}
+use mathlib.Core.Path.{ap}
 use Prim.Native.Nat.{_+_, _-_, _≤_}
 use native.Mathlib.Omega.{arith}
 use Rattle.lists.specs.WroteLaws.{Left, left-all, left-is, left-done, left-length, left-more}

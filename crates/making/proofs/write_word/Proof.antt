@@ -1,6 +1,6 @@
 -- `making::write_word` meets its contract: what is left to write are the places of the digits left.
-use mathlib.Core.Path.{ap, _∙_}
 use mathlib.Core.List.{[]}
+use mathlib.Core.Path.{ap, _∙_}
 use Prim.Native.Nat.{_-_, _^_, _<_}
 use native.Mathlib.Nat.{pos-of-ne-zero}
 use native.Mathlib.Omega.{arith}

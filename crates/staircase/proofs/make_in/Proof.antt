@@ -1,6 +1,6 @@
 -- `make_in` meets its contract: after the fill, no draws left, checks too heavy, or the table.
-use mathlib.Core.Path.{_∙_}
 use mathlib.Core.List.{[]}
+use mathlib.Core.Path.{_∙_}
 use Prim.Native.Nat.{_-_}
 use native.Mathlib.Omega.{arith}
 use borrow.Author.Needs.{needs}

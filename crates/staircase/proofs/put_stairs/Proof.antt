@@ -1,6 +1,6 @@
 -- `put_stairs` meets its contract: row after row.
 use mathlib.Core.Path.{_≡_, subst}
-use Prim.Native.Nat.{_+_, _*_, _-_, _≤_}
+use Prim.Native.Nat.{_-_, _≤_}
 use native.Mathlib.Omega.{arith}
 use borrow.Author.Needs.{needs}
 use Rattle.staircase.specs.Staired.{Staired}
