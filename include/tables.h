@@ -10,6 +10,8 @@
  * n and s are 1 to 1,024, m at most 512, a weight at most 64, W0 at most
  * 6,144. Checks are numbered from 0. A table has 5 + m + W0 numbers.
  *
+ * A call needs about 85 KiB of stack.
+ *
  * No call writes a byte that isn't named here. Lengths count elements, not
  * bytes. A pointer isn't null even where its length is 0.
  *

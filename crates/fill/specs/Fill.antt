@@ -1,4 +1,4 @@
--- RFC 5170's left side: the fill by columns, and the extra ones by rows, in its order and its words.
+-- RFC 5170's left side: the fill by columns, and the extra ones by rows, in its order. The quoted words are those of docs/RFC5170.md.
 use mathlib.Core.Bool.{Bool, true, false, not}
 use mathlib.Core.List.{List, [], _∷_, map}
 use mathlib.Core.Option.{Option, none, some}

@@ -1,4 +1,4 @@
--- RFC 5170's checks: the source places of each row of the left side, and the staircase.
+-- RFC 5170's checks: the source places of each row of the left side, and the staircase. The quoted words are those of docs/RFC5170.md.
 use mathlib.Core.List.{List, [], _∷_, _++_, map}
 use Prim.Native.Nat.{ℕ, zero, suc, _+_}
 use Rattle.lists.specs.Lists.{has, filter, from}
