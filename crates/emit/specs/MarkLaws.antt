@@ -9,7 +9,7 @@ use lib.Dec.{eqb, ltb}
 use lib.ListN.{length, getD, set, take, replicate, length-set, List·getD-eq-default}
 use lib.Seq.{getD-set-same, getD-set-other, getD-take, length-take-le}
 use Rattle.lists.specs.Tests.{eqb-true, eqb-false, byBool}
-use Rattle.lists.specs.ListLaws.{has-kept, getD-zeros, has-filter}
+use Rattle.lists.specs.ListLaws.{has-append, has-kept, getD-zeros, has-filter}
 use Rattle.lists.specs.Lists.{has, minus, from}
 use Rattle.rule.specs.Rule.{Solved, clearAndAdd, solvingSteps, scratchSteps}
 use Rattle.emit.specs.Emit.{marked, marking, Below}
@@ -73,14 +73,6 @@ marked-after [] m p h = refl
 marked-after (q ∷ ps) m p h =
     marked-after ps (set m q 1) p (λ i l. let b = h (suc i) (omega arith) in simp length-set b)
     ∙ ap (λ b. has p ps || b) (set-one m q p (h 0 (omega arith))) ∙ or-move (eqb p q) (has p ps) (eqb (getD m p 0) 1)
-
-has-append : (p : ℕ) (a b : List ℕ) → has p (a ++ b) ≡ (has p a || has p b)
-has-append p [] b = refl
-has-append p (q ∷ a) b = ap (λ r. eqb p q || r) (has-append p a b) ∙ or-assoc (eqb p q) (has p a) (has p b)
-  where
-    or-assoc : (x y z : Bool) → (x || (y || z)) ≡ ((x || y) || z)
-    or-assoc true y z = refl
-    or-assoc false y z = refl
 
 below-taken : {n : ℕ} {ps : List ℕ} {k : ℕ} → Below n ps k → (i : ℕ) → i < length (take k ps) → getD (take k ps) i 0 < n
 below-taken {n} {ps} {k} b i h = let l = length-take-le k ps (b .room) in rw (getD-take k ps i 0 (omega arith)) (b .each i (omega arith))

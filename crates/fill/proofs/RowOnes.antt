@@ -8,10 +8,10 @@ use native.Mathlib.Omega.{arith}
 use borrow.Author.Tests.{not-true, ne-eqb, eq-eqb}
 use lib.Dec.{eqb}
 use lib.ListN.{length, getD}
-use Rattle.lists.specs.ListLaws.{all-map, all-getD, all-of, filter-none, filter-same}
+use Rattle.lists.specs.ListLaws.{all-map, all-getD, all-of, filter-none, filter-same, has-empty}
 use Rattle.lists.specs.Lists.{Distinct, Distinct.dnil, Distinct.dnew, has, filter, All, All.nil, All.cons, from}
 use Rattle.lists.specs.Numbers.{from-all}
-use Rattle.lists.specs.Tests.{byBool, eqb-true, eqb-false}
+use Rattle.lists.specs.Tests.{byBool, eqb-true, eqb-false, not-same}
 use Rattle.gf2.specs.Gf2.{bit}
 use Rattle.bits.specs.Row.{row, placesIn}
 use Rattle.draws.specs.DrawingLaws.{until-gives}
@@ -48,16 +48,6 @@ members-length n dnil nil = ap length (filter-none (λ j. false) (all-of (λ j. 
 members-length n (dnew {x = p} {l = l} h d) (cons b a) = one-more p l h 0 n (omega arith) (omega arith) ∙ ap suc (members-length n d a)
 
 -- ---- a row
-not-same : (a b : Bool) → not a ≡ not b → a ≡ b
-not-same true true e = refl
-not-same true false e = sym e
-not-same false true e = sym e
-not-same false false e = refl
-
-empty-has : (l : List ℕ) → length l ≡ 0 → (v : ℕ) → has v l ≡ false
-empty-has [] h v = refl
-empty-has (x ∷ l) h v = absurd (omega arith)
-
 module _ (k m e : ℕ) (w : List ℕ) (raw left : ℕ) (s : State) (rep : Rep k m e w raw left s) (i : ℕ) (hi : i < m) where
   -- the same places
   places-are : placesIn (row w i) ≡ filter (λ q. has q (getD (s .rows) i [])) (from 0 1024)
@@ -74,7 +64,7 @@ module _ (k m e : ℕ) (w : List ℕ) (raw left : ℕ) (s : State) (rep : Rep k 
 
   -- none: every place is free
   pub none-free : length (placesIn (row w i)) ≡ 0 → (q : ℕ) → q < 1024 → free w q i ≡ true
-  none-free z q h = rep .cells i q hi h ∙ ap not (empty-has (getD (s .rows) i []) (sym degree-is ∙ z) q)
+  none-free z q h = rep .cells i q hi h ∙ ap not (has-empty (getD (s .rows) i []) (sym degree-is ∙ z) q)
 
   -- a draw put in row i
   extra-step : (f : ℕ → Bool) → ((v : ℕ) → f v ≡ true → has v (getD (s .rows) i []) ≡ false) → (found : Bool) (v x l : ℕ) → Sought k raw left f found v x l
@@ -100,7 +90,7 @@ module _ (k m e : ℕ) (w : List ℕ) (raw left : ℕ) (s : State) (rep : Rep k 
   first-put z found v x l t w′ p =
       let y : length (getD (s .rows) i []) ≡ 0 = sym degree-is ∙ z in
       let q : firstOne k i s ≡ extra k i (λ j. true) s = let b = eq-eqb (length (getD (s .rows) i [])) 0 y in rw (b, firstOne) in
-      ends-is found (Rep k m e w′ x l) q (extra-step (λ j. true) (λ a g. empty-has (getD (s .rows) i []) y a) found v x l t w′ p)
+      ends-is found (Rep k m e w′ x l) q (extra-step (λ j. true) (λ a g. has-empty (getD (s .rows) i []) y a) found v x l t w′ p)
 
   pub first-keep : (length (placesIn (row w i)) ≡ 0 → ⊥) → {found : Bool} {x l : ℕ} → (found ≡ true) × (x ≡ raw) × (l ≡ left) → Ends (firstOne k i s) found (Rep k m e w x l)
   first-keep n = let b = ne-eqb (length (getD (s .rows) i [])) 0 (λ z. n (degree-is ∙ z)) in stay (firstOne k i) (rw (b, firstOne))

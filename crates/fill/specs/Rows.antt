@@ -8,6 +8,7 @@ use native.Mathlib.Omega.{arith}
 use borrow.Author.Tests.{not-true, eqb-true, eqb-false}
 use lib.Dec.{eqb}
 use lib.ListN.{length, getD}
+use Rattle.lists.specs.ListLaws.{has-empty}
 use Rattle.lists.specs.Lists.{has, All}
 use Rattle.lists.specs.Tests.{byOpt, byBool}
 use Rattle.draws.specs.DrawingLaws.{until-gives}
@@ -27,16 +28,11 @@ module _ (k m entries : ℕ) where
       (g .0, (g .1 .0, g .1 .1 .1)))
       (λ t. none-some (rw (t, extra) at e))
 
-  -- an empty row has no place
-  empty-has : (l : List ℕ) → length l ≡ 0 → (v : ℕ) → has v l ≡ false
-  empty-has [] h v = refl
-  empty-has (x ∷ l) h v = absurd (omega arith)
-
-  -- then it has one
+  -- an empty row gets one
   first-gives : (i : ℕ) (s r : State) → 0 < k → i < m → Good k m entries s → firstOne k i s ≡ some r → Good k m entries r × (Grown s r × (1 ≤ length (getD (r .rows) i [])))
   first-gives i s r hk hi good e = byBool (eqb (length (getD (s .rows) i [])) 0)
       (λ t. let z = eqb-true (length (getD (s .rows) i [])) 0 t in
-      let g = extra-gives i (λ j. true) s r hk hi (λ v u. empty-has (getD (s .rows) i []) z v) good (rw (t, firstOne) at e) in
+      let g = extra-gives i (λ j. true) s r hk hi (λ v u. has-empty (getD (s .rows) i []) z v) good (rw (t, firstOne) at e) in
       let y = g .1 .1 in (g .0, (g .1 .0, omega arith)))
       (λ t. let z = eqb-false (length (getD (s .rows) i [])) 0 t in
       let q = some-same (rw (t, firstOne) at e) in

@@ -9,7 +9,7 @@ use mathlib.Core.Bool.{Bool, true, false, false≢true, cond, true≢false, _||_
 use mathlib.Core.Logic.{_≢_}
 use mathlib.Core.Option.{Option, none, some}
 use Rattle.lists.specs.Lists.{All, All.nil, All.cons, below, bxor, has, par, filter, highest, Distinct, Distinct.dnil, Distinct.dnew, rev, sameList}
-use Rattle.lists.specs.Tests.{eqb-true, eqb-false, byBool, or-false-l, or-false-r, eqb-self, eqb-comm, eqb-lt, or-l, or-r}
+use Rattle.lists.specs.Tests.{eqb-true, eqb-false, byBool, or-false-l, or-false-r, eqb-self, eqb-comm, eqb-lt, eqb-gt, or-assoc, or-l, or-r}
 
 pub all-map : {X : Type 0} {P Q : X → Type 0} → ((x : X) → P x → Q x) → {l : List X} → All P l → All Q l
 all-map h nil = nil
@@ -348,3 +348,16 @@ filter-none f (cons h a) = rw h (filter-none f a)
 pub filter-same : (f g : ℕ → Bool) {l : List ℕ} → All (λ x. f x ≡ g x) l → filter f l ≡ filter g l
 filter-same f g nil = refl
 filter-same f g (cons {x = x} {l = l} e a) = ap₂ (λ b r. cond b (x ∷ r) r) e (filter-same f g a)
+
+-- ---- a member of two parts; no member above all, or of none
+pub has-append : (p : ℕ) (l m : List ℕ) → has p (l ++ m) ≡ (has p l || has p m)
+has-append p [] m = refl
+has-append p (q ∷ l) m = ap (λ b. eqb p q || b) (has-append p l m) ∙ sym (or-assoc (eqb p q) (has p l) (has p m))
+
+pub has-above : (q : ℕ) {l : List ℕ} → All (λ p. p < q) l → has q l ≡ false
+has-above q nil = refl
+has-above q (cons {x = p} h a) = rw (eqb-gt q p h) (has-above q a)
+
+pub has-empty : (l : List ℕ) → length l ≡ 0 → (p : ℕ) → has p l ≡ false
+has-empty [] h p = refl
+has-empty (x ∷ l) h p = absurd (omega arith)

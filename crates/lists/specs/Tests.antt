@@ -1,6 +1,6 @@
 -- Laws of tests: by cases, of equal numbers, of "and", "or" and "exactly one", and of sides.
 use mathlib.Core.Path.{_≡_, refl, sym, ap, _∙_, subst}
-use mathlib.Core.Bool.{Bool, true, false, _||_, _&&_, true≢false, false≢true}
+use mathlib.Core.Bool.{Bool, true, false, not, _||_, _&&_, true≢false, false≢true}
 use mathlib.Core.Logic.{_≢_, _⊎_, inl, inr}
 use Prim.Native.Nat.{ℕ, _-_, _<_, _≤_}
 use lib.Dec.{T, eqb→eq, eqb-refl, eqb, ltb}
@@ -51,6 +51,16 @@ eqb-lt a b h = byBool (eqb a b) (λ e. let k = eqb-true a b e in absurd (omega a
 
 pub eqb-gt : (a b : ℕ) → b < a → eqb a b ≡ false
 eqb-gt a b h = eqb-comm a b ∙ eqb-lt b a h
+
+pub or-assoc : (a b c : Bool) → ((a || b) || c) ≡ (a || (b || c))
+or-assoc true b c = refl
+or-assoc false b c = refl
+
+pub not-same : (a b : Bool) → not a ≡ not b → a ≡ b
+not-same true true e = refl
+not-same true false e = sym e
+not-same false true e = sym e
+not-same false false e = refl
 
 -- both tests pass: the first, and the second
 pub and-l : (a b : Bool) → (a && b) ≡ true → a ≡ true

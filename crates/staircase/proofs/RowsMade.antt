@@ -1,6 +1,6 @@
 -- The filled rows with the staircase are the RFC's checks.
 use mathlib.Core.Path.{_≡_, refl, sym, ap, ap₂, _∙_}
-use mathlib.Core.Bool.{Bool, true, false, not, _||_, false≢true, true≢false}
+use mathlib.Core.Bool.{Bool, true, false, _||_}
 use mathlib.Core.List.{List, [], _∷_, _++_, map}
 use Prim.Native.Nat.{ℕ, zero, suc, _+_, _<_, _≤_}
 use native.Mathlib.Omega.{arith}
@@ -10,10 +10,10 @@ use lib.ListN.{length, getD}
 use Rattle.gf2.specs.Bit.{bit-adds}
 use Rattle.gf2.specs.Gf2.{bit, rowOf}
 use Rattle.gf2.specs.Places.{bit-row}
-use Rattle.lists.specs.ListLaws.{all-map, all-getD, filter-same}
-use Rattle.lists.specs.Lists.{All, All.nil, All.cons, bxor, from, has, par}
+use Rattle.lists.specs.ListLaws.{all-map, all-getD, filter-same, has-above, has-append}
+use Rattle.lists.specs.Lists.{All, bxor, from, has, par}
 use Rattle.lists.specs.Numbers.{from-all}
-use Rattle.lists.specs.Tests.{byBool, eqb-gt, eqb-true, eqb-lt}
+use Rattle.lists.specs.Tests.{byBool, eqb-true, eqb-lt, not-same}
 use Rattle.bits.specs.Row.{row, placesIn, rowsIn}
 use Rattle.making.specs.Sorted.{rising-low, sorted-back}
 use Rattle.fill.specs.Fill.{State}
@@ -23,28 +23,9 @@ use Rattle.staircase.specs.Staired.{Staired}
 use Rattle.staircase.specs.Stairs.{stair, stairsFrom, sources, checksOf}
 
 -- ---- tests
-same-not : (a b : Bool) → not a ≡ not b → a ≡ b
-same-not true true e = refl
-same-not true false e = absurd (false≢true e)
-same-not false true e = absurd (true≢false e)
-same-not false false e = refl
-
 bxor-none : (a : Bool) → bxor a false ≡ (a || false)
 bxor-none true = refl
 bxor-none false = refl
-
--- a place above all
-has-none : (q : ℕ) {l : List ℕ} → All (λ p. p < q) l → has q l ≡ false
-has-none q nil = refl
-has-none q (cons {x = p} h a) = rw (eqb-gt q p h) (has-none q a)
-
-has-both : (q : ℕ) (a b : List ℕ) → has q (a ++ b) ≡ (has q a || has q b)
-has-both q [] b = refl
-has-both q (p ∷ a) b = ap (λ x. eqb q p || x) (has-both q a b) ∙ sym (or-assoc (eqb q p) (has q a) (has q b))
-  where
-    or-assoc : (a b c : Bool) → ((a || b) || c) ≡ (a || (b || c))
-    or-assoc true b c = refl
-    or-assoc false b c = refl
 
 -- no place stands twice in a stair
 stair-once : (k i q : ℕ) → par q (stair k i) ≡ has q (stair k i)
@@ -75,15 +56,15 @@ module _ (k m : ℕ) (w e : List ℕ) (s : State) (f : FilledIn k m w s) (st : S
   bits-are : (i q : ℕ) → i < m → q < 1024 → bit q (row e i) ≡ has q (check i)
   bits-are i q h l =
       ap (bit q) (st .done i h) ∙ bit-adds q (row w i) (rowOf (stair k i))
-      ∙ ap₂ bxor (same-not (bit q (row w i)) (has q (getD (s .rows) i [])) (f .cells i q h l)) (bit-row q (stair k i) ∙ stair-once k i q)
+      ∙ ap₂ bxor (not-same (bit q (row w i)) (has q (getD (s .rows) i [])) (f .cells i q h l)) (bit-row q (stair k i) ∙ stair-once k i q)
       ∙ byBool (ltb q k)
       (λ t. let a = ltb-true q k t in
       ap (bxor (has q (getD (s .rows) i []))) (stair-not k i q a) ∙ bxor-none (has q (getD (s .rows) i []))
       ∙ ap₂ _||_ (sym (sources-has k q (getD (s .rows) i []) a)) (sym (stair-not k i q a)))
       (λ t. let a = ltb-false q k t in
-      ap (λ x. bxor x (has q (stair k i))) (has-none q (all-map (λ p b. omega arith) (row-low i h)))
-      ∙ ap (λ x. x || has q (stair k i)) (sym (has-none q (all-map (λ p b. omega arith) (rising-low k 0 (sources k (getD (s .rows) i [])) (sources-rise k (getD (s .rows) i [])))))))
-      ∙ sym (has-both q (sources k (getD (s .rows) i [])) (stair k i))
+      ap (λ x. bxor x (has q (stair k i))) (has-above q (all-map (λ p b. omega arith) (row-low i h)))
+      ∙ ap (λ x. x || has q (stair k i)) (sym (has-above q (all-map (λ p b. omega arith) (rising-low k 0 (sources k (getD (s .rows) i [])) (sources-rise k (getD (s .rows) i [])))))))
+      ∙ sym (has-append q (sources k (getD (s .rows) i [])) (stair k i))
 
   places-are : (i : ℕ) → i < m → placesIn (row e i) ≡ check i
   places-are i h =

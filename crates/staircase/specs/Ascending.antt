@@ -10,7 +10,7 @@ use lib.ListN.{length}
 use Rattle.lists.specs.Lists.{Distinct.dnil, Distinct.dnew, has, filter, All, All.nil, All.cons, count}
 use Rattle.lists.specs.ListLaws.{all-map, filter-append, filter-all, filter-none}
 use Rattle.lists.specs.Numbers.{filter-has}
-use Rattle.lists.specs.Tests.{eqb-self, eqb-true, eqb-lt, byBool, or-l, or-r, and-l, and-r}
+use Rattle.lists.specs.Tests.{eqb-self, eqb-true, eqb-lt, byBool, or-l, or-r, or-false-l, and-l, and-r}
 use Rattle.table.specs.Table.{rising}
 use Rattle.making.specs.Sorted.{rises, rising-weak, rising-filter}
 use Rattle.fill.specs.PutLaws.{Row}
@@ -67,13 +67,9 @@ sources-two k (dnew {x = p} {l = l} e d, a) h = second l e a h
   where
     second : (l : List ℕ) → has p l ≡ false → All (λ x. x < k) (p ∷ l) → 2 ≤ length (p ∷ l) → 2 ≤ length (sources k (p ∷ l))
     second [] e a h = absurd (omega arith)
-    second (q ∷ l) e (cons x (cons y a)) h = two-in p q (sources k (p ∷ q ∷ l)) (first-of (eqb p q) (has p l) e)
+    second (q ∷ l) e (cons x (cons y a)) h = two-in p q (sources k (p ∷ q ∷ l)) (or-false-l (eqb p q) (has p l) e)
         (sources-has k p (p ∷ q ∷ l) x ∙ or-l _ _ (eqb-self p))
         (sources-has k q (p ∷ q ∷ l) y ∙ or-r (eqb q p) _ (or-l _ _ (eqb-self q)))
-      where
-        first-of : (a b : Bool) → (a || b) ≡ false → a ≡ false
-        first-of true b e = e
-        first-of false b e = refl
 
 -- so a check ascends
 pub check-rises : (n k i : ℕ) (row : List ℕ) → k + i < n → rising n 0 (sources k row ++ stair k i) ≡ true

@@ -17,11 +17,6 @@ use Rattle.rule.specs.Rule.{kept}
 abbrev pub Sources : ℕ → List (List ℕ) → Type 0
 Sources k ls = All (λ l. All (λ p. p < k) l) ls
 
--- a place above all
-pub has-over : (q : ℕ) {l : List ℕ} → All (λ p. p < q) l → has q l ≡ false
-has-over q nil = refl
-has-over q (cons {x = p} h a) = rw (eqb-gt q p h) (has-over q a)
-
 -- the places of a check below its own
 pub has-stair : (k i q : ℕ) {l : List ℕ} → All (λ p. p < k) l → k + i < q → has q (l ++ stair k i) ≡ false
 has-stair k zero q nil h = rw (eqb-gt q (k + 0) h)
