@@ -79,16 +79,20 @@ pub fn add_slots(slots: &mut [u8], s: usize, to: usize, from: usize) {
     }
 }
 
+/// The lowest byte of a check's sum that isn't zero.
 #[inline]
-fn sums_to_zero(check: &[u16], block: &[u8], sum: &mut [u8]) -> bool {
+fn nonzero_in_sum(check: &[u16], block: &[u8], sum: &mut [u8]) -> Option<usize> {
     let s = sum.len();
     let packet = |p: u16| &block[p as usize * s..][..s];
-    let Some((first, others)) = check.split_first() else { return true };
+    let (first, others) = check.split_first()?;
     sum.copy_from_slice(packet(*first));
     for p in others {
         add(sum, packet(*p));
     }
-    sum.iter().fold(0, |any, b| any | *b) == 0
+    if sum.iter().fold(0, |any, b| any | *b) == 0 {
+        return None;
+    }
+    sum.iter().position(|b| *b != 0)
 }
 
 // ----------------------------------------------------------- verification
@@ -103,11 +107,11 @@ pub fn verify(table: &[u16], block: &[u8]) -> Verified {
     }
     let mut sum = [0; MAX_SIZE];
     for c in 0..t.m {
-        if !sums_to_zero(t.check(c), block, &mut sum[..t.s]) {
-            return Verified { refusal: 0, codeword: 0, check: c as u32 };
+        if let Some(byte) = nonzero_in_sum(t.check(c), block, &mut sum[..t.s]) {
+            return Verified { refusal: 0, codeword: 0, check: c as u32, byte: byte as u32 };
         }
     }
-    Verified { refusal: 0, codeword: 1, check: 0 }
+    Verified { refusal: 0, codeword: 1, check: 0, byte: 0 }
 }
 
 // ----------------------------------------------------------------- repair
@@ -182,14 +186,14 @@ pub fn repair(table: &[u16], block: &mut [u8], map: &mut [u8]) -> Repaired {
     // A check that restored a place sums to zero.
     let mut sum = [0; MAX_SIZE];
     for c in (0..t.m).filter(|c| unknown[*c] == 0 && !used[*c]) {
-        if !sums_to_zero(t.check(c), block, &mut sum[..s]) {
+        if let Some(byte) = nonzero_in_sum(t.check(c), block, &mut sum[..s]) {
             zero_lost(block, map);
-            return Repaired::refused(8);
+            return Repaired { check: c as u32, byte: byte as u32, ..Repaired::refused(8) };
         }
     }
     map.copy_from_slice(&state);
     let lost = state.iter().filter(|b| **b == 1).count() as u32;
-    Repaired { refusal: 0, restored, lost, additions }
+    Repaired { refusal: 0, restored, lost, additions, check: 0, byte: 0 }
 }
 
 // --------------------------------------------------------------- encoding

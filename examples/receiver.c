@@ -1,11 +1,12 @@
-/* Repairs a block that lost three packets, then verifies it. */
+/* Repairs a block that lost three packets, then verifies it. Then finds where
+ * two packets differ that should be equal. */
 
 #include <stdio.h>
 #include <string.h>
 
 #include "receiver.h"
 
-int main(void)
+static int repair_and_verify(void)
 {
     /* Seven packets of one byte, three checks of four places each. */
     static const uint16_t table[] = {
@@ -37,4 +38,41 @@ int main(void)
            (unsigned)repaired.restored, (unsigned)repaired.lost,
            (unsigned)repaired.additions, (unsigned)block[part.start]);
     return 0;
+}
+
+static int find_the_byte(void)
+{
+    /* Two packets of eight bytes, each sent twice: a check for each pair. */
+    static const uint16_t table[] = {
+        2, 4, 8,
+        2, 2, 2,
+        4, 0, 1, 2, 3,
+    };
+    const size_t table_len = sizeof table / sizeof table[0];
+
+    /* All four arrived, but the copies of the second packet differ. */
+    uint8_t block[33] = "54 11 N 54 11 N 007 53 E007 58 E";
+    uint8_t map[4] = {0, 0, 0, 0};
+
+    bs_verified verified = bs_verify(table, table_len, block, 32);
+    if (verified.refusal != 0 || verified.codeword != 0 ||
+        verified.check != 1 || verified.byte != 5) {
+        printf("receiver.c: verification told check %u, byte %u\n",
+               (unsigned)verified.check, (unsigned)verified.byte);
+        return 1;
+    }
+    bs_repaired repaired = bs_repair(table, table_len, block, 32, map, sizeof map);
+    if (repaired.refusal != 8 || repaired.check != 1 || repaired.byte != 5) {
+        printf("receiver.c: repair answered %u, check %u, byte %u\n",
+               (unsigned)repaired.refusal, (unsigned)repaired.check, (unsigned)repaired.byte);
+        return 1;
+    }
+    printf("receiver.c: packets contradict: check %u fails at byte %u\n",
+           (unsigned)repaired.check, (unsigned)repaired.byte);
+    return 0;
+}
+
+int main(void)
+{
+    return repair_and_verify() != 0 || find_the_byte() != 0;
 }

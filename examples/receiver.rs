@@ -1,4 +1,5 @@
-//! Repairs a block that lost three packets, then verifies it.
+//! Repairs a block that lost three packets, then verifies it. Then finds where
+//! two packets differ that should be equal.
 
 #[repr(C)]
 struct Repaired {
@@ -6,6 +7,8 @@ struct Repaired {
     restored: u32,
     lost: u32,
     additions: u32,
+    check: u32,
+    byte: u32,
 }
 
 #[repr(C)]
@@ -13,6 +16,7 @@ struct Verified {
     refusal: u32,
     codeword: u32,
     check: u32,
+    byte: u32,
 }
 
 #[repr(C)]
@@ -37,9 +41,21 @@ extern "C" {
     fn bs_packet(n: usize, s: usize, place: usize, block: *const u8, block_len: usize) -> Part;
 }
 
+/// Why a block isn't repaired.
+#[derive(Debug, PartialEq)]
+enum Unrepaired {
+    Refused(u32),
+    /// Refusal 8: the lowest check that fails, and the lowest byte where it does.
+    Contradicts { check: u32, byte: u32 },
+}
+
 /// Restores lost packets; the numbers of restored and still lost places and
-/// of additions, or the refusal.
-fn repair(table: &[u16], block: &mut [u8], map: &mut [u8]) -> Result<(u32, u32, u32), u32> {
+/// of additions.
+fn repair(
+    table: &[u16],
+    block: &mut [u8],
+    map: &mut [u8],
+) -> Result<(u32, u32, u32), Unrepaired> {
     let r = unsafe {
         bs_repair(
             table.as_ptr(),
@@ -50,19 +66,20 @@ fn repair(table: &[u16], block: &mut [u8], map: &mut [u8]) -> Result<(u32, u32, 
             map.len(),
         )
     };
-    if r.refusal == 0 {
-        Ok((r.restored, r.lost, r.additions))
-    } else {
-        Err(r.refusal)
+    match r.refusal {
+        0 => Ok((r.restored, r.lost, r.additions)),
+        8 => Err(Unrepaired::Contradicts { check: r.check, byte: r.byte }),
+        refusal => Err(Unrepaired::Refused(refusal)),
     }
 }
 
-/// None for a codeword, else the lowest check that fails; or the refusal.
-fn verify(table: &[u16], block: &[u8]) -> Result<Option<u32>, u32> {
+/// None for a codeword, else the lowest check that fails and the lowest byte
+/// where it does; or the refusal.
+fn verify(table: &[u16], block: &[u8]) -> Result<Option<(u32, u32)>, u32> {
     let v = unsafe { bs_verify(table.as_ptr(), table.len(), block.as_ptr(), block.len()) };
     match (v.refusal, v.codeword) {
         (0, 1) => Ok(None),
-        (0, _) => Ok(Some(v.check)),
+        (0, _) => Ok(Some((v.check, v.byte))),
         (refusal, _) => Err(refusal),
     }
 }
@@ -77,7 +94,12 @@ fn packet(n: usize, s: usize, place: usize, block: &[u8]) -> Result<&[u8], u32> 
     }
 }
 
-fn main() {
+fn wrong(what: String) -> ! {
+    println!("receiver.rs: wrong: {what}");
+    std::process::exit(1)
+}
+
+fn repair_and_verify() {
     // Seven packets of one byte, three checks of four places each.
     let table = [2, 7, 1, 3, 4, 4, 4, 12, 0, 2, 4, 6, 1, 2, 5, 6, 3, 4, 5, 6];
     let sent = [0x01, 0x02, 0x04, 0x0e, 0x08, 0x0b, 0x0d];
@@ -90,8 +112,28 @@ fn main() {
     let verified = verify(&table, &block);
     let fifth = packet(7, 1, 5, &block);
     if repaired != Ok((3, 0, 9)) || block != sent || verified != Ok(None) || fifth != Ok(&[0x0b]) {
-        println!("receiver.rs: wrong: {repaired:?}, {block:02x?}, {verified:?}, {fifth:?}");
-        std::process::exit(1);
+        wrong(format!("{repaired:?}, {block:02x?}, {verified:?}, {fifth:?}"));
     }
     println!("receiver.rs: 3 restored, 0 lost, 9 additions; packet 5 is {:02x}", block[5]);
+}
+
+fn find_the_byte() {
+    // Two packets of eight bytes, each sent twice: a check for each pair.
+    let table = [2, 4, 8, 2, 2, 2, 4, 0, 1, 2, 3];
+
+    // All four arrived, but the copies of the second packet differ.
+    let mut block = *b"54 11 N 54 11 N 007 53 E007 58 E";
+
+    let verified = verify(&table, &block);
+    let repaired = repair(&table, &mut block, &mut [0; 4]);
+    let contradicts = Unrepaired::Contradicts { check: 1, byte: 5 };
+    if verified != Ok(Some((1, 5))) || repaired != Err(contradicts) {
+        wrong(format!("{verified:?}, {repaired:?}"));
+    }
+    println!("receiver.rs: packets contradict: check 1 fails at byte 5");
+}
+
+fn main() {
+    repair_and_verify();
+    find_the_byte();
 }

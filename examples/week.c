@@ -1,5 +1,6 @@
 /* The week in one program, over all three libraries: makes a staircase table,
- * plans it, encodes a file, loses packets, repairs the block and verifies it. */
+ * plans it, encodes a file, loses packets, repairs the block and verifies it.
+ * On the bench a wrong byte is found. */
 
 #include <stdio.h>
 #include <string.h>
@@ -85,11 +86,20 @@ static int carry(size_t sources, size_t packets, size_t ones, size_t seed, size_
     if (memcmp(block, sent, packets * size) != 0)
         return failed("another block came back, lost", lost);
 
+    /* The bench. The last packet lies in the last check alone. */
+    block[packets * size - 1] ^= 0x01;
+    verified = bs_verify(table, made.length, block, packets * size);
+    if (verified.refusal != 0 || verified.codeword != 0 || verified.check != planned.kept - 1)
+        return failed("a wrong byte was found in check", verified.check);
+    if (verified.byte != size - 1)
+        return failed("a wrong byte was found at", verified.byte);
+
     printf("week.c: %u packets of %u bytes, %u checks, %u ones; encoded with %u additions;\n"
-           "        %u lost, %u restored with %u additions; the file came back in natural order\n",
+           "        %u lost, %u restored with %u additions; the file came back in natural order;\n"
+           "        a wrong byte was found in check %u at byte %u\n",
            (unsigned)packets, (unsigned)size, (unsigned)planned.kept, (unsigned)planned.ones,
            (unsigned)encoded.additions, lost, (unsigned)repaired.restored,
-           (unsigned)repaired.additions);
+           (unsigned)repaired.additions, (unsigned)verified.check, (unsigned)verified.byte);
     return 0;
 }
 

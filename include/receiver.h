@@ -8,14 +8,15 @@
  *                                    ascending within a check
  *
  * n and s are 1 to 1,024, m at most 512, a weight at most 64, W0 at most
- * 6,144. Checks are numbered from 0.
+ * 6,144. Checks are numbered from 0, and so are the bytes of a packet.
  *
  * No call writes a byte that isn't named here. Lengths count elements, not
  * bytes. Buffers lent to one call don't overlap, and a pointer isn't null even
  * where its length is 0.
  *
  * refusal is 0 if the call was accepted. A refused call gives 0 in all other
- * fields and, where nothing else is said, leaves its buffers as they were:
+ * fields, but for check and byte with 8, and, where nothing else is said,
+ * leaves its buffers as they were:
  *
  *      1  a table of fewer than 5 words
  *      2  first word not 2, or n, s or m beyond its limits
@@ -28,6 +29,9 @@
  *     10  a place not below n in bs_packet
  *
  * Of several causes the one with the lowest number is given.
+ *
+ * bs_repaired has grown by check and byte, bs_verified by byte: build callers
+ * anew.
  */
 #ifndef BS_RECEIVER_H
 #define BS_RECEIVER_H
@@ -44,6 +48,8 @@ typedef struct {
     uint32_t restored;  /* places restored */
     uint32_t lost;      /* places still lost */
     uint32_t additions; /* packets added: weight - 1 for each check used */
+    uint32_t check;     /* with 8 the lowest check that fails; else 0 */
+    uint32_t byte;      /* with 8 the lowest byte where it fails; else 0 */
 } bs_repaired;
 
 /* Restores lost packets. block has n * s bytes. map has n bytes: 0 received,
@@ -54,7 +60,14 @@ typedef struct {
  * Accepted: map bytes of restored places become 2, their packets are in the
  * block, and places still lost hold zero bytes. Received places are kept.
  * Refusals: 1 to 5, 7 and 8. After 8 every place that map says is lost holds
- * zero bytes; map and received places are kept. */
+ * zero bytes; map and received places are kept.
+ *
+ * With 8 check and byte tell of the block as restored, before lost places
+ * become zero again. check is the lowest check that fails: of those then
+ * without a lost place, the first whose packets don't sum to zero. byte is the
+ * position, 0 to s - 1, of the lowest byte of that sum that isn't zero. So 0
+ * and 0 say that check 0 fails at byte 0. If the call is accepted, or refused
+ * with another number, both are 0. */
 bs_repaired bs_repair(const uint16_t *table, size_t table_len,
                       uint8_t *block, size_t block_len,
                       uint8_t *map, size_t map_len);
@@ -63,10 +76,13 @@ typedef struct {
     uint32_t refusal;
     uint32_t codeword; /* 1 if the block is a codeword, else 0 */
     uint32_t check;    /* the lowest check that fails; 0 if none does */
+    uint32_t byte;     /* the lowest byte where it fails; 0 if none does */
 } bs_verified;
 
-/* Says whether a block of n * s bytes is a codeword. Writes nothing.
- * Refusals: 1 to 5. */
+/* Says whether a block of n * s bytes is a codeword. If it isn't, check is the
+ * lowest check whose packets don't sum to zero, and byte the position, 0 to
+ * s - 1, of the lowest byte of that sum that isn't zero. For a codeword, and
+ * where refused, both are 0. Writes nothing. Refusals: 1 to 5. */
 bs_verified bs_verify(const uint16_t *table, size_t table_len,
                       const uint8_t *block, size_t block_len);
 

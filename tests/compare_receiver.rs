@@ -74,6 +74,22 @@ fn packet(rng: &mut Rng, n: usize, s: usize, place: usize, block: &[u8]) -> Resu
     Ok(answer)
 }
 
+// ---------------------------------------------------------------- answers
+
+const CODEWORD: Verified = Verified { refusal: 0, codeword: 1, check: 0, byte: 0 };
+
+fn fails(check: u32, byte: u32) -> Verified {
+    Verified { refusal: 0, codeword: 0, check, byte }
+}
+
+fn ok(restored: u32, lost: u32, additions: u32) -> Repaired {
+    Repaired { refusal: 0, restored, lost, additions, check: 0, byte: 0 }
+}
+
+fn contradicts(check: u32, byte: u32) -> Repaired {
+    Repaired { refusal: 8, restored: 0, lost: 0, additions: 0, check, byte }
+}
+
 // ------------------------------------------------------------ random cases
 
 /// Lost places: none, all, some share, a row of neighbours, or one.
@@ -96,14 +112,37 @@ fn lose(rng: &mut Rng, n: usize) -> Vec<u8> {
     map
 }
 
-/// One bit or many bytes of a packet changed.
+/// A byte of a packet: the last, one beside a multiple of 64, or any.
+fn byte_of(rng: &mut Rng, s: usize) -> usize {
+    match rng.below(4) {
+        0 => s - 1,
+        1 => (64 * rng.range(0, s / 64) + rng.below(3)).saturating_sub(1).min(s - 1),
+        _ => rng.below(s),
+    }
+}
+
+/// One bit, some bytes or all bytes of a packet changed.
 fn corrupt(rng: &mut Rng, block: &mut [u8], s: usize, place: usize) {
     let packet = &mut block[place * s..(place + 1) * s];
-    match rng.below(3) {
-        0 => packet[rng.below(s)] ^= 1 << rng.below(8),
-        1 => packet[s - 1] ^= 0x80,
+    match rng.below(4) {
+        0 | 1 => packet[byte_of(rng, s)] ^= 1 << rng.below(8),
+        2 => {
+            for _ in 0..rng.range(2, 4) {
+                packet[byte_of(rng, s)] ^= rng.range(1, 255) as u8;
+            }
+        }
         _ => packet.iter_mut().for_each(|b| *b ^= rng.next() as u8),
     }
+}
+
+/// A codeword with one to three packets corrupted.
+fn damaged_codeword(rng: &mut Rng, t: &Table) -> Vec<u8> {
+    let mut block = gen::codeword(rng, t);
+    for _ in 0..rng.range(1, 3) {
+        let place = rng.below(t.n);
+        corrupt(rng, &mut block, t.s, place);
+    }
+    block
 }
 
 /// A block for a table: mostly a codeword, at times corrupted or random.
@@ -111,15 +150,19 @@ fn block_for(rng: &mut Rng, t: &Table) -> Vec<u8> {
     match rng.below(12) {
         0 => rng.bytes(t.n * t.s),
         1 => vec![0; t.n * t.s],
-        2..=4 => {
-            let mut block = gen::codeword(rng, t);
-            for _ in 0..rng.range(1, 3) {
-                let place = rng.below(t.n);
-                corrupt(rng, &mut block, t.s, place);
-            }
-            block
-        }
+        2..=4 => damaged_codeword(rng, t),
         _ => gen::codeword(rng, t),
+    }
+}
+
+fn places_lost(map: &[u8]) -> Vec<usize> {
+    (0..map.len()).filter(|p| map[*p] == 1).collect()
+}
+
+/// Old bytes at lost places.
+fn age(rng: &mut Rng, block: &mut [u8], s: usize, map: &[u8]) {
+    for p in places_lost(map) {
+        block[p * s..(p + 1) * s].iter_mut().for_each(|b| *b = rng.next() as u8);
     }
 }
 
@@ -128,13 +171,8 @@ fn repair_case(rng: &mut Rng) -> Result<(), String> {
     let words = gen::words(&t);
     let mut block = block_for(rng, &t);
     let mut map = lose(rng, t.n);
-    // Old bytes at lost places.
     if !rng.once_in(4) {
-        for p in (0..t.n).filter(|p| map[*p] == 1) {
-            for b in 0..t.s {
-                block[p * t.s + b] = rng.next() as u8;
-            }
-        }
+        age(rng, &mut block, t.s, &map);
     }
     if rng.once_in(16) {
         for _ in 0..rng.range(1, 2) {
@@ -152,7 +190,7 @@ fn repair_case(rng: &mut Rng) -> Result<(), String> {
     let (answer, block, map) = repair(rng, &words, &block, &map)?;
     if answer.refusal == 0 {
         // What is left is a stopping set, and a second call restores nothing.
-        let left: Vec<usize> = (0..t.n).filter(|p| map[*p] == 1).collect();
+        let left = places_lost(&map);
         holds("what is left is a stopping set", model::is_stopping_set(&t, &left))?;
         same("left", &(answer.lost as usize), &left.len())?;
         let again: Vec<u8> = map.iter().map(|b| (*b == 1) as u8).collect();
@@ -177,6 +215,21 @@ fn verify_case(rng: &mut Rng) -> Result<(), String> {
         block.resize(gen::wrong_length(rng, t.n * t.s), 0);
     }
     verify(rng, &words, &block).map(|_| ())
+}
+
+/// Larger packets with some bytes wrong: both calls tell how deep.
+fn byte_case(rng: &mut Rng) -> Result<(), String> {
+    let mut t = gen::table(rng);
+    t.s = rng.range(1, (40_000 / t.n).min(model::MAX_SIZE));
+    let words = gen::words(&t);
+    for _ in 0..4 {
+        let mut block = damaged_codeword(rng, &t);
+        verify(rng, &words, &block)?;
+        let map = lose(rng, t.n);
+        age(rng, &mut block, t.s, &map);
+        repair(rng, &words, &block, &map)?;
+    }
+    Ok(())
 }
 
 /// A damaged table, with buffers of right or wrong lengths.
@@ -270,14 +323,13 @@ fn brute_case(rng: &mut Rng) -> Result<(), String> {
     }
     for _ in 0..8 {
         let map = lose(rng, t.n);
-        let lost: Vec<usize> = (0..t.n).filter(|p| map[*p] == 1).collect();
+        let lost = places_lost(&map);
         let mut received = block.clone();
-        lost.iter().for_each(|p| received[*p] = rng.next() as u8);
+        age(rng, &mut received, 1, &map);
         let left = model::largest_stopping_set(&t, &lost);
         let (answer, repaired, after) = repair(rng, &words, &received, &map)?;
         same("refusal", &answer.refusal, &0)?;
-        let still: Vec<usize> = (0..t.n).filter(|p| after[*p] == 1).collect();
-        same("largest stopping set", &still, &left)?;
+        same("largest stopping set", &places_lost(&after), &left)?;
         same("still lost", &(answer.lost as usize), &left.len())?;
         same("restored", &(answer.restored as usize), &(lost.len() - left.len()))?;
         for p in 0..t.n {
@@ -288,21 +340,44 @@ fn brute_case(rng: &mut Rng) -> Result<(), String> {
     Ok(())
 }
 
+/// Small tables: check and byte are the lowest of all contradictions.
+fn brute_byte_case(rng: &mut Rng) -> Result<(), String> {
+    let mut t = gen::small_table(rng, 9, 8);
+    t.s = rng.pick(&[1, 2, 63, 64, 65, 130]);
+    let words = gen::words(&t);
+    for _ in 0..8 {
+        let mut block = damaged_codeword(rng, &t);
+        let expected = match model::contradictions(&t, &[], &block).first() {
+            None => CODEWORD,
+            Some((check, byte)) => fails(*check, *byte),
+        };
+        same("verification", &verify(rng, &words, &block)?, &expected)?;
+
+        let map = lose(rng, t.n);
+        age(rng, &mut block, t.s, &map);
+        let (answer, _, _) = repair(rng, &words, &block, &map)?;
+        let expected = match model::contradictions(&t, &places_lost(&map), &block).first() {
+            None => ok(answer.restored, answer.lost, answer.additions),
+            Some((check, byte)) => contradicts(*check, *byte),
+        };
+        same("repair", &answer, &expected)?;
+    }
+    Ok(())
+}
+
 fn random_case(rng: &mut Rng, number: u64) -> Result<(), String> {
-    match number % 16 {
+    match number % 18 {
         0..=6 => repair_case(rng),
         7..=9 => verify_case(rng),
         10..=12 => damaged_case(rng),
         13 => packet_case(rng),
-        _ => brute_case(rng),
+        14 | 15 => brute_case(rng),
+        16 => byte_case(rng),
+        _ => brute_byte_case(rng),
     }
 }
 
 // ------------------------------------------------------------- fixed cases
-
-fn ok(restored: u32, lost: u32, additions: u32) -> Repaired {
-    Repaired { refusal: 0, restored, lost, additions }
-}
 
 fn repaired(
     table: &[u16],
@@ -312,24 +387,30 @@ fn repaired(
     block_after: &[u8],
 ) -> Result<(), String> {
     let mut rng = Rng::new(0, 0);
-    let map: Vec<u8> = (0..block.len()).map(|p| lost.contains(&p) as u8).collect();
+    let map: Vec<u8> = (0..table[1] as usize).map(|p| lost.contains(&p) as u8).collect();
     let (got, after, _) = repair(&mut rng, table, block, &map)?;
     same("answer", &got, &answer)?;
     same("block", &after, &block_after.to_vec())
 }
 
-fn verified(table: &[u16], block: &[u8], codeword: u32, check: u32) -> Result<(), String> {
-    let answer = verify(&mut Rng::new(0, 0), table, block)?;
-    same("answer", &answer, &Verified { refusal: 0, codeword, check })
+fn verified(table: &[u16], block: &[u8], answer: Verified) -> Result<(), String> {
+    same("answer", &verify(&mut Rng::new(0, 0), table, block)?, &answer)
+}
+
+/// Refused by repair.
+fn refused(table: &[u16], block: &[u8], map: &[u8], refusal: u32) -> Result<(), String> {
+    let (answer, _, _) = repair(&mut Rng::new(0, 0), table, block, map)?;
+    same("repair", &answer, &Repaired::refused(refusal))
+}
+
+fn refused_by_both(table: &[u16], block: &[u8], map: &[u8], refusal: u32) -> Result<(), String> {
+    refused(table, block, map, refusal)?;
+    verified(table, block, Verified::refused(refusal))
 }
 
 fn refusal_of_all(table: &[u16], n: usize, s: usize, refusal: u32) -> Result<(), String> {
-    let mut rng = Rng::new(0, 0);
-    let block = rng.bytes(n * s);
-    let (answer, _, _) = repair(&mut rng, table, &block, &vec![1; n])?;
-    same("repair", &answer, &Repaired::refused(refusal))?;
-    let answer = verify(&mut rng, table, &block)?;
-    same("verify", &answer, &Verified::refused(refusal))
+    let block = Rng::new(0, 0).bytes(n * s);
+    refused_by_both(table, &block, &vec![1; n], refusal)
 }
 
 fn fixed_cases(run: &mut Run) {
@@ -344,8 +425,8 @@ fn fixed_cases(run: &mut Run) {
         block
     };
 
-    run.fixed("P2, verified", verified(&a, &p2, 1, 0));
-    run.fixed("P3, verified", verified(&b, &[0, 0xa5, 0xa5, 0xa5], 1, 0));
+    run.fixed("P2, verified", verified(&a, &p2, CODEWORD));
+    run.fixed("P3, verified", verified(&b, &[0, 0xa5, 0xa5, 0xa5], CODEWORD));
     run.fixed("P4", repaired(&a, &old(&[3, 5, 6]), &[3, 5, 6], ok(3, 0, 9), &p2));
     let zeroed = |lost: &[usize]| {
         let mut block = p2;
@@ -359,22 +440,22 @@ fn fixed_cases(run: &mut Run) {
     run.fixed("P7", repaired(&a4, &old(&lost), &lost, ok(3, 0, 9), &p2));
     let mut wrong = p2;
     wrong[0] = 0x11;
-    run.fixed("P8", repaired(&a, &wrong, &[], Repaired::refused(8), &wrong));
-    run.fixed("P8, verified", verified(&a, &wrong, 0, 0));
+    run.fixed("P8", repaired(&a, &wrong, &[], contradicts(0, 0), &wrong));
+    run.fixed("P8, verified", verified(&a, &wrong, fails(0, 0)));
     // Refusal 8 after restoring: every lost place becomes zero.
     wrong[3] = 0xee;
     wrong[5] = 0xee;
     let mut after = wrong;
     after[3] = 0;
     after[5] = 0;
-    run.fixed("P8, two lost", repaired(&a, &wrong, &[3, 5], Repaired::refused(8), &after));
+    run.fixed("P8, two lost", repaired(&a, &wrong, &[3, 5], contradicts(0, 0), &after));
     let single: Vec<u16> = vec![2, 1, 1, 1, 1, 1, 0];
-    run.fixed("P9, verified", verified(&single, &[0], 1, 0));
-    run.fixed("P9, not zero", verified(&single, &[1], 0, 0));
+    run.fixed("P9, verified", verified(&single, &[0], CODEWORD));
+    run.fixed("P9, not zero", verified(&single, &[1], fails(0, 0)));
     run.fixed("P9, lost", repaired(&single, &[9], &[0], ok(1, 0, 0), &[0]));
-    run.fixed("P9, contradicts", repaired(&single, &[9], &[], Repaired::refused(8), &[9]));
+    run.fixed("P9, contradicts", repaired(&single, &[9], &[], contradicts(0, 0), &[9]));
     let no_checks: Vec<u16> = vec![2, 3, 1, 0, 0];
-    run.fixed("P10, verified", verified(&no_checks, &[1, 2, 3], 1, 0));
+    run.fixed("P10, verified", verified(&no_checks, &[1, 2, 3], CODEWORD));
     run.fixed("P10, lost", repaired(&no_checks, &[1, 2, 3], &[1], ok(0, 1, 0), &[1, 0, 3]));
 
     // The lowest check is looked for anew at each turn.
@@ -404,43 +485,36 @@ fn fixed_cases(run: &mut Run) {
         ),
     ];
     for (i, (table, block)) in vectors.iter().enumerate() {
-        run.fixed(&format!("vector {i}"), verified(table, block, 1, 0));
+        run.fixed(&format!("vector {i}"), verified(table, block, CODEWORD));
         let mut off = block.to_vec();
         off[0] ^= 0x40;
-        let answer = verify(&mut Rng::new(0, 0), table, &off);
-        run.fixed(
-            &format!("vector {i}, one byte off"),
-            answer.and_then(|v| same("codeword", &v.codeword, &0)),
-        );
+        run.fixed(&format!("vector {i}, one byte off"), verified(table, &off, fails(0, 0)));
     }
 
     // Limits.
     let wide = |n: usize, weight: usize| model::table_words(n, 1, &[(0..weight).collect()]);
-    run.fixed("n 1,024", verified(&wide(1024, 2), &[3; 1024], 1, 0));
+    run.fixed("n 1,024", verified(&wide(1024, 2), &[3; 1024], CODEWORD));
     run.fixed("n 1,025", refusal_of_all(&wide(1025, 2), 1025, 1, 2));
     run.fixed("n 0", refusal_of_all(&[2, 0, 1, 0, 0], 0, 1, 2));
-    run.fixed("s 1,024", verified(&[2, 2, 1024, 1, 2, 2, 0, 1], &[3; 2048], 1, 0));
+    run.fixed("s 1,024", verified(&[2, 2, 1024, 1, 2, 2, 0, 1], &[3; 2048], CODEWORD));
     run.fixed("s 1,025", refusal_of_all(&[2, 2, 1025, 1, 2, 2, 0, 1], 2, 1025, 2));
     run.fixed("s 0", refusal_of_all(&[2, 2, 0, 0, 0], 2, 0, 2));
-    run.fixed("weight 64", verified(&wide(64, 64), &[5; 64], 1, 0));
+    run.fixed("weight 64", verified(&wide(64, 64), &[5; 64], CODEWORD));
     run.fixed("weight 65", refusal_of_all(&wide(65, 65), 65, 1, 3));
     let many = |m: usize| model::table_words(2, 1, &vec![vec![]; m]);
-    run.fixed("m 512", verified(&many(512), &[5, 6], 1, 0));
+    run.fixed("m 512", verified(&many(512), &[5, 6], CODEWORD));
     run.fixed("m 513", refusal_of_all(&many(513), 2, 1, 2));
     let full = |checks: usize| model::table_words(64, 1, &vec![(0..64).collect::<Vec<_>>(); checks]);
-    run.fixed("6,144 ones", verified(&full(96), &[5; 64], 1, 0));
+    run.fixed("6,144 ones", verified(&full(96), &[5; 64], CODEWORD));
     run.fixed("6,208 ones", refusal_of_all(&full(97), 64, 1, 3));
     let copies = gen::side_by_side(&vec![gen::table_b(); 33]);
     let copies = model::table_words(copies.0, 1, &copies.1);
-    run.fixed("33 copies of B, verified", verified(&copies, &[0; 132], 1, 0));
+    run.fixed("33 copies of B, verified", verified(&copies, &[0; 132], CODEWORD));
 
     // Causes in the order of their numbers.
-    let mut rng = Rng::new(0, 0);
     let bad_place: Vec<u16> = vec![2, 2, 1, 1, 2, 2, 0, 2];
     let mut order = |name: &str, table: &[u16], block: usize, map: &[u8], refusal: u32| {
-        let block = vec![1u8; block];
-        let got = repair(&mut rng, table, &block, map).map(|r| r.0);
-        run.fixed(name, got.and_then(|r| same("refusal", &r, &Repaired::refused(refusal))));
+        run.fixed(name, refused(table, &vec![1; block], map, refusal));
     };
     order("empty table", &[], 0, &[], 1);
     order("1 before 2", &[3, 0, 0, 600], 0, &[], 1);
@@ -462,9 +536,235 @@ fn fixed_cases(run: &mut Run) {
     part("packet, 10", 7, 3, 7, 21, Part::refused(10));
 }
 
+// ------------------------------------------- fixed cases: check and byte
+
+/// Place, byte of its packet, value.
+type Byte = (usize, usize, u8);
+
+/// A block of zeros but for some bytes.
+fn zeros_but(n: usize, s: usize, bytes: &[Byte]) -> Vec<u8> {
+    let mut block = vec![0; n * s];
+    for (place, byte, value) in bytes {
+        block[place * s + byte] = *value;
+    }
+    block
+}
+
+/// The words of a table, and a block of zeros but for some bytes.
+fn bench(n: usize, s: usize, checks: &[&[usize]], bytes: &[Byte]) -> (Vec<u16>, Vec<u8>) {
+    let checks: Vec<Vec<usize>> = checks.iter().map(|c| c.to_vec()).collect();
+    (model::table_words(n, s, &checks), zeros_but(n, s, bytes))
+}
+
+/// The block with old bytes at lost places.
+fn aged(block: &[u8], s: usize, lost: &[usize]) -> Vec<u8> {
+    let mut block = block.to_vec();
+    lost.iter().for_each(|p| block[p * s..(p + 1) * s].fill(0xee));
+    block
+}
+
+/// Refusal 8 tells this check and byte; so does verification if nothing is
+/// lost. Lost places hold old bytes before, zero bytes after.
+fn told(
+    (n, s): (usize, usize),
+    checks: &[&[usize]],
+    lost: &[usize],
+    bytes: &[Byte],
+    (check, byte): (u32, u32),
+) -> Result<(), String> {
+    let (table, after) = bench(n, s, checks, bytes);
+    let block = aged(&after, s, lost);
+    repaired(&table, &block, lost, contradicts(check, byte), &after)?;
+    if lost.is_empty() {
+        verified(&table, &block, fails(check, byte))?;
+    }
+    Ok(())
+}
+
+/// Size, bytes that aren't zero in one packet, the lowest of them.
+const DEPTHS: [(usize, &[usize], u32); 32] = [
+    (1, &[0], 0),
+    (2, &[1], 1),
+    (8, &[7], 7),
+    (9, &[8], 8),
+    (63, &[62], 62),
+    (64, &[63], 63),
+    (65, &[63], 63),
+    (65, &[64], 64),
+    (66, &[65], 65),
+    (100, &[0], 0),
+    (100, &[63], 63),
+    (100, &[64], 64),
+    (100, &[65], 65),
+    (100, &[70], 70),
+    (100, &[99], 99),
+    (128, &[127], 127),
+    (129, &[128], 128),
+    (200, &[128], 128),
+    (200, &[192], 192),
+    (200, &[199], 199),
+    (1023, &[1022], 1022),
+    (1024, &[255], 255),
+    (1024, &[256], 256),
+    (1024, &[960], 960),
+    (1024, &[1000], 1000),
+    (1024, &[1023], 1023),
+    // Several, also such that a lower one lies later in its piece of 64.
+    (100, &[70, 71, 99], 70),
+    (200, &[63, 64], 63),
+    (200, &[69, 130, 192], 69),
+    (200, &[5, 69, 133, 197], 5),
+    (1024, &[1000, 1001, 1023], 1000),
+    (1024, &[767, 768, 960], 767),
+];
+
+fn depth_cases(run: &mut Run) {
+    let checks: [&[usize]; 3] = [&[0, 1], &[1, 2], &[0]];
+    for (s, depths, lowest) in DEPTHS {
+        let bytes: Vec<Byte> = depths.iter().map(|b| (2, *b, 1)).collect();
+        // Check 1 restores place 1, then check 0 place 0: check 2 fails. Taken
+        // in one sweep, check 2 would restore place 0, and check 0 would fail.
+        run.fixed(
+            &format!("size {s}, bytes {depths:?}, lost 0 and 1"),
+            told((3, s), &checks, &[0, 1], &bytes, (2, lowest)),
+        );
+        run.fixed(
+            &format!("size {s}, bytes {depths:?}, none lost"),
+            told((3, s), &checks, &[], &bytes, (1, lowest)),
+        );
+    }
+}
+
+fn told_cases(run: &mut Run) {
+    run.fixed(
+        "C-12",
+        repaired(
+            &[2, 3, 1, 3, 2, 2, 1, 5, 0, 1, 1, 2, 0],
+            &[0xee, 0xee, 0x01],
+            &[0, 1],
+            contradicts(2, 0),
+            &[0, 0, 0x01],
+        ),
+    );
+    let pair: [&[usize]; 2] = [&[0], &[1]];
+    run.fixed(
+        "the higher check has the lower byte",
+        told((2, 100), &pair, &[], &[(0, 80, 1), (1, 3, 1)], (0, 80)),
+    );
+    run.fixed(
+        "the higher check has the lower byte, in another piece",
+        told((2, 200), &pair, &[], &[(0, 199, 0x80), (1, 0, 0xff)], (0, 199)),
+    );
+    run.fixed(
+        "the higher check has the higher byte",
+        told((2, 200), &pair, &[], &[(0, 66, 1), (1, 131, 1)], (0, 66)),
+    );
+    run.fixed(
+        "packets cancel at lower bytes",
+        told(
+            (3, 100),
+            &[&[0, 1], &[2]],
+            &[],
+            &[(0, 3, 0xaa), (1, 3, 0xaa), (0, 64, 1), (1, 64, 1), (1, 90, 0x80)],
+            (0, 90),
+        ),
+    );
+    let four: [&[usize]; 4] = [&[0], &[1], &[2], &[3]];
+    run.fixed("the last of four", told((4, 3), &four, &[], &[(3, 2, 1)], (3, 2)));
+    run.fixed(
+        "the last two of four",
+        told((4, 3), &four, &[], &[(2, 1, 1), (3, 0, 1)], (2, 1)),
+    );
+    let mut many: Vec<&[usize]> = vec![&[]; 256];
+    many.push(&[0]);
+    run.fixed("check 256", told((2, 100), &many, &[], &[(0, 70, 1)], (256, 70)));
+    many.resize(511, &[]);
+    many.push(&[1]);
+    run.fixed("check 511", told((2, 1024), &many, &[], &[(1, 1023, 1)], (511, 1023)));
+    run.fixed(
+        "checks 256 and 511",
+        told((2, 1024), &many, &[], &[(1, 5, 1), (0, 900, 1)], (256, 900)),
+    );
+
+    // A check with a lost place isn't judged, whatever its other packets are.
+    run.fixed(
+        "a lower check has lost places",
+        told((5, 2), &[&[0, 1, 2], &[3, 4]], &[0, 1], &[(2, 0, 5), (3, 1, 7)], (1, 1)),
+    );
+    run.fixed(
+        "a lower check has lost places, restored ones contradict",
+        told(
+            (6, 100),
+            &[&[2, 4, 5], &[0, 1], &[1, 2], &[0]],
+            &[0, 1, 4, 5],
+            &[(2, 70, 1)],
+            (3, 70),
+        ),
+    );
+
+    // Judged before lost places are zeroed again: then check 0 would fail too.
+    run.fixed(
+        "a restored packet cancels",
+        told(
+            (3, 100),
+            &[&[0, 1], &[0, 2], &[1, 2]],
+            &[0],
+            &[(1, 70, 3), (2, 70, 3), (2, 90, 1)],
+            (1, 90),
+        ),
+    );
+    run.fixed(
+        "a chain of restored packets",
+        told(
+            (4, 100),
+            &[&[0, 1], &[1, 2], &[2, 3], &[3]],
+            &[1, 2, 3],
+            &[(0, 66, 0x40)],
+            (3, 66),
+        ),
+    );
+}
+
+/// Accepted calls and other refusals tell 0 and 0.
+fn untold_cases(run: &mut Run) {
+    // Check 1 can't be judged, and its received packet isn't zero.
+    let checks: [&[usize]; 3] = [&[3, 4, 5], &[0, 1, 2], &[]];
+    let (table, received) = bench(6, 100, &checks, &[(2, 70, 5), (3, 71, 7)]);
+    let block = aged(&received, 100, &[0, 1, 5]);
+    let after = zeros_but(6, 100, &[(2, 70, 5), (3, 71, 7), (5, 71, 7)]);
+    run.fixed("accepted", repaired(&table, &block, &[0, 1, 5], ok(1, 2, 2), &after));
+    run.fixed("accepted, as it came", verified(&table, &block, fails(0, 0)));
+    run.fixed("accepted, afterwards", verified(&table, &after, fails(1, 70)));
+    let whole = zeros_but(6, 100, &[(1, 70, 5), (2, 70, 5), (3, 71, 7), (5, 71, 7)]);
+    run.fixed("a codeword", verified(&table, &whole, CODEWORD));
+    run.fixed("a codeword, nothing lost", repaired(&table, &whole, &[], ok(0, 0, 0), &whole));
+
+    // Check 1 fails at byte 1, but another cause comes first.
+    let (table, block) = bench(3, 2, &[&[0], &[1], &[0, 2]], &[(1, 1, 7)]);
+    run.fixed("no other cause", told((3, 2), &[&[0], &[1], &[0, 2]], &[], &[(1, 1, 7)], (1, 1)));
+    let with = |at: usize, word: u16| {
+        let mut words = table.clone();
+        words[at] = word;
+        words
+    };
+    let longer = [&table[..], &[2]].concat();
+    let map = [0; 3];
+    run.fixed("untold with 1", refused_by_both(&table[..4], &block, &map, 1));
+    run.fixed("untold with 2", refused_by_both(&with(0, 3), &block, &map, 2));
+    run.fixed("untold with 3", refused_by_both(&longer, &block, &map, 3));
+    run.fixed("untold with 4", refused_by_both(&with(11, 3), &block, &map, 4));
+    run.fixed("untold with 5", refused_by_both(&table, &[&block[..], &[0]].concat(), &map, 5));
+    run.fixed("untold with 5 for the map", refused(&table, &block, &map[..2], 5));
+    run.fixed("untold with 7", refused(&table, &block, &[0, 0, 2], 7));
+    run.fixed("untold with 7, some lost", refused(&table, &block, &[1, 0, 255], 7));
+}
+
 fn main() {
     let mut run = Run::from_arguments(6000);
     fixed_cases(&mut run);
+    depth_cases(&mut run);
+    told_cases(&mut run);
+    untold_cases(&mut run);
     run.random(random_case);
     run.end()
 }

@@ -82,7 +82,7 @@ for part in source.*; do
     # lost: ten packets in a row, elsewhere in each block; the map marks them
     dd if=/dev/zero of="$block" bs=$size seek=$start count=10 conv=notrunc 2>/dev/null
     awk -v start=$start 'BEGIN { for (p = 0; p < 64; p++) print (p >= start && p < start + 10) }' | bytes >map
-    said "verify_file $block" 'check * fails' "$("$bin/verify_file" table "$block")"
+    said "verify_file $block" 'check * fails at byte *' "$("$bin/verify_file" table "$block")"
 
     counts=$("$bin/repair_file" table "$block" map)
     said "repair_file $block" 'restored 10 lost 0 *' "$counts"
@@ -97,4 +97,16 @@ for part in source.*; do
 done
 
 cmp received corrections
+
+# A wrong byte, 37 of the last packet, which lies in the last check alone: verification and refusal 8 tell both. A map that marks no
+# place as lost, and a block that keeps what it holds.
+printf '\377' | dd of=block.aa bs=1 seek=$((63 * size + 37)) conv=notrunc 2>/dev/null
+cp block.aa damaged
+head -c 64 /dev/zero >map
+said 'verify_file, damaged' 'check 23 fails at byte 37' "$("$bin/verify_file" table damaged)"
+said 'repair_file, damaged' '' "$("$bin/repair_file" table damaged map 2>errors)"
+said 'repair_file, damaged' 'refused 8: check 23 fails at byte 37' "$(cat errors)"
+cmp damaged block.aa
+echo "damaged: $(cat errors)"
+
 echo "received: the same $(wc -c <received) bytes"

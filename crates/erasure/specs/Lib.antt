@@ -1,3 +1,4 @@
+pub mod ContradictionLaws
 pub mod Largest
 pub mod LostLaws
 pub mod OldBytes

@@ -1,20 +1,19 @@
--- What restoring comes to: its counts, its shape, and the checks that passed.
+-- What restoring comes to: its counts and its shape.
 use mathlib.Core.Path.{_≡_, refl, sym, ap, _∙_}
-use mathlib.Core.Bool.{Bool, true, false, cond, false≢true}
+use mathlib.Core.Bool.{cond}
 use mathlib.Core.List.{List, [], _∷_}
 use Prim.Native.Nat.{ℕ, zero, suc, _*_, _<_, _≤_}
 use native.Mathlib.Omega.{arith}
 use lib.Dec.{eqb}
 use lib.ListN.{length, getD, replicate, length-replicate}
-use Rattle.lists.specs.Tests.{eqb-false, eqb-comm, byOpt, byBool}
-use Rattle.lists.specs.Lists.{sameList, filter, All, All.nil, All.cons}
-use Rattle.table.specs.CodewordLaws.{zero-sound}
+use Rattle.lists.specs.Tests.{eqb-comm, byOpt, byBool}
+use Rattle.lists.specs.Lists.{filter, All, All.nil, All.cons}
 use Rattle.table.specs.PacketCall.{partAt}
 use Rattle.table.specs.PacketLaws.{packets-length, packets-sized, joined-packets, packet-at}
-use Rattle.table.specs.Packets.{Packets, packets, joined, packetSum}
+use Rattle.table.specs.Packets.{Packets, packets, joined}
 use Rattle.table.specs.Table.{places, size, checks, refusal}
 use Rattle.table.specs.TableLaws.{accepted}
-use Rattle.erasure.specs.Restoring.{State, lostPlaces, ready, restoring, zeroLost, consistent, tally, outcome, countsIf}
+use Rattle.erasure.specs.Restoring.{State, lostPlaces, ready, restoring, zeroLost, tally, outcome}
 use Rattle.erasure.specs.RestoringLaws.{ready-lost, restoring-length, restoring-sized}
 use Rattle.erasure.specs.Stopping.{lostIn, no-lost, restore-one}
 use Rattle.erasure.specs.Tally.{restoredIn}
@@ -67,22 +66,6 @@ restoring-fewer (suc k) s cs m = byOpt (ready (m .map) cs)
 
 pub tally-fewer : (t b map : List ℕ) → tally 1 (outcome t b map .map) ≤ tally 1 map
 tally-fewer t b map = rw (tally-lost (outcome t b map .map), tally-lost map) (restoring-fewer (places t) (size t) (checks t) _)
-
--- whether it agrees is told
-pub told : (v : Bool) (map : List ℕ) (m : State) → countsIf v map m .agrees ≡ v
-told true map m = refl
-told false map m = refl
-
--- ---- the checks that passed
--- a check without a lost place that passes the test
-pub sums-of : (s : ℕ) (m : State) (cs : List (List ℕ)) → consistent s cs m ≡ true
-    → All (λ c. length (lostPlaces (m .map) c) ≡ 0 → packetSum s (m .block) c ≡ replicate s 0) cs
-sums-of s m [] h = nil
-sums-of s m (c ∷ cs) h = byBool (eqb (length (lostPlaces (m .map) c)) 0)
-    (λ e. byBool (sameList (packetSum s (m .block) c) (replicate s 0))
-    (λ z. cons (λ k. zero-sound s (m .block) c z) (sums-of s m cs (rw (e, z) at h)))
-    (λ z. absurd (false≢true (rw (e, z) at h))))
-    (λ e. cons (λ k. absurd (eqb-false (length (lostPlaces (m .map) c)) 0 e k)) (sums-of s m cs (rw e at h)))
 
 -- no lost place among none
 pub none-lost : (lost c : List ℕ) → lostIn lost ≡ 0 → length (lostPlaces lost c) ≡ 0

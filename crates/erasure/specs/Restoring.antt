@@ -8,7 +8,8 @@ use lib.Dec.{eqb}
 use lib.ListN.{length, getD, set, replicate}
 use mathlib.Core.Logic.{_≢_}
 use mathlib.Core.Path.{_≡_}
-use Rattle.lists.specs.Lists.{allPass, sameList, filter, minus, All}
+use Rattle.faults.specs.Faults.{Fault, failing, noFault}
+use Rattle.lists.specs.Lists.{filter, minus, All}
 use Rattle.table.specs.Packets.{packets, joined, packetSum}
 use Rattle.table.specs.Table.{places, size, checks}
 
@@ -51,9 +52,17 @@ zeroLost s (l ∷ ls) (p ∷ b) = cond (eqb l 1) (replicate s 0) p ∷ zeroLost 
 abbrev pub repaired : ℕ → ℕ → List (List ℕ) → List (List ℕ) → List ℕ → State
 repaired n s cs b map = restoring n s cs (record { block = zeroLost s map b; map = map; adds = 0 })
 
--- "Afterwards every check without a lost place must sum to zero"
+-- a check without a lost place
+abbrev pub noneLost : List ℕ → List ℕ → Bool
+noneLost map c = eqb (length (lostPlaces map c)) 0
+
+-- "the lowest that fails after restoring, among those then without a lost place", and its byte (document 02, C-12)
+abbrev pub contradiction : ℕ → List (List ℕ) → State → Option Fault
+contradiction s cs m = failing (noneLost (m .map)) s (m .block) 0 cs
+
+-- "Afterwards every check without a lost place must sum to zero": none fails
 abbrev pub consistent : ℕ → List (List ℕ) → State → Bool
-consistent s cs m = allPass (λ c. not (eqb (length (lostPlaces (m .map) c)) 0) || sameList (packetSum s (m .block) c) (replicate s 0)) cs
+consistent s cs m = noFault (contradiction s cs m)
 
 -- how many map bytes are v
 abbrev pub tally : ℕ → List ℕ → ℕ
@@ -64,20 +73,26 @@ tally v l = length (filter (eqb v) l)
 abbrev pub outcome : List ℕ → List ℕ → List ℕ → State
 outcome t b map = repaired (places t) (size t) (checks t) (packets (size t) (places t) b) map
 
+-- what contradicts, if something does
+abbrev pub contradicting : List ℕ → List ℕ → List ℕ → Option Fault
+contradicting t b map = contradiction (size t) (checks t) (outcome t b map)
+
 -- nothing contradicts
 abbrev pub agreeing : List ℕ → List ℕ → List ℕ → Bool
 agreeing t b map = consistent (size t) (checks t) (outcome t b map)
 
--- what is told: restored is lost before less lost after; counts 0 where received packets contradict
+-- what is told: restored is lost before less lost after; where received packets contradict, counts 0 and the check and byte that do
 pub record Counts : Type 0 where
   pub agrees : Bool
   pub restored : ℕ
   pub lost : ℕ
   pub additions : ℕ
+  pub check : ℕ
+  pub byte : ℕ
 
-abbrev pub countsIf : Bool → List ℕ → State → Counts
-countsIf true map m = record { agrees = true; restored = tally 1 map - tally 1 (m .map); lost = tally 1 (m .map); additions = m .adds }
-countsIf false map m = record { agrees = false; restored = 0; lost = 0; additions = 0 }
+abbrev pub countsIf : Option Fault → List ℕ → State → Counts
+countsIf none map m = record { agrees = true; restored = tally 1 map - tally 1 (m .map); lost = tally 1 (m .map); additions = m .adds; check = 0; byte = 0 }
+countsIf (some f) map m = record { agrees = false; restored = 0; lost = 0; additions = 0; check = f .check; byte = f .byte }
 
 -- the block afterwards: the outcome's; on contradiction lost places are zero
 abbrev pub blockIf : Bool → List ℕ → List ℕ → List ℕ → List ℕ

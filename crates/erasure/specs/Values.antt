@@ -17,6 +17,7 @@ use Rattle.lists.specs.ListLaws.{same-self, all-filter, all-zip, filter-in, all
 use Rattle.table.specs.PacketLaws.{view, sum-view}
 use Rattle.lists.specs.Tests.{eqb-true, eqb-false, eqb-self, byOpt, byBool}
 use Rattle.table.specs.Packets.{packetSum, Packets}
+use Rattle.erasure.specs.ContradictionLaws.{Sums, of-sums}
 use Rattle.erasure.specs.Largest.{restoring-within}
 use Rattle.erasure.specs.Restoring.{State, lostPlaces, ready, restoring, repaired, zeroLost, consistent, isLost}
 use Rattle.gf2.specs.Places.{sum-apart}
@@ -163,23 +164,10 @@ module _ (n s : ℕ) (cs : List (List ℕ)) (low : All (λ c. All (λ p. p < n) 
     restored = end .same
 
     -- every check without a lost place sums to zero ..
-    pub sums-zero : All (λ c. length (lostPlaces (repaired n s cs b lost .map) c) ≡ 0 → packetSum s (repaired n s cs b lost .block) c ≡ replicate s 0) cs
+    pub sums-zero : Sums s cs (repaired n s cs b lost)
     sums-zero = all-map (λ c r h. sum-agree s (repaired n s cs b lost .block) word
         (all-map (λ p t. restored p (t .0) (t .1)) (all-zip (r .0) (none-passes (isLost (repaired n s cs b lost .map)) c h))) ∙ r .1) (all-zip low zeros)
 
     -- .. so nothing contradicts
     pub no-contradiction : consistent s cs (repaired n s cs b lost) ≡ true
-    no-contradiction = go sums-zero
-      where
-        m : State
-        m = repaired n s cs b lost
-
-        one : (c : List ℕ) → (length (lostPlaces (m .map) c) ≡ 0 → packetSum s (m .block) c ≡ replicate s 0)
-            → (not (eqb (length (lostPlaces (m .map) c)) 0) || sameList (packetSum s (m .block) c) (replicate s 0)) ≡ true
-        one c h = byBool (eqb (length (lostPlaces (m .map) c)) 0)
-            (λ e. rw e (ap (λ v. sameList v (replicate s 0)) (h (eqb-true _ 0 e)) ∙ same-self (replicate s 0)))
-            (λ e. rw e)
-
-        go : {l : List (List ℕ)} → All (λ c. length (lostPlaces (m .map) c) ≡ 0 → packetSum s (m .block) c ≡ replicate s 0) l → consistent s l m ≡ true
-        go nil = refl
-        go (cons {x = c} h a) = ap₂ _&&_ (one c h) (go a)
+    no-contradiction = of-sums s (repaired n s cs b lost) sums-zero

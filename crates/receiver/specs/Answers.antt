@@ -1,18 +1,13 @@
 -- The answers of the library for C, as the definitions' records and values.
 use mathlib.Core.Bool.{Bool, true, false}
-use mathlib.Core.Option.{Option, none, some}
 use Prim.Native.Nat.{ℕ}
 use Rattle.repair.specs.Repair.{RepairAnswer}
 use Rattle.receiver.specs.declared.Repair.{Repair}
 
--- C has numbers: 1 or 0 for whether, 0 for none
+-- C has numbers: 1 or 0 for whether
 abbrev pub oneIf : Bool → ℕ
 oneIf true = 1
 oneIf false = 0
 
-abbrev pub orZero : Option ℕ → ℕ
-orZero none = 0
-orZero (some k) = k
-
 abbrev pub repaired : Repair → RepairAnswer
-repaired r = record { refusal = r .refusal; restored = r .restored; lost = r .lost; additions = r .additions }
+repaired r = record { refusal = r .refusal; restored = r .restored; lost = r .lost; additions = r .additions; check = r .check; byte = r .byte }

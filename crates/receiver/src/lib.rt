@@ -4,7 +4,8 @@ ghost use lib.ListN.{length};
 ghost use Rattle.table.specs.PacketCall.{packetRefusal, partStart, partLength};
 ghost use Rattle.verify.specs.Verify.{verifyAnswer};
 ghost use Rattle.repair.specs.Repair.{repairAnswer, repairBlockAfter, repairMapAfter};
-ghost use Rattle.receiver.specs.Answers.{oneIf, orZero, repaired};
+ghost use Rattle.faults.specs.Faults.{checkOf, byteOf};
+ghost use Rattle.receiver.specs.Answers.{oneIf, repaired};
 use verify::Verified;
 
 // Where in the block a packet lies: 0 and 0 on refusal.
@@ -37,46 +38,54 @@ pub extern "C" fn bs_packet(n: usize, s: usize, place: usize, block: &[u8]) -> P
     }
 }
 
-// What verification says: codeword 1 or 0, and the lowest check that fails, else 0.
+// What verification says: codeword 1 or 0, and the lowest check that fails with its byte, else 0.
 #[repr(C)]
 pub struct Verification {
     pub refusal: u32,
     pub codeword: u32,
     pub check: u32,
+    pub byte: u32,
 }
 
 #[no_mangle]
 pub extern "C" fn bs_verify(table: &[u16], block: &[u8]) -> Verification
     ensures refusal { λ r. ⌜ r .refusal ≡ verifyAnswer (now (table .entry)) (now (block .entry)) .refusal ⌝ }
     ensures codeword { λ r. ⌜ r .codeword ≡ oneIf (verifyAnswer (now (table .entry)) (now (block .entry)) .codeword) ⌝ }
-    ensures check { λ r. ⌜ r .check ≡ orZero (verifyAnswer (now (table .entry)) (now (block .entry)) .check) ⌝ }
+    ensures check { λ r. ⌜ r .check ≡ checkOf (verifyAnswer (now (table .entry)) (now (block .entry)) .fault) ⌝ }
+    ensures byte { λ r. ⌜ r .byte ≡ byteOf (verifyAnswer (now (table .entry)) (now (block .entry)) .fault) ⌝ }
 {
     match verify::verify(table, block) {
         Verified::Refused(refusal) => Verification {
             refusal: refusal,
             codeword: 0,
             check: 0,
+            byte: 0,
         },
         Verified::Codeword => Verification {
             refusal: 0,
             codeword: 1,
             check: 0,
+            byte: 0,
         },
-        Verified::Fails(check) => Verification {
+        Verified::Fails(check, byte) => Verification {
             refusal: 0,
             codeword: 0,
             check: check as u32,
+            byte: byte as u32,
         },
     }
 }
 
-// What repair reports: the refusal, 0 for none, and the counts.
+// What repair reports: the refusal, 0 for none, the counts, and with refusal 8 the lowest check that
+// fails with its byte, else 0.
 #[repr(C)]
 pub struct Repair {
     pub refusal: u32,
     pub restored: u32,
     pub lost: u32,
     pub additions: u32,
+    pub check: u32,
+    pub byte: u32,
 }
 
 #[no_mangle]
@@ -91,5 +100,7 @@ pub extern "C" fn bs_repair(table: &[u16], block: &mut [u8], map: &mut [u8]) -> 
         restored: r.restored,
         lost: r.lost,
         additions: r.additions,
+        check: r.check,
+        byte: r.byte,
     }
 }

@@ -3,10 +3,12 @@
 use mathlib.Core.Path.{_≡_}
 use mathlib.Core.Bool.{Bool, true, false, not, _||_}
 use mathlib.Core.List.{List, [], _∷_, _++_}
+use mathlib.Core.Option.{Option, none}
 use Prim.Native.Nat.{ℕ, zero, suc, _*_, _<_}
 use lib.Dec.{eqb, ltb}
 use lib.ListN.{length, getD}
-use Rattle.erasure.specs.Restoring.{State, zeroLost, tally, outcome, agreeing}
+use Rattle.erasure.specs.Restoring.{State, zeroLost, tally, outcome, contradicting, agreeing}
+use Rattle.faults.specs.Faults.{Fault, checkOf, byteOf}
 use Rattle.lists.specs.Lists.{anyOf}
 use Rattle.repair.specs.declared.Repaired.{Repaired}
 use Rattle.table.specs.FirstCause.{firstCause, wrongLength}
@@ -34,20 +36,30 @@ repairCauses t b map = tableCauses t ++ ((wrongLengths t b map, 5) ∷ (byteOver
 unfoldable pub repairRefusal : List ℕ → List ℕ → List ℕ → ℕ
 repairRefusal t b map = firstCause (repairCauses t b map)
 
--- what is reported: counts 0 on refusal
+-- what is reported: counts 0 on refusal; the check that fails and its byte, both 0 but for refusal 8
 pub record RepairAnswer : Type 0 where
   pub refusal : ℕ
   pub restored : ℕ
   pub lost : ℕ
   pub additions : ℕ
+  pub check : ℕ
+  pub byte : ℕ
 
--- by the refusal's number, 0 for none
-abbrev pub repairAnswerAt : ℕ → State → RepairAnswer
-repairAnswerAt zero m = record { refusal = 0; restored = tally 2 (m .map); lost = tally 1 (m .map); additions = m .adds }
-repairAnswerAt (suc r) m = record { refusal = suc r; restored = 0; lost = 0; additions = 0 }
+-- "refusal 8" hands "on the lowest failing check with that byte" (document 02, C-12), and no other answer does
+abbrev pub handedOn : ℕ → Option Fault → Option Fault
+handedOn r f = elim (eqb r 8) [ true ↦ f | false ↦ none ]
+
+-- a refusal: counts 0
+abbrev pub refusedWith : ℕ → ℕ → ℕ → RepairAnswer
+refusedWith r check byte = record { refusal = r; restored = 0; lost = 0; additions = 0; check = check; byte = byte }
+
+-- by the refusal's number, 0 for none, what restoring comes to, and what is handed on
+abbrev pub repairAnswerAt : ℕ → State → Option Fault → RepairAnswer
+repairAnswerAt zero m f = record { refusal = 0; restored = tally 2 (m .map); lost = tally 1 (m .map); additions = m .adds; check = 0; byte = 0 }
+repairAnswerAt (suc r) m f = refusedWith (suc r) (checkOf f) (byteOf f)
 
 abbrev pub repairAnswer : List ℕ → List ℕ → List ℕ → RepairAnswer
-repairAnswer t b map = repairAnswerAt (repairRefusal t b map) (outcome t b map)
+repairAnswer t b map = repairAnswerAt (repairRefusal t b map) (outcome t b map) (handedOn (repairRefusal t b map) (contradicting t b map))
 
 -- the block afterwards: the outcome's; after 8 lost places are zero; else as it was
 abbrev pub repairBlockAfter : List ℕ → List ℕ → List ℕ → List ℕ
@@ -62,9 +74,9 @@ repairBlockAfter t b map =
 abbrev pub repairMapAfter : List ℕ → List ℕ → List ℕ → List ℕ
 repairMapAfter t b map = elim (eqb (repairRefusal t b map) 0) [ true ↦ outcome t b map .map | false ↦ map ]
 
--- document 01's numbers of an answer
+-- the papers' numbers of an answer
 abbrev pub repairAnswerOf : Repaired → RepairAnswer
-repairAnswerOf r = record { refusal = r .refusal; restored = r .restored; lost = r .lost; additions = r .additions }
+repairAnswerOf r = record { refusal = r .refusal; restored = r .restored; lost = r .lost; additions = r .additions; check = r .check; byte = r .byte }
 
 -- what the call answers, and what it leaves in block and map
 pub record Answers (t b map : List ℕ) (r : Repaired) (b′ map′ : List ℕ) : Type 0 where

@@ -3,15 +3,17 @@ use mathlib.Core.Path.{_≡_, refl, _∙_}
 use mathlib.Core.Bool.{Bool, true, false, cond, not}
 use mathlib.Core.List.{List, [], _∷_, _++_}
 use mathlib.Core.Logic.{_≢_}
+use mathlib.Core.Option.{Option, none}
 use Prim.Native.Nat.{ℕ, zero, suc, _*_, _≤_}
 use native.Mathlib.Omega.{arith}
 use borrow.Author.Tests.{eq-eqb, ne-eqb, ltb-false, not-true, not-false}
 use lib.Dec.{eqb, ltb}
 use lib.ListN.{length, getD}
 use Rattle.erasure.specs.Restoring.{zeroLost, outcome, agreeing}
+use Rattle.faults.specs.Faults.{Fault}
 use Rattle.lists.specs.Lists.{anyOf, All, All.nil, All.cons}
 use Rattle.lists.specs.Tests.{eqb-true, or-false-l, or-false-r}
-use Rattle.repair.specs.Repair.{wrongLengths, byteOver, contradicts, repairCauses, repairRefusal, repairBlockAfter, repairMapAfter, Fitting}
+use Rattle.repair.specs.Repair.{wrongLengths, byteOver, contradicts, repairCauses, repairRefusal, handedOn, repairBlockAfter, repairMapAfter, Fitting}
 use Rattle.table.specs.FirstCause.{firstCause, wrongLength, NoneHolds}
 use Rattle.table.specs.FirstCauseLaws.{none-holds, none-refuses, first-decides, rest-decides, quiet, refused-by}
 use Rattle.table.specs.Packets.{packets, joined}
@@ -73,6 +75,10 @@ module _ (t b map : List ℕ) where
     where
       go : NoneHolds (tableCauses t ++ ((wrongLengths t b map, 5) ∷ (byteOver map, 7) ∷ [])) → contradicts t b map ≡ true → Fitting t b map × (agreeing t b map ≡ false)
       go (cons c1 (cons c2 (cons c3 (cons c4 n)))) a = (fits n (quiet (cons c1 (cons c2 (cons c3 (cons c4 nil))))), not-true (agreeing t b map) a)
+
+-- ---- what is handed on
+pub none-handed : (r : ℕ) (f : Option Fault) → eqb r 8 ≡ false → handedOn r f ≡ none
+none-handed r f e = rw (e, handedOn)
 
 -- ---- the map's bytes
 pub bytes-all : (map : List ℕ) → anyOf (ltb 1) map ≡ false → All (λ x. x ≤ 1) map

@@ -3,23 +3,28 @@ use mathlib.Core.Path.{_≡_, refl, sym, ap, ap₂, _∙_, subst}
 use mathlib.Core.Bool.{Bool, true, false, cond}
 use mathlib.Core.List.{List, []}
 use mathlib.Core.Logic.{_≢_, _⊎_, inl, inr}
-use Prim.Native.Nat.{ℕ, _+_, _*_, _<_, _≤_}
+use mathlib.Core.Option.{none, some}
+use Prim.Native.Nat.{ℕ, zero, suc, _+_, _*_, _<_, _≤_}
 use native.Mathlib.Omega.{arith}
+use borrow.Author.Tests.{ne-eqb}
 use lib.Dec.{eqb}
 use lib.ListN.{length, getD, replicate}
+use Rattle.erasure.specs.ContradictionLaws.{Sums, sums-of}
 use Rattle.erasure.specs.Largest.{stays-lost}
 use Rattle.erasure.specs.OldBytes.{old-bytes, old-bytes-cleared}
-use Rattle.erasure.specs.OutcomeLaws.{tally-lost, tally-restored, start-length, start-sized, outcome-length, outcome-sized, sums-of, none-lost, part-joined}
-use Rattle.erasure.specs.Restoring.{Largest, lostPlaces, zeroLost, consistent, tally, outcome, agreeing, isLost}
+use Rattle.erasure.specs.OutcomeLaws.{tally-lost, tally-restored, start-length, start-sized, outcome-length, outcome-sized, none-lost, part-joined}
+use Rattle.erasure.specs.Restoring.{State, Largest, lostPlaces, noneLost, zeroLost, contradiction, tally, outcome, contradicting, agreeing, isLost}
 use Rattle.erasure.specs.RestoringLaws.{restoring-same, restoring-mark}
 use Rattle.erasure.specs.Stopping.{lostIn}
 use Rattle.erasure.specs.Tally.{restoredIn, restored-and-lost}
 use Rattle.erasure.specs.Values.{received-kept, left-zero, restored, no-contradiction, zeroLost-kept, zeroLost-zero}
+use Rattle.faults.specs.FaultLaws.{some-fault, first-fault}
+use Rattle.faults.specs.Faults.{Fault, noFault, FirstFault}
 use Rattle.lists.specs.ListLaws.{all-map}
 use Rattle.lists.specs.Lists.{All}
 use Rattle.lists.specs.Tests.{eqb-true, eqb-false, byBool}
-use Rattle.repair.specs.Repair.{repairRefusal, repairAnswerAt, repairAnswer, repairBlockAfter, repairMapAfter, Fitting, Agree}
-use Rattle.repair.specs.RepairLaws.{fitting-refusal, accepted-fits, contradicted-fits, bytes-all, byte-at, block-accepted, block-contradicted, map-accepted, map-refused}
+use Rattle.repair.specs.Repair.{repairRefusal, handedOn, repairAnswerAt, repairAnswer, repairBlockAfter, repairMapAfter, Fitting, Agree}
+use Rattle.repair.specs.RepairLaws.{fitting-refusal, accepted-fits, contradicted-fits, none-handed, bytes-all, byte-at, block-accepted, block-contradicted, map-accepted, map-refused}
 use Rattle.table.specs.Codewords.{IsCodeword}
 use Rattle.table.specs.PacketCall.{partAt}
 use Rattle.table.specs.PacketLaws.{packets-length, packets-sized, joined-packets, joined-length, packet-at}
@@ -50,8 +55,15 @@ pub record Repairing (t b map w : List ℕ) : Type 0 where
   -- every restored packet is the codeword's, and every received one
   pub values : (p : ℕ) → p < places t → getD (repairMapAfter t b map) p 0 ≢ 1 → partAt (size t) p (repairBlockAfter t b map) ≡ partAt (size t) p w
 
+-- the check and byte that repair reports
+abbrev pub reported : List ℕ → List ℕ → List ℕ → Fault
+reported t b map = record { check = repairAnswer t b map .check; byte = repairAnswer t b map .byte }
+
 -- packets that contradict
 pub record Contradicted (t b map : List ℕ) : Type 0 where
+  -- the check that is reported "is the lowest that fails after restoring, among those then without a lost place": it has none, its sum
+  -- isn't zero at the byte and is zero below it, and every lower check without a lost place sums to zero
+  pub first : FirstFault (noneLost (outcome t b map .map)) (size t) (outcome t b map .block) (checks t) (reported t b map)
   -- come from no codeword
   pub no-codeword : (w : List ℕ) → IsCodeword t w → Agree t b map w → ⊥
   pub received : (p : ℕ) → p < places t → getD map p 0 ≡ 0 → partAt (size t) p (repairBlockAfter t b map) ≡ partAt (size t) p b
@@ -94,7 +106,7 @@ module _ (t b map : List ℕ) (ok : repairRefusal t b map ≡ 0) where
   counts-add : restoredIn (outcome t b map .map) + lostIn (outcome t b map .map) ≡ lostIn map
   counts-add = restored-and-lost (places t) (size t) (checks t) (packets (size t) (places t) b) map (bytes-all map (fits .map-bytes))
 
-  sums-checked : All (λ c. length (lostPlaces (outcome t b map .map) c) ≡ 0 → packetSum (size t) (outcome t b map .block) c ≡ replicate (size t) 0) (checks t)
+  sums-checked : Sums (size t) (checks t) (outcome t b map)
   sums-checked = sums-of (size t) (outcome t b map) (checks t) (accepted-fits t b map ok .1)
 
   pub accepted-repair : AcceptedRepair t b map
@@ -135,6 +147,7 @@ module _ (t b map w : List ℕ) (f : Fitting t b map) (word : IsCodeword t w) (a
 
 pub contradicted-repair : (t b map : List ℕ) → repairRefusal t b map ≡ 8 → Contradicted t b map
 contradicted-repair t b map h = record {
+  first = first-fault (noneLost (outcome t b map .map)) (size t) (outcome t b map .block) (outcome-sized t b map (fits .table) (fits .block)) (checks t) low (reported t b map) is-reported;
   no-codeword = λ w word agree. let z : _≡_ {A = ℕ} 8 0 = sym h ∙ repairing t b map w fits word agree .not-refused in omega arith;
   received = λ p k e. part p k ∙ zeroLost-kept (size t) map (packets (size t) (places t) b) p (not-lost map p e) ∙ packet-at (size t) (places t) b p k;
   zeroed = λ p k e. part p k ∙ zeroLost-zero (size t) map (packets (size t) (places t) b) p (subst (λ x. p < x) (sym (packets-length (size t) (places t) b)) k) (is-lost map p e);
@@ -144,8 +157,23 @@ contradicted-repair t b map h = record {
     fits : Fitting t b map
     fits = contradicted-fits t b map h .0
 
+    low : All (λ c. All (λ p. p < length (outcome t b map .block)) c) (checks t)
+    low = subst (λ k. All (λ c. All (λ p. p < k) c) (checks t)) (sym (outcome-length t b map (fits .table) (fits .block))) (accepted t (fits .table) .low)
+
+    -- what contradicts is reported
+    is-reported : contradicting t b map ≡ some (reported t b map)
+    is-reported = some-fault (contradicting t b map) (contradicted-fits t b map h .1) ∙ rw h
+
     part : (p : ℕ) → p < places t → partAt (size t) p (repairBlockAfter t b map) ≡ getD (zeroLost (size t) map (packets (size t) (places t) b)) p []
     part p k = ap (partAt (size t) p) (block-contradicted t b map h) ∙ part-joined (size t) (places t) _ (start-length t b map (fits .table) (fits .block)) (start-sized t b map (fits .table) (fits .block)) p k
+
+-- no other answer has a check or a byte
+pub none-reported : (t b map : List ℕ) → repairRefusal t b map ≢ 8 → (repairAnswer t b map .check ≡ 0) × (repairAnswer t b map .byte ≡ 0)
+none-reported t b map ne = rw (none-handed (repairRefusal t b map) (contradicting t b map) (ne-eqb (repairRefusal t b map) 8 ne)) (at (repairRefusal t b map) (outcome t b map))
+  where
+    at : (r : ℕ) (m : State) → (repairAnswerAt r m none .check ≡ 0) × (repairAnswerAt r m none .byte ≡ 0)
+    at zero m = (refl, refl)
+    at (suc r) m = (refl, refl)
 
 -- "Old bytes at lost places never count": blocks with the same received packets come to the same answer, block and map
 pub record Alike (t b c map : List ℕ) : Type 0 where
@@ -164,15 +192,19 @@ module _ (t b c map : List ℕ) (fits : Fitting t b map) (long : length c ≡ le
   fits-too : Fitting t c map
   fits-too = record { table = fits .table; block = long ∙ fits .block; map-length = fits .map-length; map-bytes = fits .map-bytes }
 
+  contradict-alike : contradicting t b map ≡ contradicting t c map
+  contradict-alike = ap (contradiction (size t) (checks t)) (old-bytes t b c map same)
+
   agree-alike : agreeing t b map ≡ agreeing t c map
-  agree-alike = ap (consistent (size t) (checks t)) (old-bytes t b c map same)
+  agree-alike = ap noFault contradict-alike
 
   refused-alike : repairRefusal t b map ≡ repairRefusal t c map
   refused-alike = fitting-refusal t b map fits ∙ ap (λ (v : Bool). cond v 0 8) agree-alike ∙ sym (fitting-refusal t c map fits-too)
 
   pub old-bytes-never-count : Alike t b c map
   old-bytes-never-count = record {
-    answer = ap₂ repairAnswerAt refused-alike (old-bytes t b c map same);
+    answer = ap₂ (λ r m. repairAnswerAt r m (handedOn r (contradicting t b map))) refused-alike (old-bytes t b c map same)
+        ∙ ap (λ f. repairAnswerAt (repairRefusal t c map) (outcome t c map) (handedOn (repairRefusal t c map) f)) contradict-alike;
     block = byBool (agreeing t b map)
         (λ v. block-accepted t b map (passed v) ∙ ap (λ m. joined (m .block)) (old-bytes t b c map same) ∙ sym (block-accepted t c map (sym refused-alike ∙ passed v)))
         (λ v. block-contradicted t b map (failed v) ∙ ap joined (old-bytes-cleared t b c map same) ∙ sym (block-contradicted t c map (sym refused-alike ∙ failed v)));

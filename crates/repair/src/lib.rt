@@ -4,14 +4,17 @@ ghost use mathlib.Core.Path.{_≡_};
 ghost use lib.Dec.{ltb};
 ghost use Rattle.lists.specs.Lists.{anyOf};
 ghost use Rattle.table.specs.Accepted.{Accepted};
-ghost use Rattle.repair.specs.Repair.{Answers, Fitting};
+ghost use Rattle.repair.specs.Repair.{Answers, Fitting, repairAnswerOf, refusedWith};
 
-// What repair reports: the refusal, 0 for none, and the counts.
+// What repair reports: the refusal, 0 for none, the counts, and with refusal 8 the lowest check that
+// fails after restoring and the lowest byte of its sum that isn't zero.
 pub struct Repaired {
     pub refusal: u32,
     pub restored: u32,
     pub lost: u32,
     pub additions: u32,
+    pub check: u32,
+    pub byte: u32,
 }
 
 // a map byte over 1
@@ -28,18 +31,17 @@ fn over_one(map: &[u8]) -> bool
     false
 }
 
-// a refusal, counts 0
-fn refused(refusal: u32) -> Repaired
-    ensures { λ r. ⌜ (r .refusal ≡ refusal)
-        × (r .restored ≡ 0)
-        × (r .lost ≡ 0)
-        × (r .additions ≡ 0) ⌝ }
+// a refusal, counts 0, with a check and its byte
+fn refused(refusal: u32, check: u32, byte: u32) -> Repaired
+    ensures { λ r. ⌜ repairAnswerOf r ≡ refusedWith refusal check byte ⌝ }
 {
     Repaired {
         refusal: refusal,
         restored: 0,
         lost: 0,
         additions: 0,
+        check: check,
+        byte: byte,
     }
 }
 
@@ -63,9 +65,11 @@ fn repair_packets(
             restored: done.restored,
             lost: done.lost,
             additions: done.additions,
+            check: 0,
+            byte: 0,
         };
     }
-    refused(8)
+    refused(8, done.check, done.byte)
 }
 
 // Restores what the checks can restore of the lost places.
@@ -74,18 +78,18 @@ pub fn repair(t: &[u16], block: &mut [u8], map: &mut [u8]) -> Repaired
 {
     let refusal = table::look_over(t);
     if refusal != 0 {
-        return refused(refusal);
+        return refused(refusal, 0, 0);
     }
     let n = wide(t[1]);
     let s = wide(t[2]);
     if block.len() != n * s {
-        return refused(5);
+        return refused(5, 0, 0);
     }
     if map.len() != n {
-        return refused(5);
+        return refused(5, 0, 0);
     }
     if over_one(map) {
-        return refused(7);
+        return refused(7, 0, 0);
     }
     repair_packets(t, wide(t[3]), n, s, block, map)
 }

@@ -25,18 +25,26 @@ fn print_counts(answer: Repaired) {
     );
 }
 
+// Says that packets contradict, and which check fails at which byte.
+fn say_contradict(answer: Repaired) {
+    text::print_count(libc::STDERR_FILENO, b"refused ", CONTRADICT as u64, b": ");
+    text::print_fault(libc::STDERR_FILENO, answer.check as u64, answer.byte as u64);
+}
+
 // Says the refusal. Packets that contradict have left zeros at the lost places.
-fn refuse(number: u32, block: &[u8]) {
-    text::say_refused(number);
-    if number == CONTRADICT {
+fn refuse(answer: Repaired, block: &[u8]) {
+    if answer.refusal == CONTRADICT {
+        say_contradict(answer);
         text::write_argument(2, block);
+        return;
     }
+    text::say_refused(answer.refusal);
 }
 
 fn repair_block(table: &[u16], block: &mut [u8], map: &mut [u8]) {
     let answer = repair::repair(table, block, map);
     if answer.refusal != 0 {
-        refuse(answer.refusal, block);
+        refuse(answer, block);
         return;
     }
     if !text::write_argument(2, block) {

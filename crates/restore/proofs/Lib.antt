@@ -1,3 +1,2 @@
-pub mod Agreeing
 pub mod Passing
 pub mod Settling

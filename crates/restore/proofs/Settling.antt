@@ -1,7 +1,8 @@
 -- What the core tells and leaves, from what its parts leave.
 use mathlib.Core.Path.{_≡_, sym, ap, ap₂, _∙_, subst}
-use mathlib.Core.Bool.{Bool, true, false}
+use mathlib.Core.Bool.{true, false}
 use mathlib.Core.List.{List, []}
+use mathlib.Core.Option.{none, some}
 use Prim.Native.Nat.{ℕ, _+_, _-_, _*_, _<_, _≤_}
 use native.Mathlib.Omega.{arith}
 use lib.ListN.{length, getD, take, drop}
@@ -14,10 +15,11 @@ use Rattle.lists.specs.Lists.{written}
 use Rattle.table.specs.Table.{places, size, checks}
 use Rattle.table.specs.Accepted.{Accepted}
 use Rattle.erasure.specs.OutcomeLaws.{start-length, start-sized, outcome-length, outcome-sized, tally-fewer}
-use Rattle.erasure.specs.Restoring.{zeroLost, restoring, consistent, tally, outcome, agreeing, isLost}
-use Rattle.restore.specs.Mending.{Mends}
+use Rattle.erasure.specs.Restoring.{zeroLost, restoring, contradiction, tally, outcome, contradicting, isLost}
+use Rattle.restore.specs.Mending.{faultTold, Mends}
 use Rattle.erasure.specs.Turns.{Restored, stateOf}
 use Rattle.erasure.specs.Values.{received-kept, zeroLost-length, zeroLost-kept, zeroLost-zero}
+use Rattle.restore.specs.declared.Judged.{Judged}
 use Rattle.restore.specs.declared.Mended.{Mended}
 
 -- ---- zeroing again gives the start again
@@ -72,37 +74,38 @@ module _ (t : List ℕ) (m n s : ℕ) (k : Accepted t m n s) (b l : List ℕ) (l
   packets-after = ap₂ (λ x y. packets y x b₂) (k .places-are) (k .size-is) ∙ ap (packets (size t) (places t)) block-then
       ∙ ap (λ x. packets (size t) x (joined (outcome t b l .block))) (sym (outcome-length t b l (k .accepted) fits)) ∙ joined-packets (size t) (outcome-sized t b l (k .accepted) fits)
 
-  look-then : consistent s (checks t) (stateOf s n b₂ l₂ 0) ≡ agreeing t b l
-  look-then = ap₂ (λ ps x. consistent s (checks t) (record { block = ps; map = x; adds = 0 })) packets-after map-then
-      ∙ ap (λ x. consistent x (checks t) (outcome t b l)) (k .size-is)
+  look-then : contradiction s (checks t) (stateOf s n b₂ l₂ 0) ≡ contradicting t b l
+  look-then = ap₂ (λ ps x. contradiction s (checks t) (record { block = ps; map = x; adds = 0 })) packets-after map-then
+      ∙ ap (λ x. contradiction x (checks t) (outcome t b l)) (k .size-is)
 
   -- the map has no more lost places than before
   pub fewer : tally 1 l₂ ≤ tally 1 l
   fewer = rw map-then (tally-fewer t b l)
 
-  module _ (look : Bool) (looked : look ≡ consistent s (checks t) (stateOf s n b₂ l₂ 0)) where
+  module _ (look : Judged) (looked : faultTold look ≡ contradiction s (checks t) (stateOf s n b₂ l₂ 0)) where
     -- no contradiction
-    pub settled : look ≡ true → (r : Mended) → r .agrees ≡ true → r .restored ≡ tally 1 l - tally 1 l₂ → r .lost ≡ tally 1 l₂ → r .additions ≡ adds → Mends t b l r b₂ l₂
-    settled pass r e1 e2 e3 e4 =
-        let ok : agreeing t b l ≡ true = sym (looked ∙ look-then) ∙ pass in
+    pub settled : look .agrees ≡ true → (r : Mended) → r .agrees ≡ true → r .restored ≡ tally 1 l - tally 1 l₂ → r .lost ≡ tally 1 l₂ → r .additions ≡ adds
+        → r .check ≡ 0 → r .byte ≡ 0 → Mends t b l r b₂ l₂
+    settled pass r e1 e2 e3 e4 e5 e6 =
+        let ok : contradicting t b l ≡ none = sym (looked ∙ look-then) ∙ rw pass in
         let a : adds ≡ outcome t b l .adds = done .adds-are ∙ ap (λ st. st .adds) state-then in
         record {
-          report = rw (ok, e1, e2, e3, e4, map-then, a);
+          report = rw (ok, e1, e2, e3, e4, e5, e6, map-then, a);
           block-is = rw ok block-then;
           map-is = rw ok map-then;
         }
 
     -- a contradiction: the map is put back and lost places zeroed again
-    pub unsettled : look ≡ false → (l₃ b₃ : List ℕ) → l₃ ≡ l → b₃ ≡ joined (zeroLost s l₃ (packets s n b₂))
-        → (r : Mended) → r .agrees ≡ false → r .restored ≡ 0 → r .lost ≡ 0 → r .additions ≡ 0 → Mends t b l r b₃ l₃
-    unsettled fail l₃ b₃ back g r e1 e2 e3 e4 =
-        let bad : agreeing t b l ≡ false = sym (looked ∙ look-then) ∙ fail in
+    pub unsettled : look .agrees ≡ false → (l₃ b₃ : List ℕ) → l₃ ≡ l → b₃ ≡ joined (zeroLost s l₃ (packets s n b₂))
+        → (r : Mended) → r .agrees ≡ false → r .restored ≡ 0 → r .lost ≡ 0 → r .additions ≡ 0 → r .check ≡ look .check → r .byte ≡ look .byte → Mends t b l r b₃ l₃
+    unsettled fail l₃ b₃ back g r e1 e2 e3 e4 e5 e6 =
+        let bad : contradicting t b l ≡ some (record { check = look .check; byte = look .byte }) = sym (looked ∙ look-then) ∙ rw fail in
         let again : zeroLost s l₃ (packets s n b₂) ≡ zeroLost (size t) l (packets (size t) (places t) b) =
         ap₂ (λ x y. zeroLost x y (packets s n b₂)) (k .size-is) back ∙ ap (zeroLost (size t) l) packets-after
         ∙ zero-same (size t) l (outcome t b l .block) (packets (size t) (places t) b) (outcome-length t b l (k .accepted) fits ∙ sym (packets-length (size t) (places t) b))
         (received-kept (places t) (size t) (checks t) (packets (size t) (places t) b) l) in
         record {
-          report = rw (bad, e1, e2, e3, e4);
+          report = rw (bad, e1, e2, e3, e4, e5, e6);
           block-is = rw bad (g ∙ ap joined again);
           map-is = rw bad back;
         }

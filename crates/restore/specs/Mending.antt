@@ -1,16 +1,24 @@
 -- What the core tells, and what it leaves in block and map.
 use mathlib.Core.Path.{_≡_}
+use mathlib.Core.Bool.{true, false}
 use mathlib.Core.List.{List}
+use mathlib.Core.Option.{Option, none, some}
 use Prim.Native.Nat.{ℕ}
-use Rattle.erasure.specs.Restoring.{Counts, outcome, agreeing, countsIf, blockIf, mapIf}
+use Rattle.erasure.specs.Restoring.{Counts, outcome, contradicting, agreeing, countsIf, blockIf, mapIf}
+use Rattle.faults.specs.Faults.{Fault}
+use Rattle.restore.specs.declared.Judged.{Judged}
 use Rattle.restore.specs.declared.Mended.{Mended}
+
+-- what the look at the checks tells
+abbrev pub faultTold : Judged → Option Fault
+faultTold r = elim (r .agrees) [ true ↦ none | false ↦ some (record { check = r .check; byte = r .byte }) ]
 
 -- what the code tells
 abbrev pub countsOf : Mended → Counts
-countsOf r = record { agrees = r .agrees; restored = r .restored; lost = r .lost; additions = r .additions }
+countsOf r = record { agrees = r .agrees; restored = r .restored; lost = r .lost; additions = r .additions; check = r .check; byte = r .byte }
 
 -- what the core tells, and what it leaves in block and map
 pub record Mends (t b map : List ℕ) (r : Mended) (b′ map′ : List ℕ) : Type 0 where
-  pub report : countsOf r ≡ countsIf (agreeing t b map) map (outcome t b map)
+  pub report : countsOf r ≡ countsIf (contradicting t b map) map (outcome t b map)
   pub block-is : b′ ≡ blockIf (agreeing t b map) t b map
   pub map-is : map′ ≡ mapIf (agreeing t b map) t b map

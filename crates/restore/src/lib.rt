@@ -11,24 +11,34 @@ ghost use Rattle.table.specs.Checks.{Starts};
 ghost use Rattle.table.specs.Table.{checks};
 ghost use Rattle.table.specs.Accepted.{Accepted};
 ghost use Rattle.chains.specs.Linked.{Counted};
-ghost use Rattle.erasure.specs.Restoring.{consistent};
+ghost use Rattle.erasure.specs.Restoring.{contradiction};
 ghost use Rattle.erasure.specs.Turns.{Restored, stateOf};
 ghost use Rattle.turns.specs.Spent.{Spent};
-ghost use Rattle.restore.specs.Mending.{Mends};
+ghost use Rattle.restore.specs.Mending.{faultTold, Mends};
 
-// What restoring comes to: whether every check without a lost place sums to zero, and the counts, 0
-// if not.
+// What restoring comes to: whether every check without a lost place sums to zero, and the counts. If
+// not, counts are 0, and check and byte tell the lowest that doesn't; else these are 0.
 pub struct Mended {
     pub agrees: bool,
     pub restored: u32,
     pub lost: u32,
     pub additions: u32,
+    pub check: u32,
+    pub byte: u32,
 }
 
 // ---- the look at the checks
 
-// every check without a lost place sums to zero; those that restored a place do
-fn agrees(
+// whether every check without a lost place sums to zero; if not, the lowest that doesn't, and the
+// lowest byte of its sum that isn't zero
+pub struct Judged {
+    pub agrees: bool,
+    pub check: u32,
+    pub byte: u32,
+}
+
+// looks at the checks without a lost place; those that restored a place sum to zero
+fn judge(
     t: &[u16],
     m: usize,
     n: usize,
@@ -37,7 +47,7 @@ fn agrees(
     map: &[u8],
     count: &[u16],
     used: &[u8],
-) -> bool
+) -> Judged
     requires { ⌜
         Accepted (now t) m n s
         × (length (now block) ≡ n * s)
@@ -45,29 +55,38 @@ fn agrees(
         × Counted (now t) m (now map) (now count)
         × Spent (now t) m n s (now block) (now map) (now used)
         ⌝ }
-    ensures { λ r. ⌜ r ≡ consistent s (checks (now (t .entry))) (stateOf s n (now (block .entry)) (now (map .entry)) 0) ⌝ }
+    ensures { λ r. ⌜ faultTold r ≡ contradiction s (checks (now (t .entry))) (stateOf s n (now (block .entry)) (now (map .entry)) 0) ⌝ }
 {
     let mut at = 5 + m;
     let mut j = 0;
     while j < m {
         let w = wide(t[4 + j]);
         if marks::to_sum(count[j], used[j]) {
-            if sums::sum_of_check(t, at, w, block, n, s) != s {
-                return false;
+            let low = sums::sum_of_check(t, at, w, block, n, s);
+            if low != s {
+                return Judged {
+                    agrees: false,
+                    check: j as u32,
+                    byte: low as u32,
+                };
             }
         }
         at += w;
         j += 1;
     }
-    true
+    Judged {
+        agrees: true,
+        check: 0,
+        byte: 0,
+    }
 }
 
 // ---- restoring
 
-// the additions of all turns, and whether every check without a lost place then sums to zero
+// the additions of all turns, and what the look at the checks after them finds
 pub struct Turned {
     pub adds: usize,
-    pub agrees: bool,
+    pub judged: Judged,
 }
 
 // all turns, with counts and chains made first, and the look at the checks after them
@@ -86,7 +105,7 @@ pub fn restore_lost(
         × (length (now map) ≡ n) ⌝ }
     ensures { λ r. ⌜
         Restored n s (checks (now (t .entry))) (now (block .entry)) (now (map .entry)) (now (block .exit)) (now (map .exit)) (r .adds)
-        × (r .agrees ≡ consistent s (checks (now (t .entry))) (stateOf s n (now (block .exit)) (now (map .exit)) 0))
+        × (faultTold (r .judged) ≡ contradiction s (checks (now (t .entry))) (stateOf s n (now (block .exit)) (now (map .exit)) 0))
         ⌝ }
 {
     let mut count = [0u16; MOST_CHECKS];
@@ -110,22 +129,26 @@ pub fn restore_lost(
         map,
         &mut used,
     );
-    let agrees = agrees(t, m, n, s, block, map, &count, &used);
-    Turned { adds, agrees }
+    let judged = judge(t, m, n, s, block, map, &count, &used);
+    Turned { adds, judged }
 }
 
-// a contradiction, counts 0
-fn contradicted() -> Mended
+// a contradiction, at this check and byte
+fn contradicted(check: u32, byte: u32) -> Mended
     ensures { λ r. ⌜ (r .agrees ≡ false)
         × (r .restored ≡ 0)
         × (r .lost ≡ 0)
-        × (r .additions ≡ 0) ⌝ }
+        × (r .additions ≡ 0)
+        × (r .check ≡ check)
+        × (r .byte ≡ byte) ⌝ }
 {
     Mended {
         agrees: false,
         restored: 0,
         lost: 0,
         additions: 0,
+        check: check,
+        byte: byte,
     }
 }
 
@@ -136,13 +159,17 @@ fn counted(before: u32, after: u32, adds: usize) -> Mended
     ensures { λ r. ⌜ (r .agrees ≡ true)
         × (r .restored ≡ before - after)
         × (r .lost ≡ after)
-        × (r .additions ≡ adds) ⌝ }
+        × (r .additions ≡ adds)
+        × (r .check ≡ 0)
+        × (r .byte ≡ 0) ⌝ }
 {
     Mended {
         agrees: true,
         restored: before - after,
         lost: after,
         additions: adds as u32,
+        check: 0,
+        byte: 0,
     }
 }
 
@@ -168,10 +195,10 @@ pub fn restore_packets(
     let before = marks::tally_of(map, 1);
     marks::zero_lost(block, map, n, s);
     let done = restore_lost(t, m, n, s, &starts, block, map);
-    if done.agrees {
+    if done.judged.agrees {
         return counted(before, marks::tally_of(map, 1), done.adds);
     }
     packets::copy(map, 0, &saved, 0, n);
     marks::zero_lost(block, map, n, s);
-    contradicted()
+    contradicted(done.judged.check, done.judged.byte)
 }

@@ -26,6 +26,10 @@ module _ (t b : List ℕ) (n s a w : ℕ) (c : CheckIn t a w b n s) (x : List �
   long : length (packetSum s (packets s n b) (take w (drop a t))) ≡ s
   long = sum-length t a w b n s c
 
+  -- as a byte of the check
+  pub sum-byte : r ≡ lowestNonzero (packetSum s (packets s n b) x)
+  sum-byte = sum ∙ ap (λ y. lowestNonzero (packetSum s (packets s n b) y)) is
+
   pub sum-zero : r ≡ s → zeroSum s (packets s n b) x ≡ true
   sum-zero e = subst (λ y. zeroSum s (packets s n b) y ≡ true) is
       (subst (λ k. sameList (packetSum s (packets s n b) (take w (drop a t))) (replicate k 0) ≡ true) long

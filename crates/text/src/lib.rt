@@ -61,6 +61,12 @@ pub fn say_refused(number: u32) {
     print_count(libc::STDERR_FILENO, b"refused ", number as u64, b"\n");
 }
 
+// Says which check fails, and at which byte of its sum.
+pub fn print_fault(fd: i32, check: u64, byte: u64) {
+    print_count(fd, b"check ", check, b" fails");
+    print_count(fd, b" at byte ", byte, b"\n");
+}
+
 // Says on standard error that an argument's file has too many bytes.
 fn say_overlong(number: usize, most: usize) {
     print_count(libc::STDERR_FILENO, b"argument ", number as u64, b": ");

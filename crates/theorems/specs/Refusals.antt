@@ -12,8 +12,9 @@ use Rattle.table.specs.PacketCall.{packetCauses, packetRefusal}
 use Rattle.plan.specs.Layout.{planCauses, planRefusal}
 use Rattle.planner.specs.Planning.{planningCauses, planningRefusalAt, planningAnswer, planningAnswerAt, planningRefusal}
 use Rattle.encoder.specs.Encoding.{encodeCauses, encodeRefusalAt, encodeAnswer, encodeAnswerAt, encodeRefusal}
-use Rattle.repair.specs.Repair.{repairCauses, repairRefusal, repairAnswer, repairAnswerAt}
-use Rattle.erasure.specs.Restoring.{State, outcome}
+use Rattle.repair.specs.Repair.{repairCauses, repairRefusal, handedOn, repairAnswer, repairAnswerAt}
+use Rattle.erasure.specs.Restoring.{State, outcome, contradicting}
+use Rattle.faults.specs.Faults.{Fault}
 use Rattle.verify.specs.Verify.{verifyCauses, verifyRefusal, verifyAnswer, verifyAnswerAt}
 use Rattle.verify.specs.VerifyLaws.{lowest}
 
@@ -34,19 +35,19 @@ pub verify-refusals : (t b : List ℕ) → RefusedBy (verifyAnswer t b .refusal)
 unfolding verifyRefusal
 verify-refusals t b = subst (λ r. RefusedBy r (verifyCauses t b)) (sym (told (verifyRefusal t b) (lowest t b))) (refused-by (verifyCauses t b) refl)
   where
-    told : (r : ℕ) (v : Option ℕ) → verifyAnswerAt r v .refusal ≡ r
+    told : (r : ℕ) (v : Option Fault) → verifyAnswerAt r v .refusal ≡ r
     told zero none = refl
-    told zero (some k) = refl
+    told zero (some f) = refl
     told (suc r) v = refl
 
 -- 1 to 5, 7, 8, as repair reports it
 pub repair-refusals : (t b map : List ℕ) → RefusedBy (repairAnswer t b map .refusal) (repairCauses t b map)
 unfolding repairRefusal
-repair-refusals t b map = subst (λ r. RefusedBy r (repairCauses t b map)) (sym (told (repairRefusal t b map) (outcome t b map))) (refused-by (repairCauses t b map) refl)
+repair-refusals t b map = subst (λ r. RefusedBy r (repairCauses t b map)) (sym (told (repairRefusal t b map) (outcome t b map) (handedOn (repairRefusal t b map) (contradicting t b map)))) (refused-by (repairCauses t b map) refl)
   where
-    told : (r : ℕ) (m : State) → repairAnswerAt r m .refusal ≡ r
-    told zero m = refl
-    told (suc r) m = refl
+    told : (r : ℕ) (m : State) (f : Option Fault) → repairAnswerAt r m f .refusal ≡ r
+    told zero m f = refl
+    told (suc r) m f = refl
 
 -- 1 to 6, as the planner answers it
 pub planning-refusals : (t planBuffer work : List ℕ) → RefusedBy (planningAnswer t planBuffer work .refusal) (planningCauses t (length planBuffer) (length work))

@@ -1,13 +1,18 @@
--- The starred cases of document 01, "Worked tables": one table, proved by one statement about the definitions of the calls.
+-- The starred cases of document 01, "Worked tables", and the cases of the requests of document 02: one table, proved by one statement
+-- about the definitions of the calls.
 use mathlib.Core.Path.{_≡_, refl}
-use mathlib.Core.List.{List, [], _∷_, map}
+use mathlib.Core.Bool.{cond}
+use mathlib.Core.List.{List, [], _∷_, _++_, map}
 use Prim.Native.Nat.{ℕ, _+_, _-_, _*_}
-use lib.ListN.{length}
+use lib.ListN.{length, replicate}
+use Rattle.faults.specs.Faults.{checkOf, byteOf}
 use Rattle.plan.specs.Layout.{mostSteps}
 use Rattle.plan.specs.Step.{addSteps}
 use Rattle.planner.specs.Planning.{planOf, numbersOf, planningRefusalAt, leastPlan, workWords}
 use Rattle.encoder.specs.Encoding.{encodeRefusalAt, encodeAnswer, encodeBlockAfter}
 use Rattle.repair.specs.Repair.{repairRefusal, repairAnswer, repairBlockAfter, repairMapAfter}
+use Rattle.table.specs.Packets.{lowestNonzero}
+use Rattle.verify.specs.Verify.{verifyRefusal, verifyAnswer}
 
 -- ---- the tables and the block of P2
 abbrev tableA : List ℕ
@@ -26,6 +31,22 @@ table9 = 2 ∷ 1 ∷ 1 ∷ 1 ∷ 1 ∷ 1 ∷ 0 ∷ []
 abbrev table10 : List ℕ
 table10 = 2 ∷ 3 ∷ 1 ∷ 0 ∷ 0 ∷ []
 
+-- places 0, 1 and 2 of one byte; the lowest ready check restores place 1, then place 0
+abbrev table12 : List ℕ
+table12 = 2 ∷ 3 ∷ 1 ∷ 3 ∷ 2 ∷ 2 ∷ 1 ∷ 5 ∷ 0 ∷ 1 ∷ 1 ∷ 2 ∷ 0 ∷ []
+
+-- three places of 100 bytes; checks 0 and 0 1 2
+abbrev table100 : List ℕ
+table100 = 2 ∷ 3 ∷ 100 ∷ 2 ∷ 1 ∷ 3 ∷ 4 ∷ 0 ∷ 0 ∷ 1 ∷ 2 ∷ []
+
+-- a packet of 100 bytes, one of them not zero
+abbrev single : ℕ → ℕ → List ℕ
+single at v = replicate at 0 ++ (v ∷ replicate (99 - at) 0)
+
+-- zeros, then such a packet, then another
+abbrev sumAt : ℕ → ℕ → List ℕ
+sumAt i k = replicate 100 0 ++ (single k 0x03 ++ single i 0x05)
+
 abbrev block2 : List ℕ
 block2 = 0x01 ∷ 0x02 ∷ 0x04 ∷ 0x0e ∷ 0x08 ∷ 0x0b ∷ 0x0d ∷ []
 
@@ -43,10 +64,15 @@ abbrev pub encoded : List ℕ → List ℕ → List ℕ → List ℕ → List (L
 encoded t information buffer scratch = let r = encodeAnswer (numbersOf t) information buffer scratch mostSteps in
     planning t ∷ (r .refusal ∷ r .additions ∷ []) ∷ encodeBlockAfter (numbersOf t) information buffer scratch mostSteps ∷ []
 
--- repair: refusal, restored, still lost and additions, the block and the map
+-- repair: refusal, restored, still lost and additions, the check and its byte, the block and the map
 abbrev pub mended : List ℕ → List ℕ → List ℕ → List (List ℕ)
 mended t b map = let r = repairAnswer t b map in
-    (r .refusal ∷ r .restored ∷ r .lost ∷ r .additions ∷ []) ∷ repairBlockAfter t b map ∷ repairMapAfter t b map ∷ []
+    (r .refusal ∷ r .restored ∷ r .lost ∷ r .additions ∷ []) ∷ (r .check ∷ r .byte ∷ []) ∷ repairBlockAfter t b map ∷ repairMapAfter t b map ∷ []
+
+-- verification: refusal, 1 for a codeword and 0 for none, the check and its byte
+abbrev pub verified : List ℕ → List ℕ → List (List ℕ)
+verified t b = let r = verifyAnswer t b in
+    (r .refusal ∷ cond (r .codeword) 1 0 ∷ []) ∷ (checkOf (r .fault) ∷ byteOf (r .fault) ∷ []) ∷ []
 
 -- "bound 0": 2(W − M) + g(g + 1)
 abbrev bound : List ℕ → ℕ
@@ -66,21 +92,25 @@ starred =
     -- P3: B with a5
     ∷ record { given = encoded tableB (0xa5 ∷ []) (9 ∷ 9 ∷ 9 ∷ 9 ∷ []) (9 ∷ []); wanted = (0 ∷ []) ∷ (0 ∷ 9 ∷ []) ∷ (0x00 ∷ 0xa5 ∷ 0xa5 ∷ 0xa5 ∷ []) ∷ [] }
     -- P4: lost 3, 5, 6: all restored, 9 additions
-    ∷ record { given = mended tableA (0x01 ∷ 0x02 ∷ 0x04 ∷ 0xff ∷ 0x08 ∷ 0xff ∷ 0xff ∷ []) (0 ∷ 0 ∷ 0 ∷ 1 ∷ 0 ∷ 1 ∷ 1 ∷ []); wanted = (0 ∷ 3 ∷ 0 ∷ 9 ∷ []) ∷ block2 ∷ (0 ∷ 0 ∷ 0 ∷ 2 ∷ 0 ∷ 2 ∷ 2 ∷ []) ∷ [] }
+    ∷ record { given = mended tableA (0x01 ∷ 0x02 ∷ 0x04 ∷ 0xff ∷ 0x08 ∷ 0xff ∷ 0xff ∷ []) (0 ∷ 0 ∷ 0 ∷ 1 ∷ 0 ∷ 1 ∷ 1 ∷ []); wanted = (0 ∷ 3 ∷ 0 ∷ 9 ∷ []) ∷ (0 ∷ 0 ∷ []) ∷ block2 ∷ (0 ∷ 0 ∷ 0 ∷ 2 ∷ 0 ∷ 2 ∷ 2 ∷ []) ∷ [] }
     -- P5: lost 2, 4, 5: none restored, 0 additions
-    ∷ record { given = mended tableA (0x01 ∷ 0x02 ∷ 0xff ∷ 0x0e ∷ 0xff ∷ 0xff ∷ 0x0d ∷ []) (0 ∷ 0 ∷ 1 ∷ 0 ∷ 1 ∷ 1 ∷ 0 ∷ []); wanted = (0 ∷ 0 ∷ 3 ∷ 0 ∷ []) ∷ (0x01 ∷ 0x02 ∷ 0x00 ∷ 0x0e ∷ 0x00 ∷ 0x00 ∷ 0x0d ∷ []) ∷ (0 ∷ 0 ∷ 1 ∷ 0 ∷ 1 ∷ 1 ∷ 0 ∷ []) ∷ [] }
+    ∷ record { given = mended tableA (0x01 ∷ 0x02 ∷ 0xff ∷ 0x0e ∷ 0xff ∷ 0xff ∷ 0x0d ∷ []) (0 ∷ 0 ∷ 1 ∷ 0 ∷ 1 ∷ 1 ∷ 0 ∷ []); wanted = (0 ∷ 0 ∷ 3 ∷ 0 ∷ []) ∷ (0 ∷ 0 ∷ []) ∷ (0x01 ∷ 0x02 ∷ 0x00 ∷ 0x0e ∷ 0x00 ∷ 0x00 ∷ 0x0d ∷ []) ∷ (0 ∷ 0 ∷ 1 ∷ 0 ∷ 1 ∷ 1 ∷ 0 ∷ []) ∷ [] }
     -- P6: lost 2, 4, 6 under A: none restored
-    ∷ record { given = mended tableA (0x01 ∷ 0x02 ∷ 0xff ∷ 0x0e ∷ 0xff ∷ 0x0b ∷ 0xff ∷ []) (0 ∷ 0 ∷ 1 ∷ 0 ∷ 1 ∷ 0 ∷ 1 ∷ []); wanted = (0 ∷ 0 ∷ 3 ∷ 0 ∷ []) ∷ (0x01 ∷ 0x02 ∷ 0x00 ∷ 0x0e ∷ 0x00 ∷ 0x0b ∷ 0x00 ∷ []) ∷ (0 ∷ 0 ∷ 1 ∷ 0 ∷ 1 ∷ 0 ∷ 1 ∷ []) ∷ [] }
+    ∷ record { given = mended tableA (0x01 ∷ 0x02 ∷ 0xff ∷ 0x0e ∷ 0xff ∷ 0x0b ∷ 0xff ∷ []) (0 ∷ 0 ∷ 1 ∷ 0 ∷ 1 ∷ 0 ∷ 1 ∷ []); wanted = (0 ∷ 0 ∷ 3 ∷ 0 ∷ []) ∷ (0 ∷ 0 ∷ []) ∷ (0x01 ∷ 0x02 ∷ 0x00 ∷ 0x0e ∷ 0x00 ∷ 0x0b ∷ 0x00 ∷ []) ∷ (0 ∷ 0 ∷ 1 ∷ 0 ∷ 1 ∷ 0 ∷ 1 ∷ []) ∷ [] }
     -- P7: with the fourth check M stays 3, all restored
-    ∷ record { given = planning tableA4 ∷ (planOf tableA4 .M ∷ []) ∷ mended tableA4 (0x01 ∷ 0x02 ∷ 0xff ∷ 0x0e ∷ 0xff ∷ 0x0b ∷ 0xff ∷ []) (0 ∷ 0 ∷ 1 ∷ 0 ∷ 1 ∷ 0 ∷ 1 ∷ []); wanted = (0 ∷ []) ∷ (3 ∷ []) ∷ (0 ∷ 3 ∷ 0 ∷ 9 ∷ []) ∷ block2 ∷ (0 ∷ 0 ∷ 2 ∷ 0 ∷ 2 ∷ 0 ∷ 2 ∷ []) ∷ [] }
-    -- P8: 11 at place 0, none lost: refusal 8
-    ∷ record { given = mended tableA (0x11 ∷ 0x02 ∷ 0x04 ∷ 0x0e ∷ 0x08 ∷ 0x0b ∷ 0x0d ∷ []) (0 ∷ 0 ∷ 0 ∷ 0 ∷ 0 ∷ 0 ∷ 0 ∷ []); wanted = (8 ∷ 0 ∷ 0 ∷ 0 ∷ []) ∷ (0x11 ∷ 0x02 ∷ 0x04 ∷ 0x0e ∷ 0x08 ∷ 0x0b ∷ 0x0d ∷ []) ∷ (0 ∷ 0 ∷ 0 ∷ 0 ∷ 0 ∷ 0 ∷ 0 ∷ []) ∷ [] }
+    ∷ record { given = planning tableA4 ∷ (planOf tableA4 .M ∷ []) ∷ mended tableA4 (0x01 ∷ 0x02 ∷ 0xff ∷ 0x0e ∷ 0xff ∷ 0x0b ∷ 0xff ∷ []) (0 ∷ 0 ∷ 1 ∷ 0 ∷ 1 ∷ 0 ∷ 1 ∷ []); wanted = (0 ∷ []) ∷ (3 ∷ []) ∷ (0 ∷ 3 ∷ 0 ∷ 9 ∷ []) ∷ (0 ∷ 0 ∷ []) ∷ block2 ∷ (0 ∷ 0 ∷ 2 ∷ 0 ∷ 2 ∷ 0 ∷ 2 ∷ []) ∷ [] }
+    -- P8: 11 at place 0, none lost: refusal 8, by check 0 at byte 0
+    ∷ record { given = mended tableA (0x11 ∷ 0x02 ∷ 0x04 ∷ 0x0e ∷ 0x08 ∷ 0x0b ∷ 0x0d ∷ []) (0 ∷ 0 ∷ 0 ∷ 0 ∷ 0 ∷ 0 ∷ 0 ∷ []); wanted = (8 ∷ 0 ∷ 0 ∷ 0 ∷ []) ∷ (0 ∷ 0 ∷ []) ∷ (0x11 ∷ 0x02 ∷ 0x04 ∷ 0x0e ∷ 0x08 ∷ 0x0b ∷ 0x0d ∷ []) ∷ (0 ∷ 0 ∷ 0 ∷ 0 ∷ 0 ∷ 0 ∷ 0 ∷ []) ∷ [] }
     -- P9: no information, block 00, 0 additions, bound 0
     ∷ record { given = (planOf table9 .info) ∷ (bound table9 ∷ []) ∷ encoded table9 [] (9 ∷ []) []; wanted = [] ∷ (0 ∷ []) ∷ (0 ∷ []) ∷ (0 ∷ 0 ∷ []) ∷ (0x00 ∷ []) ∷ [] }
     -- P10: three information places, no step
     ∷ record { given = planning table10 ∷ planOf table10 .info ∷ (length (planOf table10 .steps) ∷ []) ∷ []; wanted = (0 ∷ []) ∷ (0 ∷ 1 ∷ 2 ∷ []) ∷ (0 ∷ []) ∷ [] }
+    -- C-12: checks 0 1, 1 2 and 0, lost 0 and 1, 01 at place 2: refusal 8, by check 2 at byte 0
+    ∷ record { given = mended table12 (0xff ∷ 0xff ∷ 0x01 ∷ []) (1 ∷ 1 ∷ 0 ∷ []); wanted = (8 ∷ 0 ∷ 0 ∷ 0 ∷ []) ∷ (2 ∷ 0 ∷ []) ∷ (0x00 ∷ 0x00 ∷ 0x01 ∷ []) ∷ (1 ∷ 1 ∷ 0 ∷ []) ∷ [] }
+    -- C-12: verification, packets of 100 bytes, two of which sum to 05 at byte 70 and 03 at byte 80
+    ∷ record { given = verified table100 (sumAt 70 80); wanted = (0 ∷ 0 ∷ []) ∷ (1 ∷ 70 ∷ []) ∷ [] }
     ∷ []
 
 pub starred-cases : map (λ c. c .given) starred ≡ map (λ c. c .wanted) starred
-unfolding planningRefusalAt encodeRefusalAt repairRefusal planOf numbersOf
+unfolding planningRefusalAt encodeRefusalAt repairRefusal verifyRefusal lowestNonzero planOf numbersOf
 starred-cases = refl

@@ -1,28 +1,28 @@
 -- Verification (document 01, "Repair and the other calls"): "says that the block is a codeword, or gives the lowest check that
--- fails". Checks are numbered from 0.
+-- fails", by document 02, C-12, "with that byte": the lowest of its sum that isn't zero. Checks and bytes are numbered from 0.
 use mathlib.Core.Bool.{Bool, true, false}
 use mathlib.Core.List.{List, [], _∷_, _++_}
 use mathlib.Core.Option.{Option, none, some}
 use Prim.Native.Nat.{ℕ, zero, suc, _*_}
 use lib.ListN.{length}
-use Rattle.table.specs.Codewords.{zeroSum}
+use Rattle.faults.specs.Faults.{Fault, failing, everyCheck}
 use Rattle.table.specs.FirstCause.{firstCause, wrongLength}
 use Rattle.table.specs.Packets.{packets}
 use Rattle.table.specs.Table.{places, size, checks, tableCauses}
 use Rattle.verify.specs.declared.Verified.{Verified}
 use Rattle.verify.specs.declared.Verified.the-variants.{Refused, Codeword, Fails}
 
--- document 01's number and values of an answer: the refusal, 0 for none; whether the block is a codeword; the lowest check that
--- fails, if one does
+-- the papers' number and values of an answer: the refusal, 0 for none; whether the block is a codeword; the lowest check that
+-- fails and its byte, if one does
 pub record Values : Type 0 where
   pub refusal : ℕ
   pub codeword : Bool
-  pub check : Option ℕ
+  pub fault : Option Fault
 
 abbrev pub valuesOf : Verified → Values
-valuesOf (Refused r) = record { refusal = r; codeword = false; check = none }
-valuesOf Codeword = record { refusal = 0; codeword = true; check = none }
-valuesOf (Fails k) = record { refusal = 0; codeword = false; check = some k }
+valuesOf (Refused r) = record { refusal = r; codeword = false; fault = none }
+valuesOf Codeword = record { refusal = 0; codeword = true; fault = none }
+valuesOf (Fails k j) = record { refusal = 0; codeword = false; fault = some (record { check = k; byte = j }) }
 
 -- ---- the call: table t and block b of any length and content
 -- the causes in their order, 1 to 5; 5: the block isn't n·s bytes
@@ -32,19 +32,14 @@ verifyCauses t b = tableCauses t ++ ((wrongLength (length b) (places t * size t)
 unfoldable pub verifyRefusal : List ℕ → List ℕ → ℕ
 verifyRefusal t b = firstCause (verifyCauses t b)
 
--- the number of the lowest check that fails, counted from i
-abbrev pub failing : ℕ → List (List ℕ) → ℕ → List (List ℕ) → Option ℕ
-failing s b i [] = none
-failing s b i (c ∷ cs) = elim (zeroSum s b c) [ true ↦ failing s b (suc i) cs | false ↦ some i ]
-
-abbrev pub verdict : Option ℕ → Values
+abbrev pub verdict : Option Fault → Values
 verdict none = valuesOf Codeword
-verdict (some k) = valuesOf (Fails k)
+verdict (some f) = valuesOf (Fails (f .check) (f .byte))
 
 -- by the refusal's number, 0 for none
-abbrev pub verifyAnswerAt : ℕ → Option ℕ → Values
+abbrev pub verifyAnswerAt : ℕ → Option Fault → Values
 verifyAnswerAt zero v = verdict v
 verifyAnswerAt (suc r) v = valuesOf (Refused (suc r))
 
 abbrev pub verifyAnswer : List ℕ → List ℕ → Values
-verifyAnswer t b = verifyAnswerAt (verifyRefusal t b) (failing (size t) (packets (size t) (places t) b) 0 (checks t))
+verifyAnswer t b = verifyAnswerAt (verifyRefusal t b) (failing everyCheck (size t) (packets (size t) (places t) b) 0 (checks t))

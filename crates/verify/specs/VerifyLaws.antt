@@ -1,9 +1,9 @@
--- Verification passes a block if and only if every check sums to zero, and else gives the lowest that fails.
+-- The call of verification by cases, and what its values tell.
 use mathlib.Core.Path.{_≡_, refl, sym, ap, _∙_}
 use mathlib.Core.Bool.{Bool, true, true≢false, false≢true}
 use mathlib.Core.List.{List, [], _∷_}
 use mathlib.Core.Logic.{_≢_}
-use mathlib.Core.Option.{Option, none, some}
+use mathlib.Core.Option.{Option, none, some, Option·none-ne-some, Option·some-ne-none, Option·some-injective}
 use Prim.Native.Nat.{ℕ, zero, suc, _+_, _*_, _<_}
 use native.Mathlib.Omega.{arith}
 use borrow.Author.Tests.{eq-eqb, ne-eqb, not-false}
@@ -11,49 +11,20 @@ use lib.Dec.{eqb}
 use lib.ListN.{length, getD, take, replicate}
 use Rattle.lists.specs.Tests.{eqb-true, byBool}
 use Rattle.lists.specs.Lists.{All, All.nil, All.cons}
-use Rattle.table.specs.Codewords.{zeroSum}
-use Rattle.table.specs.CodewordLaws.{zero-sound, zero-complete}
+use Rattle.faults.specs.Faults.{Fault, failing, everyCheck}
 use Rattle.table.specs.FirstCause.{firstCause, wrongLength, NoneHolds}
 use Rattle.table.specs.FirstCauseLaws.{none-holds, none-refuses, first-decides, rest-decides}
-use Rattle.table.specs.Packets.{packets, packetSum}
+use Rattle.table.specs.Packets.{packets}
 use Rattle.table.specs.Table.{places, size, checks, tableCauses, refusal}
-use Rattle.verify.specs.Verify.{valuesOf, verifyRefusal, failing, verdict, verifyAnswerAt, verifyAnswer}
+use Rattle.verify.specs.Verify.{valuesOf, verifyRefusal, verdict, verifyAnswerAt, verifyAnswer}
 use Rattle.verify.specs.declared.Verified.{Verified}
 use Rattle.verify.specs.declared.Verified.the-variants.{Refused, Codeword, Fails}
-
--- none fails if and only if every check sums to zero
-pub verify-sound : (s : ℕ) (b : List (List ℕ)) (i : ℕ) (cs : List (List ℕ)) → failing s b i cs ≡ none → All (λ c. packetSum s b c ≡ replicate s 0) cs
-verify-sound s b i [] h = nil
-verify-sound s b i (c ∷ cs) h = byBool (zeroSum s b c)
-    (λ e. cons (zero-sound s b c e) (verify-sound s b (suc i) cs (rw (e, failing) at h)))
-    (λ e. absurd (clash (rw (e, failing) at h)))
-  where
-    clash : _≡_ {A = Option ℕ} (some i) none → ⊥
-    clash p = let z : _≡_ {A = ℕ} 0 1 = cc in omega arith
-
--- and the other way
-pub verify-complete : (s : ℕ) (b : List (List ℕ)) (i : ℕ) {cs : List (List ℕ)} → All (λ c. packetSum s b c ≡ replicate s 0) cs → failing s b i cs ≡ none
-verify-complete s b i nil = refl
-verify-complete s b i (cons {x = c} h a) = rw (zero-complete s b c h, failing) (verify-complete s b (suc i) a)
-
--- the check that is given fails, and every lower one sums to zero
-pub verify-lowest : (s : ℕ) (b : List (List ℕ)) (i : ℕ) (cs : List (List ℕ)) (k : ℕ) → failing s b i cs ≡ some k
-    → (j : ℕ) × ((k ≡ i + j) × ((j < length cs) × ((packetSum s b (getD cs j []) ≢ replicate s 0) × All (λ c. packetSum s b c ≡ replicate s 0) (take j cs))))
-verify-lowest s b i [] k h = absurd (let z : _≡_ {A = ℕ} 0 1 = cc in omega arith)
-verify-lowest s b i (c ∷ cs) k h = byBool (zeroSum s b c)
-    (λ e. let r = verify-lowest s b (suc i) cs k (rw (e, failing) at h) in
-    (suc (r .0), (r .1 .0 ∙ (omega arith), (omega (arith, r .1 .1 .0), (r .1 .1 .1 .0, cons (zero-sound s b c e) (r .1 .1 .1 .1))))))
-    (λ e. let q : i ≡ k = inj (rw (e, failing) at h) in
-    (zero, (omega arith, (omega arith, ((λ z. true≢false (sym (zero-complete s b c z) ∙ e)), nil)))))
-  where
-    inj : {u v : ℕ} → _≡_ {A = Option ℕ} (some u) (some v) → u ≡ v
-    inj p = cc
 
 -- ---- the call by cases
 module _ (t b : List ℕ) where
   -- what the checks say
-  abbrev pub lowest : Option ℕ
-  lowest = failing (size t) (packets (size t) (places t) b) 0 (checks t)
+  abbrev pub lowest : Option Fault
+  lowest = failing everyCheck (size t) (packets (size t) (places t) b) 0 (checks t)
 
   -- the causes beyond the table's
   abbrev own : List (Bool × ℕ)
@@ -92,24 +63,24 @@ module _ (t b : List ℕ) where
       right (cons e n) = eqb-true (length b) (places t * size t) (not-false (eqb (length b) (places t * size t)) e)
 
 -- the verdict that the values tell
-pub passed-at : (r : ℕ) (v : Option ℕ) → verifyAnswerAt r v .codeword ≡ true → (r ≡ 0) × (v ≡ none)
+pub passed-at : (r : ℕ) (v : Option Fault) → verifyAnswerAt r v .codeword ≡ true → (r ≡ 0) × (v ≡ none)
 passed-at zero none h = (refl, refl)
-passed-at zero (some k) h = absurd (false≢true h)
+passed-at zero (some f) h = absurd (false≢true h)
 passed-at (suc r) v h = absurd (false≢true h)
 
-pub failed-at : (r : ℕ) (v : Option ℕ) (k : ℕ) → verifyAnswerAt r v .check ≡ some k → (r ≡ 0) × (v ≡ some k)
-failed-at zero none k h = absurd (let z : _≡_ {A = ℕ} 0 1 = cc in omega arith)
-failed-at zero (some j) k h = (refl, h)
-failed-at (suc r) v k h = absurd (let z : _≡_ {A = ℕ} 0 1 = cc in omega arith)
+pub failed-at : (r : ℕ) (v : Option Fault) (f : Fault) → verifyAnswerAt r v .fault ≡ some f → (r ≡ 0) × (v ≡ some f)
+failed-at zero none f h = absurd (Option·none-ne-some f h)
+failed-at zero (some g) f h = (refl, h)
+failed-at (suc r) v f h = absurd (Option·none-ne-some f h)
 
 -- no two answers have the same values
 pub values-tell : (a b : Verified) → valuesOf a ≡ valuesOf b → a ≡ b
 values-tell (Refused r) (Refused q) h = ap (λ x. Refused (x .refusal)) h
 values-tell (Refused r) Codeword h = absurd (false≢true (ap (λ x. x .codeword) h))
-values-tell (Refused r) (Fails k) h = let e = ap (λ x. x .check) h in cc
+values-tell (Refused r) (Fails k i) h = absurd (Option·none-ne-some _ (ap (λ x. x .fault) h))
 values-tell Codeword (Refused q) h = absurd (true≢false (ap (λ x. x .codeword) h))
 values-tell Codeword Codeword h = refl
-values-tell Codeword (Fails k) h = absurd (true≢false (ap (λ x. x .codeword) h))
-values-tell (Fails j) (Refused q) h = let e = ap (λ x. x .check) h in cc
-values-tell (Fails j) Codeword h = absurd (false≢true (ap (λ x. x .codeword) h))
-values-tell (Fails j) (Fails k) h = let e = ap (λ x. x .check) h in cc
+values-tell Codeword (Fails k i) h = absurd (true≢false (ap (λ x. x .codeword) h))
+values-tell (Fails j i) (Refused q) h = absurd (Option·some-ne-none _ (ap (λ x. x .fault) h))
+values-tell (Fails j i) Codeword h = absurd (false≢true (ap (λ x. x .codeword) h))
+values-tell (Fails j i) (Fails k l) h = ap (λ (f : Fault). Fails (f .check) (f .byte)) (Option·some-injective _ _ (ap (λ x. x .fault) h))

@@ -1,47 +1,60 @@
--- Demand 2 on verification, over the definitions of the call, for every table that is accepted and every block.
-use mathlib.Core.Path.{_≡_, ap, _∙_, subst}
+-- Demand 2 on verification, and the check and byte that C-12 asks for, over the definitions of the call, for every table that is accepted
+-- and every block.
+use mathlib.Core.Path.{_≡_, refl, ap, _∙_, subst, sym}
 use mathlib.Core.Bool.{true}
-use mathlib.Core.List.{List, []}
-use mathlib.Core.Logic.{_≢_}
+use mathlib.Core.List.{List}
 use mathlib.Core.Option.{some}
 use Prim.Native.Nat.{ℕ, _*_, _<_}
-use native.Mathlib.Omega.{arith}
-use lib.ListN.{length, getD, take, replicate}
+use lib.ListN.{length, take}
+use Rattle.faults.specs.FaultLaws.{none-fails, fails-none, first-fault, fault-first}
+use Rattle.faults.specs.Faults.{Fault, FirstFault, everyCheck}
+use Rattle.lists.specs.ListLaws.{all-map}
+use Rattle.lists.specs.Lists.{All}
 use Rattle.table.specs.Codewords.{IsCodeword}
-use Rattle.table.specs.Packets.{packets, packetSum, Codeword as SumsToZero}
+use Rattle.table.specs.PacketLaws.{packets-length, packets-sized}
+use Rattle.table.specs.Packets.{Packets, packets, Codeword as SumsToZero}
 use Rattle.table.specs.Table.{places, size, checks, refusal}
+use Rattle.table.specs.TableLaws.{accepted}
 use Rattle.verify.specs.Verify.{valuesOf, verifyRefusal, verdict, verifyAnswer}
-use Rattle.verify.specs.VerifyLaws.{lowest, verify-sound, verify-complete, verify-lowest, verification-is, not-refused, passed-at, failed-at}
-use Rattle.verify.specs.declared.Verified.the-variants.{Codeword}
+use Rattle.verify.specs.VerifyLaws.{lowest, verification-is, not-refused, passed-at, failed-at}
+use Rattle.verify.specs.declared.Verified.the-variants.{Codeword, Fails}
 
 -- "verification says that the block is a codeword": if and only if the table is accepted, the block is n·s bytes, and every check sums to zero
 pub passes-codeword : (t b : List ℕ) → verifyAnswer t b .codeword ≡ true → (refusal t ≡ 0) × IsCodeword t b
 passes-codeword t b h =
     let p = passed-at (verifyRefusal t b) (lowest t b) h in
     let r = not-refused t b (p .0) in
-    (r .0, record { size-fits = r .1; sums = verify-sound (size t) (packets (size t) (places t) b) 0 (checks t) (p .1) })
+    (r .0, record { size-fits = r .1; sums = all-map (λ c z. z refl) (none-fails everyCheck (size t) (packets (size t) (places t) b) 0 (checks t) (p .1)) })
 
 pub codeword-passes : (t b : List ℕ) → refusal t ≡ 0 → IsCodeword t b → verifyAnswer t b ≡ valuesOf Codeword
-codeword-passes t b ok w = verification-is t b ok (w .size-fits) ∙ ap verdict (verify-complete (size t) (packets (size t) (places t) b) 0 (w .sums))
+codeword-passes t b ok w = verification-is t b ok (w .size-fits) ∙ ap verdict (fails-none everyCheck (size t) (packets (size t) (places t) b) 0 (all-map (λ c z e. z) (w .sums)))
 
--- "or gives the lowest check that fails": that one does, and every lower one sums to zero
-pub record FailsAt (t b : List ℕ) (k : ℕ) : Type 0 where
+-- "or gives the lowest check that fails", "with that byte"
+pub record FailsAt (t b : List ℕ) (f : Fault) : Type 0 where
   pub table : refusal t ≡ 0
   pub size-fits : length b ≡ places t * size t
-  pub inside : k < length (checks t)
-  pub fails : packetSum (size t) (packets (size t) (places t) b) (getD (checks t) k []) ≢ replicate (size t) 0
-  pub lower : SumsToZero (size t) (take k (checks t)) (packets (size t) (places t) b)
+  -- the byte is below s, the sum's byte there isn't zero and every lower one is
+  pub first : FirstFault everyCheck (size t) (packets (size t) (places t) b) (checks t) f
+  -- every lower check sums to zero
+  pub lower : SumsToZero (size t) (take (f .check) (checks t)) (packets (size t) (places t) b)
 
-pub fails-lowest : (t b : List ℕ) (k : ℕ) → verifyAnswer t b .check ≡ some k → FailsAt t b k
-fails-lowest t b k h =
-    let f = failed-at (verifyRefusal t b) (lowest t b) k h in
-    let r = not-refused t b (f .0) in
-    let low = verify-lowest (size t) (packets (size t) (places t) b) 0 (checks t) k (f .1) in
-    let j : low .0 ≡ k = let z = low .1 .0 in omega arith in
-    record {
-      table = r .0;
-      size-fits = r .1;
-      inside = subst (λ x. x < length (checks t)) j (low .1 .1 .0);
-      fails = subst (λ x. packetSum (size t) (packets (size t) (places t) b) (getD (checks t) x []) ≢ replicate (size t) 0) j (low .1 .1 .1 .0);
-      lower = subst (λ x. SumsToZero (size t) (take x (checks t)) (packets (size t) (places t) b)) j (low .1 .1 .1 .1);
-    }
+-- the n packets of such a block, and the places of the checks
+module _ (t b : List ℕ) (ok : refusal t ≡ 0) (fits : length b ≡ places t * size t) where
+  sized : Packets (size t) (packets (size t) (places t) b)
+  sized = packets-sized (size t) (places t) b fits
+
+  low : All (λ c. All (λ p. p < length (packets (size t) (places t) b)) c) (checks t)
+  low = subst (λ k. All (λ c. All (λ p. p < k) c) (checks t)) (sym (packets-length (size t) (places t) b)) (accepted t ok .low)
+
+-- what is given is the lowest ..
+pub fails-lowest : (t b : List ℕ) (f : Fault) → verifyAnswer t b .fault ≡ some f → FailsAt t b f
+fails-lowest t b f h =
+    let p = failed-at (verifyRefusal t b) (lowest t b) f h in
+    let r = not-refused t b (p .0) in
+    let first = first-fault everyCheck (size t) (packets (size t) (places t) b) (sized t b (r .0) (r .1)) (checks t) (low t b (r .0) (r .1)) f (p .1) in
+    record { table = r .0; size-fits = r .1; first = first; lower = all-map (λ c z. z refl) (first .lower) }
+
+-- .. and the lowest is given
+pub lowest-given : (t b : List ℕ) (f : Fault) → FailsAt t b f → verifyAnswer t b ≡ valuesOf (Fails (f .check) (f .byte))
+lowest-given t b f w = verification-is t b (w .table) (w .size-fits)
+    ∙ ap verdict (fault-first everyCheck (size t) (packets (size t) (places t) b) (sized t b (w .table) (w .size-fits)) (checks t) (low t b (w .table) (w .size-fits)) f (w .first))

@@ -6,20 +6,22 @@ ghost use lib.ListN.{length};
 ghost use Rattle.table.specs.Packets.{packets};
 ghost use Rattle.table.specs.Table.{checks};
 ghost use Rattle.table.specs.Accepted.{Accepted};
-ghost use Rattle.verify.specs.Verify.{valuesOf, failing, verdict, verifyAnswer};
+ghost use Rattle.faults.specs.Faults.{failing, everyCheck};
+ghost use Rattle.verify.specs.Verify.{valuesOf, verdict, verifyAnswer};
 
-// What verification says: a refusal, a codeword, or the lowest check that fails.
+// What verification says: a refusal, a codeword, or the lowest check that fails and the lowest byte
+// of its sum that isn't zero.
 pub enum Verified {
     Refused(u32),
     Codeword,
-    Fails(usize),
+    Fails(usize, usize),
 }
 
 // what the m checks say of the block
 fn look_at_checks(t: &[u16], m: usize, n: usize, s: usize, block: &[u8]) -> Verified
     requires { ⌜ Accepted (now t) m n s
         × (length (now block) ≡ n * s) ⌝ }
-    ensures { λ r. ⌜ valuesOf r ≡ verdict (failing s (packets s n (now (block .entry))) 0 (checks (now (t .entry)))) ⌝ }
+    ensures { λ r. ⌜ valuesOf r ≡ verdict (failing everyCheck s (packets s n (now (block .entry))) 0 (checks (now (t .entry)))) ⌝ }
 {
     let mut at = 5 + m;
     let mut j = 0;
@@ -27,7 +29,7 @@ fn look_at_checks(t: &[u16], m: usize, n: usize, s: usize, block: &[u8]) -> Veri
         let w = wide(t[4 + j]);
         let low = sums::sum_of_check(t, at, w, block, n, s);
         if low != s {
-            return Verified::Fails(j);
+            return Verified::Fails(j, low);
         }
         at += w;
         j += 1;
@@ -35,7 +37,7 @@ fn look_at_checks(t: &[u16], m: usize, n: usize, s: usize, block: &[u8]) -> Veri
     Verified::Codeword
 }
 
-// Whether the block is a codeword, or the lowest check that fails.
+// Whether the block is a codeword, or the lowest check that fails and its byte.
 pub fn verify(t: &[u16], block: &[u8]) -> Verified
     ensures { λ r. ⌜ valuesOf r ≡ verifyAnswer (now (t .entry)) (now (block .entry)) ⌝ }
 {

@@ -1,13 +1,10 @@
-// verify_file TABLE BLOCK: says whether the block is a codeword of the table.
+// verify_file TABLE BLOCK: says whether the block is a codeword of the table, or which check fails at
+// which byte.
 use text::Read;
 use verify::Verified;
 
 // the most bytes of a block
 const MOST_BLOCK: usize = 32768;
-
-fn print_fails(check: usize) {
-    text::print_count(libc::STDOUT_FILENO, b"check ", check as u64, b" fails\n");
-}
 
 fn print_verdict(verdict: Verified) {
     match verdict {
@@ -15,7 +12,9 @@ fn print_verdict(verdict: Verified) {
         Verified::Codeword => {
             io::write_all(libc::STDOUT_FILENO, b"codeword\n");
         }
-        Verified::Fails(check) => print_fails(check),
+        Verified::Fails(check, byte) => {
+            text::print_fault(libc::STDOUT_FILENO, check as u64, byte as u64)
+        }
     }
 }
 

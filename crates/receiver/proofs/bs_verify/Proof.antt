@@ -9,22 +9,27 @@ use Rattle.verify.specs.Verify.{Values, valuesOf, verifyAnswer}
 use Rattle.verify.specs.VerifyTheorems.{fails-lowest}
 use Rattle.verify.specs.declared.Verified.{Verified}
 use Rattle.verify.specs.declared.Verified.the-variants.{Fails}
-use Rattle.receiver.specs.Answers.{oneIf, orZero}
+use Rattle.faults.specs.Faults.{checkOf, byteOf}
+use Rattle.receiver.specs.Answers.{oneIf}
 use Rattle.receiver.proofs.bs_verify.Statement.{statement}
 use Rattle.receiver.proofs.bs_verify.Tie as tie
 use Rattle.receiver.proofs.bs_verify.Reads as reads
 use Rattle.receiver.proofs.bs_verify.Lts as lts
 use Rattle.verify.proofs.verify.Reads as verify-reads
 
--- a check's number is below 512
-small : (t b : List ℕ) (k : ℕ) → valuesOf (Fails k) ≡ verifyAnswer t b → k < 4294967296
-small t b k e = let r = fails-lowest t b k (ap (λ (x : Values). x .check) (sym e)) in let g = accepted t (r .table) .few-checks in omega (arith, r .inside)
+-- a check's number is below 512, and a byte's below 1,024
+small : (t b : List ℕ) (k j : ℕ) → valuesOf (Fails k j) ≡ verifyAnswer t b → (k < 4294967296) × (j < 4294967296)
+small t b k j e =
+    let r = fails-lowest t b (record { check = k; byte = j }) (ap (λ (x : Values). x .fault) (sym e)) in
+    let g = accepted t (r .table) in
+    (omega (arith, r .first .inside, g .few-checks), omega (arith, r .first .below, g .few-bytes))
 
 -- the values of an answer, number by number
 numbers : (t b : List ℕ) {r v : Verified} → r ≡ v → valuesOf r ≡ verifyAnswer t b
-    → (valuesOf v .refusal ≡ verifyAnswer t b .refusal) × ((oneIf (valuesOf v .codeword) ≡ oneIf (verifyAnswer t b .codeword)) × (orZero (valuesOf v .check) ≡ orZero (verifyAnswer t b .check)))
+    → (valuesOf v .refusal ≡ verifyAnswer t b .refusal) × ((oneIf (valuesOf v .codeword) ≡ oneIf (verifyAnswer t b .codeword))
+    × ((checkOf (valuesOf v .fault) ≡ checkOf (verifyAnswer t b .fault)) × (byteOf (valuesOf v .fault) ≡ byteOf (verifyAnswer t b .fault))))
 numbers t b e h = let z = sym (ap valuesOf e) ∙ h in
-    (ap (λ (x : Values). x .refusal) z, (ap (λ (x : Values). oneIf (x .codeword)) z, ap (λ (x : Values). orZero (x .check)) z))
+    (ap (λ (x : Values). x .refusal) z, (ap (λ (x : Values). oneIf (x .codeword)) z, (ap (λ (x : Values). checkOf (x .fault)) z, ap (λ (x : Values). byteOf (x .fault)) z)))
 
 verify-requires : tie.Need-verify-requires
 verify-requires c κs = search needs
@@ -38,8 +43,11 @@ enum-told c = search needs
 enum-known-check : tie.Need-enum-known-check
 enum-known-check c = search needs
 
-cast-t7 : tie.Need-cast-t7
-cast-t7 c = record { fits = small _ _ _ (sym (ap valuesOf (c .before .check .given .1)) ∙ c .before .before .before .verify .ensures) }
+cast-t8 : tie.Need-cast-t8
+cast-t8 c = record { fits = small _ _ _ _ (sym (ap valuesOf (c .before .check .given .1)) ∙ c .before .before .before .verify .ensures) .0 }
+
+cast-t9 : tie.Need-cast-t9
+cast-t9 c = record { fits = small _ _ _ _ (sym (ap valuesOf (c .before .check .given .1)) ∙ c .before .before .before .verify .ensures) .1 }
 
 returns : tie.Need-returns
 returns c = numbers _ _ (c .before .refusal .given .1) (c .before .before .before .verify .ensures)
@@ -58,7 +66,8 @@ bs-verify-spec =
     enum-known-refusal
     enum-told
     enum-known-check
-    cast-t7
+    cast-t8
+    cast-t9
     returns
     returns-2
     returns-3)

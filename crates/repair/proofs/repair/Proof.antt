@@ -18,7 +18,7 @@ returns : tie.Need-returns
 returns c =
     let a = c .before .before .before .before .before .before .args in
     let e = c .refused .ensures in
-    answer-table (a .t .now) (a .block .now) (a .map .now) _ 0 0 (c .before .before .look-over .ensures) _ (e .1) (e .2) (e .3) (c .before .if1 .taken) (e .0)
+    answer-table (a .t .now) (a .block .now) (a .map .now) _ 0 0 (c .before .before .look-over .ensures) _ (c .before .if1 .taken) e
 
 shared-slice-read-wide : tie.Need-shared-slice-read-wide
 shared-slice-read-wide c = omega (arith, words (c .before .before .before .before .before .before .args .t .now) _ (c .before .before .look-over .ensures) (c .before .if1 .left))
@@ -44,7 +44,7 @@ returns-2 : tie.Need-returns-2
 returns-2 c =
     let a = c .before .before .before .before .before .before .before .before .before .before .before .args in
     let e = c .refused2 .ensures in
-    answer-block (a .t .now) (a .block .now) (a .map .now) _ _ _ (c .before .before .before .before .before .before .before .look-over .ensures) _ (e .1) (e .2) (e .3) (c .before .before .before .before .before .before .if1 .left) (c .before .before .before .before .wide .ensures) (c .before .before .wide2 .ensures) (c .before .if2 .taken) (e .0)
+    answer-block (a .t .now) (a .block .now) (a .map .now) _ _ _ (c .before .before .before .before .before .before .before .look-over .ensures) _ (c .before .before .before .before .before .before .if1 .left) (c .before .before .before .before .wide .ensures) (c .before .before .wide2 .ensures) (c .before .if2 .taken) e
 
 refused-requires-3 : tie.Need-refused-requires-3
 refused-requires-3 c κs = search needs
@@ -53,7 +53,7 @@ returns-3 : tie.Need-returns-3
 returns-3 c =
     let a = c .before .before .before .before .before .before .before .before .before .before .before .before .args in
     let e = c .refused3 .ensures in
-    answer-map (a .t .now) (a .block .now) (a .map .now) _ _ _ (c .before .before .before .before .before .before .before .before .look-over .ensures) _ (e .1) (e .2) (e .3) (c .before .before .before .before .before .before .before .if1 .left) (c .before .before .before .before .before .wide .ensures) (c .before .before .before .wide2 .ensures) (c .before .before .if2 .left) (c .before .if3 .taken) (e .0)
+    answer-map (a .t .now) (a .block .now) (a .map .now) _ _ _ (c .before .before .before .before .before .before .before .before .look-over .ensures) _ (c .before .before .before .before .before .before .before .if1 .left) (c .before .before .before .before .before .wide .ensures) (c .before .before .before .wide2 .ensures) (c .before .before .if2 .left) (c .before .if3 .taken) e
 
 over-one-requires : tie.Need-over-one-requires
 over-one-requires c κs = search needs
@@ -68,7 +68,7 @@ returns-4 : tie.Need-returns-4
 returns-4 c =
     let a = c .before .before .before .before .before .before .before .before .before .before .before .before .before .before .before .args in
     let e = c .refused4 .ensures in
-    answer-byte (a .t .now) (a .block .now) (a .map .now) _ _ _ (c .before .before .before .before .before .before .before .before .before .before .before .look-over .ensures) _ (e .1) (e .2) (e .3) (c .before .before .before .before .before .before .before .before .before .before .if1 .left) (c .before .before .before .before .before .before .before .before .wide .ensures) (c .before .before .before .before .before .before .wide2 .ensures) (c .before .before .before .before .before .if2 .left) (c .before .before .before .before .if3 .left) (sym (c .before .before .over-one .ensures) ∙ c .before .if4 .taken) (e .0)
+    answer-byte (a .t .now) (a .block .now) (a .map .now) _ _ _ (c .before .before .before .before .before .before .before .before .before .before .before .look-over .ensures) _ (c .before .before .before .before .before .before .before .before .before .before .if1 .left) (c .before .before .before .before .before .before .before .before .wide .ensures) (c .before .before .before .before .before .before .wide2 .ensures) (c .before .before .before .before .before .if2 .left) (c .before .before .before .before .if3 .left) (sym (c .before .before .over-one .ensures) ∙ c .before .if4 .taken) e
 
 shared-slice-read-wide-3 : tie.Need-shared-slice-read-wide-3
 shared-slice-read-wide-3 c = omega (arith, words (c .before .before .before .before .before .before .before .before .before .before .before .before .before .before .before .args .t .now) _ (c .before .before .before .before .before .before .before .before .before .before .before .look-over .ensures) (c .before .before .before .before .before .before .before .before .before .before .if1 .left))

@@ -23,7 +23,7 @@ returns : tie.Need-returns
 returns c =
     let p = c .before .before .before .before .before .before .before .before .before .before .before .pre in
     let a = c .before .before .before .before .before .before .before .before .before .before .before .args in
-    answer-accepted (a .t .now) (a .block .now) (a .map .now) (p .1) _ _ _ (c .before .before .before .before .before .restore-packets .ensures) (c .if1 .taken) _ refl refl refl refl
+    answer-accepted (a .t .now) (a .block .now) (a .map .now) (p .1) _ _ _ (c .before .before .before .before .before .restore-packets .ensures) (c .if1 .taken) _ refl refl refl refl refl refl
 
 refused-requires : tie.Need-refused-requires
 refused-requires c κs = search needs
@@ -38,8 +38,7 @@ returns-2 : tie.Need-returns-2
 returns-2 c =
     let p = c .before .before .before .before .before .before .before .before .before .before .before .before .pre in
     let a = c .before .before .before .before .before .before .before .before .before .before .before .before .args in
-    let e = c .refused .ensures in
-    answer-contradicted (a .t .now) (a .block .now) (a .map .now) (p .1) _ _ _ (c .before .before .before .before .before .before .restore-packets .ensures) (c .before .if1 .left) _ (e .0) (e .1) (e .2) (e .3)
+    answer-contradicted (a .t .now) (a .block .now) (a .map .now) (p .1) _ _ _ (c .before .before .before .before .before .before .restore-packets .ensures) (c .before .if1 .left) _ (c .refused .ensures)
 
 pub repair-packets-spec : {M : Type 1} → statement M
 repair-packets-spec =

@@ -60,14 +60,14 @@ restore-all-requires c κs =
       spent-start _ _ _ _ _ _ (few-checks (a .t .now) (a .m) (a .n) (a .s) (p .0)),
     )
 
-slice-aggregate-agrees : tie.Need-slice-aggregate-agrees
-slice-aggregate-agrees c = search needs
+slice-aggregate-judge : tie.Need-slice-aggregate-judge
+slice-aggregate-judge c = search needs
 
-slice-aggregate-agrees-2 : tie.Need-slice-aggregate-agrees-2
-slice-aggregate-agrees-2 c = search needs
+slice-aggregate-judge-2 : tie.Need-slice-aggregate-judge-2
+slice-aggregate-judge-2 c = search needs
 
-agrees-requires : tie.Need-agrees-requires
-agrees-requires c κs =
+judge-requires : tie.Need-judge-requires
+judge-requires c κs =
     let p = c .before .before .before .before .before .before .before .before .before .before .before .before .before .before .before .before .before .before .before .before .before .before .before .before .before .before .before .before .before .before .before .before .before .pre in
     let e = c .before .before .before .before .before .before .before .before .before .before .restore-all .ensures in
     (p .0, c .before .before .before .before .before .before .before .before .block .given ∙ p .2, c .before .before .before .before .before .before .map .given ∙ p .3, e .1, e .2)
@@ -79,7 +79,7 @@ same-length-2 : tie.Need-same-length-2
 same-length-2 c = search needs
 
 returns : tie.Need-returns
-returns c = (c .before .before .before .before .before .before .before .before .before .before .before .restore-all .ensures .0, c .agrees .ensures)
+returns c = (c .before .before .before .before .before .before .before .before .before .before .before .restore-all .ensures .0, c .judge .ensures)
 
 pub restore-lost-spec : {M : Type 1} → statement M
 restore-lost-spec =
@@ -97,9 +97,9 @@ restore-lost-spec =
     slice-aggregate-restore-all-4
     slice-aggregate-restore-all-5
     restore-all-requires
-    slice-aggregate-agrees
-    slice-aggregate-agrees-2
-    agrees-requires
+    slice-aggregate-judge
+    slice-aggregate-judge-2
+    judge-requires
     same-length
     same-length-2
     returns)

@@ -67,7 +67,7 @@ returns c =
     let p = c .before .before .before .before .before .before .before .before .before .before .before .before .before .before .before .before .before .before .before .before .before .before .before .before .before .before .before .before .before .pre in
     let a = c .before .before .before .before .before .before .before .before .before .before .before .before .before .before .before .before .before .before .before .before .before .before .before .before .before .before .before .before .before .args in
     let e = c .counted .ensures in
-    settled (a .t .now) (a .m) (a .n) (a .s) (p .0) (a .block .now) (a .map .now) (p .1) (p .2) _ (c .before .before .before .before .before .before .before .before .before .before .before .before .before .before .zero-lost .ensures) _ _ _ (c .before .before .before .before .before .before .before .before .restore-lost .ensures .0) _ (c .before .before .before .before .before .before .before .before .restore-lost .ensures .1) (c .before .before .before .if1 .taken) _ (e .0) (e .1 ∙ ap₂ _-_ (c .before .before .before .before .before .before .before .before .before .before .before .before .before .before .before .before .before .tally-of .ensures) (c .before .tally-of2 .ensures)) (e .2 ∙ c .before .tally-of2 .ensures) (e .3)
+    settled (a .t .now) (a .m) (a .n) (a .s) (p .0) (a .block .now) (a .map .now) (p .1) (p .2) _ (c .before .before .before .before .before .before .before .before .before .before .before .before .before .before .zero-lost .ensures) _ _ _ (c .before .before .before .before .before .before .before .before .restore-lost .ensures .0) _ (c .before .before .before .before .before .before .before .before .restore-lost .ensures .1) (c .before .before .before .if1 .taken) _ (e .0) (e .1 ∙ ap₂ _-_ (c .before .before .before .before .before .before .before .before .before .before .before .before .before .before .before .before .before .tally-of .ensures) (c .before .tally-of2 .ensures)) (e .2 ∙ c .before .tally-of2 .ensures) (e .3) (e .4) (e .5)
 
 slice-aggregate-copy-2 : tie.Need-slice-aggregate-copy-2
 slice-aggregate-copy-2 c = search needs
@@ -99,7 +99,7 @@ returns-2 c =
     let a = c .before .before .before .before .before .before .before .before .before .before .before .before .before .before .before .before .before .before .before .before .before .before .before .before .before .before .before .before .before .before .before .before .before .before .before .before .before .args in
     let e = c .contradicted .ensures in
     let back = put-back _ (a .map .now) _ _ _ (a .n) (few-places (a .t .now) (a .m) (a .n) (a .s) (p .0)) (p .2) (c .before .before .before .before .before .before .before .before .before .before .before .before .before .map .given ∙ p .2) (c .before .before .before .before .before .before .before .before .before .before .before .before .before .before .before .before .before .before .before .before .before .before .before .before .before .before .before .before .copy .ensures) (c .before .before .before .before .before .before .before .before .copy2 .ensures) in
-    unsettled (a .t .now) (a .m) (a .n) (a .s) (p .0) (a .block .now) (a .map .now) (p .1) (p .2) _ (c .before .before .before .before .before .before .before .before .before .before .before .before .before .before .before .before .before .before .before .before .before .before .zero-lost .ensures) _ _ _ (c .before .before .before .before .before .before .before .before .before .before .before .before .before .before .before .before .restore-lost .ensures .0) _ (c .before .before .before .before .before .before .before .before .before .before .before .before .before .before .before .before .restore-lost .ensures .1) (c .before .before .before .before .before .before .before .before .before .before .before .if1 .left) _ _ back (c .before .before .before .zero-lost2 .ensures) _ (e .0) (e .1) (e .2) (e .3)
+    unsettled (a .t .now) (a .m) (a .n) (a .s) (p .0) (a .block .now) (a .map .now) (p .1) (p .2) _ (c .before .before .before .before .before .before .before .before .before .before .before .before .before .before .before .before .before .before .before .before .before .before .zero-lost .ensures) _ _ _ (c .before .before .before .before .before .before .before .before .before .before .before .before .before .before .before .before .restore-lost .ensures .0) _ (c .before .before .before .before .before .before .before .before .before .before .before .before .before .before .before .before .restore-lost .ensures .1) (c .before .before .before .before .before .before .before .before .before .before .before .if1 .left) _ _ back (c .before .before .before .zero-lost2 .ensures) _ (e .0) (e .1) (e .2) (e .3) (e .4) (e .5)
 
 pub restore-packets-spec : {M : Type 1} → statement M
 restore-packets-spec =

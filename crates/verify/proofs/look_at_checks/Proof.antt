@@ -2,11 +2,13 @@
 use Rattle.table.specs.Checks.{offset}
 use Rattle.table.specs.Packets.{packets}
 use Rattle.table.specs.Table.{checks}
-use Rattle.verify.specs.Verify.{failing, verdict}
+use Rattle.faults.specs.FaultLaws.{fault-hit, fault-zero, fault-end}
+use Rattle.faults.specs.Faults.{failing, everyCheck}
+use Rattle.verify.specs.Verify.{valuesOf, verdict}
+use Rattle.verify.specs.declared.Verified.the-variants.{Fails}
 use Rattle.table.specs.Accepted.{has-weights, check-count, check-is, check-fits, check-in, offset-more}
 use Rattle.table.specs.ChecksLaws.{offset-none}
-use Rattle.table.specs.CodewordLaws.{sum-zero, sum-nonzero}
-use Rattle.verify.proofs.Looking.{fail-hit, fail-miss, fail-end}
+use Rattle.table.specs.CodewordLaws.{sum-byte, sum-zero, sum-nonzero}
 use Prim.Native.Nat.{_+_, _-_, _≤_}
 use mathlib.Core.Path.{_≡_, refl, sym, ap, _∙_}
 use native.Mathlib.Omega.{arith}
@@ -15,7 +17,7 @@ use Rattle.verify.proofs.look_at_checks.Statement.{statement}
 use Rattle.verify.proofs.look_at_checks.Tie as tie
 
 abbrev Inv-loop : tie.InvT-loop
-Inv-loop t m n s block at₀ j₀ at j = (j ≤ m) × (at ≡ 5 + m + offset t j) × (failing s (packets s n block) 0 (checks t) ≡ failing s (packets s n block) j (drop j (checks t)))
+Inv-loop t m n s block at₀ j₀ at j = (j ≤ m) × (at ≡ 5 + m + offset t j) × (failing everyCheck s (packets s n block) 0 (checks t) ≡ failing everyCheck s (packets s n block) j (drop j (checks t)))
 
 abbrev μ-loop : tie.MeasureT-loop
 μ-loop t m n s block at₀ j₀ at j = m - j
@@ -53,7 +55,9 @@ returns c =
     let is = check-is (a .t .now) _ _ _ (p .0) (s .j) more _ _ (s .inv .1) (c .before .before .wide .ensures) in
     let inside = check-in (a .t .now) _ _ _ (p .0) (s .j) more _ _ (s .inv .1) (c .before .before .wide .ensures) (a .block .now) (p .1) in
     let z = sum-nonzero (a .t .now) (a .block .now) (a .n) (a .s) _ _ inside _ is _ (c .before .sum-of-check .ensures) (c .if1 .taken) in
-    sym (ap verdict (s .inv .2 ∙ fail-hit (a .s) (packets (a .s) (a .n) (a .block .now)) (checks (a .t .now)) (s .j) (rw (check-count _ _ _ _ (p .0)) more) z))
+    let y = sum-byte (a .t .now) (a .block .now) (a .n) (a .s) _ _ inside _ is _ (c .before .sum-of-check .ensures) in
+    ap (λ k. valuesOf (Fails (s .j) k)) y
+    ∙ sym (ap verdict (s .inv .2 ∙ fault-hit everyCheck (a .s) (packets (a .s) (a .n) (a .block .now)) (checks (a .t .now)) (s .j) (rw (check-count _ _ _ _ (p .0)) more) refl z))
 
 add-at-2 : tie.Need-add-at-2 Inv-loop μ-loop
 add-at-2 c =
@@ -79,7 +83,7 @@ loop-again c =
     let z = sum-zero (a .t .now) (a .block .now) (a .n) (a .s) _ _ inside _ is _ (c .before .sum-of-check .ensures) (c .if1 .left) in (
       omega arith,
       offset-more _ _ _ _ _ (s .inv .1) (c .before .before .wide .ensures),
-      s .inv .2 ∙ fail-miss (a .s) (packets (a .s) (a .n) (a .block .now)) (checks (a .t .now)) (s .j) (rw (check-count _ _ _ _ (p .0)) more) z,
+      s .inv .2 ∙ fault-zero everyCheck (a .s) (packets (a .s) (a .n) (a .block .now)) (checks (a .t .now)) (s .j) (rw (check-count _ _ _ _ (p .0)) more) refl z,
     )
 
 returns-2 : tie.Need-returns-2 Inv-loop μ-loop
@@ -87,7 +91,7 @@ returns-2 c =
     let p = c .before .before .before .before .pre in
     let a = c .before .before .before .before .args in
     let s = c .before .loop in
-    sym (ap verdict (s .inv .2 ∙ fail-end (a .s) (packets (a .s) (a .n) (a .block .now)) (checks (a .t .now)) (s .j) (rw (check-count _ _ _ _ (p .0)) (c .loop-test .left))))
+    sym (ap verdict (s .inv .2 ∙ fault-end everyCheck (a .s) (packets (a .s) (a .n) (a .block .now)) (checks (a .t .now)) (s .j) (rw (check-count _ _ _ _ (p .0)) (c .loop-test .left))))
 
 pub look-at-checks-spec : {M : Type 1} → statement M
 look-at-checks-spec =

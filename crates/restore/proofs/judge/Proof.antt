@@ -1,24 +1,30 @@
--- `restore::agrees` meets its contract.
+-- `restore::judge` meets its contract.
 use Rattle.table.specs.Checks.{offset}
+use Rattle.table.specs.Packets.{packets}
 use Rattle.table.specs.Table.{checks}
-use Rattle.erasure.specs.Restoring.{lostPlaces, consistent}
+use Rattle.erasure.specs.Restoring.{lostPlaces, noneLost, contradiction}
 use Rattle.erasure.specs.Turns.{stateOf}
 use Rattle.turns.specs.TurnLaws.{at-check}
-use Rattle.restore.proofs.Passing.{agree-passed}
-use Rattle.table.specs.Accepted.{has-weights, check-count, check-is, check-fits, check-in, offset-more}
+use Rattle.restore.proofs.Passing.{passed, byte-fits}
+use Rattle.faults.specs.FaultLaws.{fault-hit, fault-zero, fault-end}
+use Rattle.faults.specs.Faults.{failing}
+use Rattle.table.specs.Accepted.{few-checks, has-weights, check-count, check-is, check-fits, check-in, offset-more}
 use Rattle.table.specs.ChecksLaws.{offset-none}
-use Rattle.table.specs.CodewordLaws.{sum-zero, sum-nonzero}
-use Rattle.restore.proofs.Agreeing.{agree-zero, agree-not, agree-end}
+use Rattle.table.specs.CodewordLaws.{sum-byte, sum-zero, sum-nonzero}
 use Prim.Native.Nat.{_+_, _-_, _≤_, _<_}
+use mathlib.Core.Bool.{true}
+use mathlib.Core.List.{[]}
+use mathlib.Core.Option.{some}
 use mathlib.Core.Path.{_≡_, refl, sym, ap, _∙_}
 use mathlib.Core.Logic.{⊎-elim}
 use native.Mathlib.Omega.{arith}
-use lib.ListN.{length, drop}
-use Rattle.restore.proofs.agrees.Statement.{statement}
-use Rattle.restore.proofs.agrees.Tie as tie
+use lib.Dec.{eqb}
+use lib.ListN.{length, getD, drop}
+use Rattle.restore.proofs.judge.Statement.{statement}
+use Rattle.restore.proofs.judge.Tie as tie
 
 abbrev Inv-loop : tie.InvT-loop
-Inv-loop t m n s block map count used at₀ j₀ at j = (j ≤ m) × (at ≡ 5 + m + offset t j) × (consistent s (checks t) (stateOf s n block map 0) ≡ consistent s (drop j (checks t)) (stateOf s n block map 0))
+Inv-loop t m n s block map count used at₀ j₀ at j = (j ≤ m) × (at ≡ 5 + m + offset t j) × (contradiction s (checks t) (stateOf s n block map 0) ≡ failing (noneLost map) s (packets s n block) j (drop j (checks t)))
 
 abbrev μ-loop : tie.MeasureT-loop
 μ-loop t m n s block map count used at₀ j₀ at j = m - j
@@ -59,6 +65,20 @@ sum-of-check-requires c κs =
     let s = c .before .before .before .before .before .before .before .loop in
     check-in _ _ _ _ (p .0) (s .j) (c .before .before .before .before .before .before .loop-test .taken) _ _ (s .inv .1) (c .before .before .before .before .wide .ensures) _ (p .1)
 
+cast-t23 : tie.Need-cast-t23 Inv-loop μ-loop
+cast-t23 c =
+    let p = c .before .before .before .before .before .before .before .before .before .before .before .before .before .before .before .pre in
+    record { fits = omega (arith, few-checks _ _ _ _ (p .0), c .before .before .before .before .before .before .before .before .loop-test .taken) }
+
+cast-t24 : tie.Need-cast-t24 Inv-loop μ-loop
+cast-t24 c =
+    let p = c .before .before .before .before .before .before .before .before .before .before .before .before .before .before .before .pre in
+    let a = c .before .before .before .before .before .before .before .before .before .before .before .before .before .before .before .args in
+    let s = c .before .before .before .before .before .before .before .before .before .loop in
+    let more = c .before .before .before .before .before .before .before .before .loop-test .taken in
+    let inside = check-in (a .t .now) _ _ _ (p .0) (s .j) more _ _ (s .inv .1) (c .before .before .before .before .before .before .wide .ensures) (a .block .now) (p .1) in
+    record { fits = byte-fits (a .t .now) (a .m) (a .n) (a .s) (p .0) _ _ _ inside _ (c .before .sum-of-check .ensures) }
+
 returns : tie.Need-returns Inv-loop μ-loop
 returns c =
     let p = c .before .before .before .before .before .before .before .before .before .before .before .before .before .before .before .pre in
@@ -68,8 +88,10 @@ returns c =
     let is = check-is (a .t .now) _ _ _ (p .0) (s .j) more _ _ (s .inv .1) (c .before .before .before .before .before .before .wide .ensures) in
     let inside = check-in (a .t .now) _ _ _ (p .0) (s .j) more _ _ (s .inv .1) (c .before .before .before .before .before .before .wide .ensures) (a .block .now) (p .1) in
     let z = sum-nonzero (a .t .now) (a .block .now) (a .n) (a .s) _ _ inside _ is _ (c .before .sum-of-check .ensures) (c .if2 .taken) in
-    let l = sym (p .3 .each (s .j) more ∙ ap (λ l. length (lostPlaces (a .map .now) l)) (sym (at-check (a .t .now) (a .m) (a .n) (a .s) (p .0) (s .j) more))) ∙ c .before .before .before .to-sum .ensures .0 (c .before .before .if1 .taken) in
-    sym (s .inv .2 ∙ agree-not (a .s) (stateOf (a .s) (a .n) (a .block .now) (a .map .now) 0) (checks (a .t .now)) (s .j) (rw (check-count _ _ _ _ (p .0)) more) l z)
+    let y = sum-byte (a .t .now) (a .block .now) (a .n) (a .s) _ _ inside _ is _ (c .before .sum-of-check .ensures) in
+    let none : noneLost (a .map .now) (getD (checks (a .t .now)) (s .j) []) ≡ true = ap (λ k. eqb k 0) (sym (p .3 .each (s .j) more ∙ ap (λ l. length (lostPlaces (a .map .now) l)) (sym (at-check (a .t .now) (a .m) (a .n) (a .s) (p .0) (s .j) more))) ∙ c .before .before .before .to-sum .ensures .0 (c .before .before .if1 .taken)) in
+    ap (λ k. some (record { check = s .j; byte = k })) y
+    ∙ sym (s .inv .2 ∙ fault-hit (noneLost (a .map .now)) (a .s) (packets (a .s) (a .n) (a .block .now)) (checks (a .t .now)) (s .j) (rw (check-count _ _ _ _ (p .0)) more) none z)
 
 add-at-2 : tie.Need-add-at-2 Inv-loop μ-loop
 add-at-2 c =
@@ -94,14 +116,13 @@ loop-again c =
     let inside = check-in (a .t .now) _ _ _ (p .0) (s .j) more _ _ (s .inv .1) (c .before .before .before .before .wide .ensures) (a .block .now) (p .1) in
     let at = at-check (a .t .now) (a .m) (a .n) (a .s) (p .0) (s .j) more in
     let l = p .3 .each (s .j) more ∙ ap (λ l. length (lostPlaces (a .map .now) l)) (sym at) in
-    let in-list : s .j < length (checks (a .t .now)) = rw (check-count (a .t .now) _ _ _ (p .0)) more in
-    let st = stateOf (a .s) (a .n) (a .block .now) (a .map .now) 0 in (
+    let in-list : s .j < length (checks (a .t .now)) = rw (check-count (a .t .now) _ _ _ (p .0)) more in (
       omega arith,
       offset-more _ _ _ _ _ (s .inv .1) (c .before .before .before .before .wide .ensures),
       s .inv .2 ∙ ⊎-elim
-          (λ u. agree-zero (a .s) st (checks (a .t .now)) (s .j) in-list (sym l ∙ c .before .to-sum .ensures .0 (u .0 .taken))
+          (λ u. fault-zero (noneLost (a .map .now)) (a .s) (packets (a .s) (a .n) (a .block .now)) (checks (a .t .now)) (s .j) in-list (ap (λ k. eqb k 0) (sym l ∙ c .before .to-sum .ensures .0 (u .0 .taken)))
           (sum-zero (a .t .now) (a .block .now) (a .n) (a .s) _ _ inside _ is _ (u .1 .ensures) (u .2 .left)))
-          (λ u. agree-passed (a .t .now) (a .m) (a .n) (a .s) (a .block .now) (a .map .now) (a .count .now) (a .used .now) (checks (a .t .now)) (s .j) more in-list at (p .3) (p .4) (c .before .to-sum .ensures .1 (u .left)) st refl refl)
+          (λ u. passed (a .t .now) (a .m) (a .n) (a .s) (a .block .now) (a .map .now) (a .count .now) (a .used .now) (checks (a .t .now)) (s .j) more in-list at (p .3) (p .4) (c .before .to-sum .ensures .1 (u .left)))
           (c .if1 .came),
     )
 
@@ -110,10 +131,10 @@ returns-2 c =
     let p = c .before .before .before .before .before .before .before .pre in
     let a = c .before .before .before .before .before .before .before .args in
     let s = c .before .loop in
-    sym (s .inv .2 ∙ agree-end (a .s) (stateOf (a .s) (a .n) (a .block .now) (a .map .now) 0) (checks (a .t .now)) (s .j) (rw (check-count _ _ _ _ (p .0)) (c .loop-test .left)))
+    sym (s .inv .2 ∙ fault-end (noneLost (a .map .now)) (a .s) (packets (a .s) (a .n) (a .block .now)) (checks (a .t .now)) (s .j) (rw (check-count _ _ _ _ (p .0)) (c .loop-test .left)))
 
-pub agrees-spec : {M : Type 1} → statement M
-agrees-spec =
+pub judge-spec : {M : Type 1} → statement M
+judge-spec =
     tie.close
     (tie.spec
     Inv-loop
@@ -129,6 +150,8 @@ agrees-spec =
     shared-slice-read-to-sum-2
     to-sum-requires
     sum-of-check-requires
+    cast-t23
+    cast-t24
     returns
     add-at-2
     add-j
