@@ -33,6 +33,20 @@ module _ (judged : List ℕ → Bool) (s : ℕ) (b : List (List ℕ)) where
   abbrev Zeros : List (List ℕ) → Type 0
   Zeros cs = All (λ c. judged c ≡ true → packetSum s b c ≡ replicate s 0) cs
 
+  -- ---- a loop over the checks: the rest decides
+  module _ (cs : List (List ℕ)) (j : ℕ) (h : j < length cs) where
+    pub fault-hit : judged (getD cs j []) ≡ true → zeroSum s b (getD cs j []) ≡ false → failing judged s b j (drop j cs) ≡ some (faultOf s b j (getD cs j []))
+    fault-hit e z = rw (drop-more cs j h, e, z, failing)
+
+    pub fault-zero : judged (getD cs j []) ≡ true → zeroSum s b (getD cs j []) ≡ true → failing judged s b j (drop j cs) ≡ failing judged s b (j + 1) (drop (j + 1) cs)
+    fault-zero e z = rw (drop-more cs j h, e, z, failing, add-one j)
+
+    pub fault-past : judged (getD cs j []) ≡ false → failing judged s b j (drop j cs) ≡ failing judged s b (j + 1) (drop (j + 1) cs)
+    fault-past e = rw (drop-more cs j h, e, failing, add-one j)
+
+  pub fault-end : (cs : List (List ℕ)) (j : ℕ) → length cs ≤ j → failing judged s b j (drop j cs) ≡ none
+  fault-end cs j h = rw (drop-of-length-le cs h)
+
   -- ---- none fails exactly if they all do
   pub none-fails : (i : ℕ) (cs : List (List ℕ)) → failing judged s b i cs ≡ none → Zeros cs
   none-fails i [] h = nil
@@ -47,20 +61,6 @@ module _ (judged : List ℕ → Bool) (s : ℕ) (b : List (List ℕ)) where
   fails-none i (cons {x = c} h a) = byBool (judged c)
       (λ j. rw (j, zero-complete s b c (h j), failing) (fails-none (suc i) a))
       (λ j. rw (j, failing) (fails-none (suc i) a))
-
-  -- ---- a loop over the checks: the rest decides
-  module _ (cs : List (List ℕ)) (j : ℕ) (h : j < length cs) where
-    pub fault-hit : judged (getD cs j []) ≡ true → zeroSum s b (getD cs j []) ≡ false → failing judged s b j (drop j cs) ≡ some (faultOf s b j (getD cs j []))
-    fault-hit e z = rw (drop-more cs j h, e, z, failing)
-
-    pub fault-zero : judged (getD cs j []) ≡ true → zeroSum s b (getD cs j []) ≡ true → failing judged s b j (drop j cs) ≡ failing judged s b (j + 1) (drop (j + 1) cs)
-    fault-zero e z = rw (drop-more cs j h, e, z, failing, add-one j)
-
-    pub fault-past : judged (getD cs j []) ≡ false → failing judged s b j (drop j cs) ≡ failing judged s b (j + 1) (drop (j + 1) cs)
-    fault-past e = rw (drop-more cs j h, e, failing, add-one j)
-
-  pub fault-end : (cs : List (List ℕ)) (j : ℕ) → length cs ≤ j → failing judged s b j (drop j cs) ≡ none
-  fault-end cs j h = rw (drop-of-length-le cs h)
 
   -- ---- which one it is
   -- check j of those from number i on

@@ -1,5 +1,6 @@
 // The receiver's library for C: the packet call, verification and repair.
 ghost use mathlib.Core.Path.{_≡_};
+ghost use Prim.Native.Nat.{_≤_};
 ghost use lib.ListN.{length};
 ghost use Rattle.table.specs.PacketCall.{packetRefusal, partStart, partLength};
 ghost use Rattle.verify.specs.Verify.{verifyAnswer};
@@ -47,6 +48,23 @@ pub struct Verification {
     pub byte: u32,
 }
 
+// a check that fails, and its byte
+fn fails(check: usize, byte: usize) -> Verification
+    requires { ⌜ (check ≤ 1024)
+        × (byte ≤ 1024) ⌝ }
+    ensures { λ r. ⌜ (r .refusal ≡ 0)
+        × (r .codeword ≡ 0)
+        × (r .check ≡ check)
+        × (r .byte ≡ byte) ⌝ }
+{
+    Verification {
+        refusal: 0,
+        codeword: 0,
+        check: check as u32,
+        byte: byte as u32,
+    }
+}
+
 #[no_mangle]
 pub extern "C" fn bs_verify(table: &[u16], block: &[u8]) -> Verification
     ensures refusal { λ r. ⌜ r .refusal ≡ verifyAnswer (now (table .entry)) (now (block .entry)) .refusal ⌝ }
@@ -67,12 +85,7 @@ pub extern "C" fn bs_verify(table: &[u16], block: &[u8]) -> Verification
             check: 0,
             byte: 0,
         },
-        Verified::Fails(check, byte) => Verification {
-            refusal: 0,
-            codeword: 0,
-            check: check as u32,
-            byte: byte as u32,
-        },
+        Verified::Fails(check, byte) => fails(check, byte),
     }
 }
 

@@ -1,6 +1,8 @@
 -- The checks that have restored a place: none at the start, and after all turns none needs to be summed.
-use mathlib.Core.Path.{_≡_, sym, ap, _∙_}
+use mathlib.Core.Path.{_≡_, sym, ap, ap₂, _∙_}
+use mathlib.Core.Bool.{false}
 use mathlib.Core.List.{List, []}
+use mathlib.Core.Option.{some}
 use Prim.Native.Nat.{ℕ, _+_, _<_, _≤_}
 use native.Mathlib.Omega.{arith}
 use lib.Dec.{eqb}
@@ -18,6 +20,8 @@ use Rattle.erasure.specs.Restoring.{noneLost}
 use Rattle.faults.specs.FaultLaws.{fault-zero, fault-past}
 use Rattle.faults.specs.Faults.{failing}
 use Rattle.turns.specs.Spent.{Spent}
+use Rattle.restore.specs.Mending.{faultTold}
+use Rattle.restore.specs.declared.Judged.{Judged}
 
 pub spent-start : (t : List ℕ) (m n s : ℕ) (b l : List ℕ) → m ≤ 512 → Spent t m n s b l (replicate 512 0)
 spent-start t m n s b l few = record {
@@ -36,9 +40,13 @@ passed t m n s b l count used cs j h i is co sp u = byBool (eqb (getD count j 0)
     (λ e. fault-past (noneLost l) s (packets s n b) cs j i (ap (noneLost l) is ∙ ap (λ k. eqb k 0) (sym (co .each j h)) ∙ e))
 
 -- the byte that is told is small
-pub byte-fits : (t : List ℕ) (m n s : ℕ) → Accepted t m n s → (b : List ℕ) (at w : ℕ) → CheckIn t at w b n s → (r : ℕ) → r ≡ lowestNonzero (checkSum t at w b n s) → r < 4294967296
+pub byte-fits : (t : List ℕ) (m n s : ℕ) → Accepted t m n s → (b : List ℕ) (at w : ℕ) → CheckIn t at w b n s → (r : ℕ) → r ≡ lowestNonzero (checkSum t at w b n s) → r ≤ 1024
 byte-fits t m n s k b at w c r e =
     let most = lowest-le (checkSum t at w b n s) in
     let long = sum-length t at w b n s c in
     let few = few-bytes t m n s k in
     omega arith
+
+-- what is told of a check that fails
+pub told-fault : (r : Judged) (k y : ℕ) → r .agrees ≡ false → r .check ≡ k → r .byte ≡ y → faultTold r ≡ some (record { check = k; byte = y })
+told-fault r k y e1 e2 e3 = rw e1 (ap₂ (λ u v. some (record { check = u; byte = v })) e2 e3)

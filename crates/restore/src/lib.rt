@@ -37,6 +37,21 @@ pub struct Judged {
     pub byte: u32,
 }
 
+// a check that fails, and its byte
+fn fails(check: usize, byte: usize) -> Judged
+    requires { ⌜ (check ≤ 1024)
+        × (byte ≤ 1024) ⌝ }
+    ensures { λ r. ⌜ (r .agrees ≡ false)
+        × (r .check ≡ check)
+        × (r .byte ≡ byte) ⌝ }
+{
+    Judged {
+        agrees: false,
+        check: check as u32,
+        byte: byte as u32,
+    }
+}
+
 // looks at the checks without a lost place; those that restored a place sum to zero
 fn judge(
     t: &[u16],
@@ -64,11 +79,7 @@ fn judge(
         if marks::to_sum(count[j], used[j]) {
             let low = sums::sum_of_check(t, at, w, block, n, s);
             if low != s {
-                return Judged {
-                    agrees: false,
-                    check: j as u32,
-                    byte: low as u32,
-                };
+                return fails(j, low);
             }
         }
         at += w;

@@ -1,5 +1,5 @@
 -- `bs_verify` meets its contract.
-use Prim.Native.Nat.{ℕ, _<_}
+use Prim.Native.Nat.{ℕ, _≤_}
 use mathlib.Core.Path.{_≡_, sym, ap, _∙_}
 use mathlib.Core.List.{List}
 use native.Mathlib.Omega.{arith}
@@ -18,7 +18,7 @@ use Rattle.receiver.proofs.bs_verify.Lts as lts
 use Rattle.verify.proofs.verify.Reads as verify-reads
 
 -- a check's number is below 512, and a byte's below 1,024
-small : (t b : List ℕ) (k j : ℕ) → valuesOf (Fails k j) ≡ verifyAnswer t b → (k < 4294967296) × (j < 4294967296)
+small : (t b : List ℕ) (k j : ℕ) → valuesOf (Fails k j) ≡ verifyAnswer t b → (k ≤ 512) × (j ≤ 1024)
 small t b k j e =
     let r = fails-lowest t b (record { check = k; byte = j }) (ap (λ (x : Values). x .fault) (sym e)) in
     let g = accepted t (r .table) in
@@ -43,11 +43,10 @@ enum-told c = search needs
 enum-known-check : tie.Need-enum-known-check
 enum-known-check c = search needs
 
-cast-t8 : tie.Need-cast-t8
-cast-t8 c = record { fits = small _ _ _ _ (sym (ap valuesOf (c .before .check .given .1)) ∙ c .before .before .before .verify .ensures) .0 }
-
-cast-t9 : tie.Need-cast-t9
-cast-t9 c = record { fits = small _ _ _ _ (sym (ap valuesOf (c .before .check .given .1)) ∙ c .before .before .before .verify .ensures) .1 }
+fails-requires : tie.Need-fails-requires
+fails-requires c κs =
+    let most = small _ _ _ _ (sym (ap valuesOf (c .before .check .given .1)) ∙ c .before .before .before .verify .ensures) in
+    (omega (arith, most .0, most .1), omega (arith, most .0, most .1))
 
 returns : tie.Need-returns
 returns c = numbers _ _ (c .before .refusal .given .1) (c .before .before .before .verify .ensures)
@@ -56,7 +55,10 @@ returns-2 : tie.Need-returns-2
 returns-2 c = numbers _ _ (c .enum-told .given .1) (c .before .before .verify .ensures)
 
 returns-3 : tie.Need-returns-3
-returns-3 c = numbers _ _ (c .before .check .given .1) (c .before .before .before .verify .ensures)
+returns-3 c =
+    let e = c .fails .ensures in
+    let v = numbers _ _ (c .before .before .check .given .1) (c .before .before .before .before .verify .ensures) in
+    (e .0 ∙ v .0, (e .1 ∙ v .1 .0, (e .2 ∙ v .1 .1 .0, e .3 ∙ v .1 .1 .1)))
 
 pub bs-verify-spec : {M : Type 1} → statement M
 bs-verify-spec =
@@ -66,8 +68,7 @@ bs-verify-spec =
     enum-known-refusal
     enum-told
     enum-known-check
-    cast-t8
-    cast-t9
+    fails-requires
     returns
     returns-2
     returns-3)

@@ -5,21 +5,18 @@ use Rattle.table.specs.Table.{checks}
 use Rattle.erasure.specs.Restoring.{lostPlaces, noneLost, contradiction}
 use Rattle.erasure.specs.Turns.{stateOf}
 use Rattle.turns.specs.TurnLaws.{at-check}
-use Rattle.restore.proofs.Passing.{passed, byte-fits}
+use Rattle.restore.proofs.Passing.{passed, byte-fits, told-fault}
 use Rattle.faults.specs.FaultLaws.{fault-hit, fault-zero, fault-end}
 use Rattle.faults.specs.Faults.{failing}
 use Rattle.table.specs.Accepted.{few-checks, has-weights, check-count, check-is, check-fits, check-in, offset-more}
 use Rattle.table.specs.ChecksLaws.{offset-none}
 use Rattle.table.specs.CodewordLaws.{sum-byte, sum-zero, sum-nonzero}
 use Prim.Native.Nat.{_+_, _-_, _≤_, _<_}
-use mathlib.Core.Bool.{true}
-use mathlib.Core.List.{[]}
-use mathlib.Core.Option.{some}
 use mathlib.Core.Path.{_≡_, refl, sym, ap, _∙_}
 use mathlib.Core.Logic.{⊎-elim}
 use native.Mathlib.Omega.{arith}
 use lib.Dec.{eqb}
-use lib.ListN.{length, getD, drop}
+use lib.ListN.{length, drop}
 use Rattle.restore.proofs.judge.Statement.{statement}
 use Rattle.restore.proofs.judge.Tie as tie
 
@@ -65,33 +62,30 @@ sum-of-check-requires c κs =
     let s = c .before .before .before .before .before .before .before .loop in
     check-in _ _ _ _ (p .0) (s .j) (c .before .before .before .before .before .before .loop-test .taken) _ _ (s .inv .1) (c .before .before .before .before .wide .ensures) _ (p .1)
 
-cast-t23 : tie.Need-cast-t23 Inv-loop μ-loop
-cast-t23 c =
-    let p = c .before .before .before .before .before .before .before .before .before .before .before .before .before .before .before .pre in
-    record { fits = omega (arith, few-checks _ _ _ _ (p .0), c .before .before .before .before .before .before .before .before .loop-test .taken) }
-
-cast-t24 : tie.Need-cast-t24 Inv-loop μ-loop
-cast-t24 c =
+fails-requires : tie.Need-fails-requires Inv-loop μ-loop
+fails-requires c κs =
     let p = c .before .before .before .before .before .before .before .before .before .before .before .before .before .before .before .pre in
     let a = c .before .before .before .before .before .before .before .before .before .before .before .before .before .before .before .args in
     let s = c .before .before .before .before .before .before .before .before .before .loop in
     let more = c .before .before .before .before .before .before .before .before .loop-test .taken in
     let inside = check-in (a .t .now) _ _ _ (p .0) (s .j) more _ _ (s .inv .1) (c .before .before .before .before .before .before .wide .ensures) (a .block .now) (p .1) in
-    record { fits = byte-fits (a .t .now) (a .m) (a .n) (a .s) (p .0) _ _ _ inside _ (c .before .sum-of-check .ensures) }
+    (omega (arith, few-checks _ _ _ _ (p .0), more), omega (arith, byte-fits (a .t .now) (a .m) (a .n) (a .s) (p .0) _ _ _ inside _ (c .before .sum-of-check .ensures)))
 
 returns : tie.Need-returns Inv-loop μ-loop
 returns c =
-    let p = c .before .before .before .before .before .before .before .before .before .before .before .before .before .before .before .pre in
-    let a = c .before .before .before .before .before .before .before .before .before .before .before .before .before .before .before .args in
-    let s = c .before .before .before .before .before .before .before .before .before .loop in
-    let more = c .before .before .before .before .before .before .before .before .loop-test .taken in
-    let is = check-is (a .t .now) _ _ _ (p .0) (s .j) more _ _ (s .inv .1) (c .before .before .before .before .before .before .wide .ensures) in
-    let inside = check-in (a .t .now) _ _ _ (p .0) (s .j) more _ _ (s .inv .1) (c .before .before .before .before .before .before .wide .ensures) (a .block .now) (p .1) in
-    let z = sum-nonzero (a .t .now) (a .block .now) (a .n) (a .s) _ _ inside _ is _ (c .before .sum-of-check .ensures) (c .if2 .taken) in
-    let y = sum-byte (a .t .now) (a .block .now) (a .n) (a .s) _ _ inside _ is _ (c .before .sum-of-check .ensures) in
-    let none : noneLost (a .map .now) (getD (checks (a .t .now)) (s .j) []) ≡ true = ap (λ k. eqb k 0) (sym (p .3 .each (s .j) more ∙ ap (λ l. length (lostPlaces (a .map .now) l)) (sym (at-check (a .t .now) (a .m) (a .n) (a .s) (p .0) (s .j) more))) ∙ c .before .before .before .to-sum .ensures .0 (c .before .before .if1 .taken)) in
-    ap (λ k. some (record { check = s .j; byte = k })) y
-    ∙ sym (s .inv .2 ∙ fault-hit (noneLost (a .map .now)) (a .s) (packets (a .s) (a .n) (a .block .now)) (checks (a .t .now)) (s .j) (rw (check-count _ _ _ _ (p .0)) more) none z)
+    let p = c .before .before .before .before .before .before .before .before .before .before .before .before .before .before .before .before .pre in
+    let a = c .before .before .before .before .before .before .before .before .before .before .before .before .before .before .before .before .args in
+    let s = c .before .before .before .before .before .before .before .before .before .before .loop in
+    let more = c .before .before .before .before .before .before .before .before .before .loop-test .taken in
+    let is = check-is (a .t .now) _ _ _ (p .0) (s .j) more _ _ (s .inv .1) (c .before .before .before .before .before .before .before .wide .ensures) in
+    let inside = check-in (a .t .now) _ _ _ (p .0) (s .j) more _ _ (s .inv .1) (c .before .before .before .before .before .before .before .wide .ensures) (a .block .now) (p .1) in
+    let z = sum-nonzero (a .t .now) (a .block .now) (a .n) (a .s) _ _ inside _ is _ (c .before .before .sum-of-check .ensures) (c .before .if2 .taken) in
+    let y = sum-byte (a .t .now) (a .block .now) (a .n) (a .s) _ _ inside _ is _ (c .before .before .sum-of-check .ensures) in
+    let l = p .3 .each (s .j) more ∙ ap (λ l. length (lostPlaces (a .map .now) l)) (sym (at-check (a .t .now) (a .m) (a .n) (a .s) (p .0) (s .j) more)) in
+    let e = c .fails .ensures in
+    told-fault _ (s .j) _ (e .0) (e .1) (e .2 ∙ y)
+    ∙ sym (s .inv .2 ∙ fault-hit (noneLost (a .map .now)) (a .s) (packets (a .s) (a .n) (a .block .now)) (checks (a .t .now)) (s .j) (rw (check-count _ _ _ _ (p .0)) more)
+    (ap (λ k. eqb k 0) (sym l ∙ c .before .before .before .before .to-sum .ensures .0 (c .before .before .before .if1 .taken))) z)
 
 add-at-2 : tie.Need-add-at-2 Inv-loop μ-loop
 add-at-2 c =
@@ -150,8 +144,7 @@ judge-spec =
     shared-slice-read-to-sum-2
     to-sum-requires
     sum-of-check-requires
-    cast-t23
-    cast-t24
+    fails-requires
     returns
     add-at-2
     add-j
