@@ -164,6 +164,7 @@ fn calls_of(table: &[u16]) -> Vec<(&'static str, Box<dyn Call>)> {
             calls.push((name, Box::new(calls::Repair::new(Lent::new(table), share))));
         }
         calls.push(("verify", Box::new(calls::Verify::new(Lent::new(table)))));
+        calls.push(("wrong byte", Box::new(calls::Verify::wrong_byte(Lent::new(table)))));
     }
     calls
 }

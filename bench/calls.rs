@@ -2,8 +2,9 @@
 //! places in the block, and plain Rust, on the same buffers.
 //!
 //! Additions: for encode the add steps of the plan; for verify weight - 1 for
-//! each check; for repair those it reports, and weight - 1 for each check
-//! without a lost place that restored none, as these are looked at last.
+//! each check up to the one that fails; for repair those it reports, and
+//! weight - 1 for each check without a lost place that restored none, as these
+//! are looked at last.
 
 #[cfg(uplink)]
 pub use uplink::{Encode, Plan};
@@ -251,35 +252,55 @@ mod receiver {
         ) -> model::Verified;
     }
 
-    pub struct Verify(Lent);
+    pub struct Verify {
+        lent: Lent,
+        answer: model::Verified,
+    }
 
     impl Verify {
+        /// The library says what plain Rust says.
         pub fn new(lent: Lent) -> Self {
-            Verify(lent)
+            let answer = plain::verify(&lent.table, &lent.slots[..lent.bytes()]);
+            Verify { lent, answer }
+        }
+        /// The last byte of one packet is wrong: of those whose lowest check is
+        /// the highest.
+        pub fn wrong_byte(mut lent: Lent) -> Self {
+            let lowest = |p: &usize| lent.checks.iter().position(|check| check.contains(p));
+            let place = (0..lent.table[1] as usize).max_by_key(lowest).unwrap();
+            lent.slots[(place + 1) * lent.s - 1] ^= 1;
+            Verify::new(lent)
         }
         fn block(&self) -> &[u8] {
-            &self.0.slots[..self.0.bytes()]
+            &self.lent.slots[..self.lent.bytes()]
+        }
+        /// The checks up to the one that fails; all, if none does.
+        fn looked_at(&self) -> &[Vec<usize>] {
+            match self.answer.codeword {
+                1 => &self.lent.checks,
+                _ => &self.lent.checks[..=self.answer.check as usize],
+            }
         }
     }
 
     impl Call for Verify {
         fn additions(&self) -> usize {
-            additions_of(&self.0.checks)
+            additions_of(self.looked_at())
         }
         fn library(&mut self) {
-            let (table, block) = (&self.0.table, self.block());
+            let (table, block) = (&self.lent.table, self.block());
             let answer =
                 unsafe { bs_verify(table.as_ptr(), table.len(), block.as_ptr(), block.len()) };
-            assert_eq!(answer.codeword, 1);
+            assert_eq!(answer, self.answer);
         }
         fn real(&mut self) {
             let mut sum = [0; model::MAX_SIZE];
-            for check in &self.0.checks {
-                sum_of_check(check, self.block(), &mut sum[..self.0.s]);
+            for check in self.looked_at() {
+                sum_of_check(check, self.block(), &mut sum[..self.lent.s]);
             }
         }
         fn plain(&mut self) {
-            assert_eq!(plain::verify(black_box(&self.0.table), self.block()).codeword, 1);
+            assert_eq!(plain::verify(black_box(&self.lent.table), self.block()), self.answer);
         }
         fn packets(&self) -> Vec<&[u8]> {
             vec![self.block()]

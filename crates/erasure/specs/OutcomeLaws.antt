@@ -7,7 +7,7 @@ use native.Mathlib.Omega.{arith}
 use lib.Dec.{eqb}
 use lib.ListN.{length, getD, replicate, length-replicate}
 use Rattle.lists.specs.Tests.{eqb-comm, byOpt, byBool}
-use Rattle.lists.specs.Lists.{filter, All, All.nil, All.cons}
+use Rattle.lists.specs.Lists.{filter, All.nil, All.cons}
 use Rattle.table.specs.PacketCall.{partAt}
 use Rattle.table.specs.PacketLaws.{packets-length, packets-sized, joined-packets, packet-at}
 use Rattle.table.specs.Packets.{Packets, packets, joined}

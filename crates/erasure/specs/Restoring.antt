@@ -1,6 +1,6 @@
 -- Restoring (document 01, "Repair and the other calls"). A block is its n packets; the lost map has a byte a place: 1 is lost, any
 -- other byte is known; a restored place is marked 2.
-use mathlib.Core.Bool.{Bool, true, false, cond, not, _||_}
+use mathlib.Core.Bool.{Bool, true, false, cond}
 use mathlib.Core.List.{List, [], _∷_}
 use mathlib.Core.Option.{Option, none, some}
 use Prim.Native.Nat.{ℕ, zero, suc, _+_, _-_}

@@ -1,6 +1,6 @@
 -- Repair restores the packets of the codeword, and then nothing contradicts.
 use mathlib.Core.Path.{_≡_, refl, sym, ap, ap₂, _∙_, subst}
-use mathlib.Core.Bool.{Bool, true, false, cond, not, _||_, _&&_, true≢false, false≢true}
+use mathlib.Core.Bool.{Bool, true, false, cond, not, true≢false, false≢true}
 use mathlib.Core.List.{List, [], _∷_, map}
 use mathlib.Core.Logic.{_≢_}
 use Prim.Native.Nat.{ℕ, zero, suc, _-_, _<_}
@@ -11,9 +11,9 @@ use lib.Bits.{bitXor}
 use lib.ListN.{length, getD, set, replicate, length-set}
 use lib.Seq.{ext-getD, getD-set-same, getD-set-other}
 use Rattle.gf2.specs.Gf2.{XorGroup, sumOver, add}
-use Rattle.lists.specs.Lists.{bxor, sameList, has, par, filter, minus, All, All.nil, All.cons}
+use Rattle.lists.specs.Lists.{bxor, has, par, filter, minus, All, All.nil, All.cons}
 use Rattle.gf2.specs.Group.{eq-zero}
-use Rattle.lists.specs.ListLaws.{same-self, all-filter, all-zip, filter-in, all-in, all-getD, getD-zeros, par-has, all-map}
+use Rattle.lists.specs.ListLaws.{all-filter, all-zip, filter-in, all-in, all-getD, getD-zeros, par-has, all-map}
 use Rattle.table.specs.PacketLaws.{view, sum-view}
 use Rattle.lists.specs.Tests.{eqb-true, eqb-false, eqb-self, byOpt, byBool}
 use Rattle.table.specs.Packets.{packetSum, Packets}

@@ -18,17 +18,17 @@ use Rattle.erasure.specs.RestoringLaws.{restoring-same, restoring-mark}
 use Rattle.erasure.specs.Stopping.{lostIn}
 use Rattle.erasure.specs.Tally.{restoredIn, restored-and-lost}
 use Rattle.erasure.specs.Values.{received-kept, left-zero, restored, no-contradiction, zeroLost-kept, zeroLost-zero}
-use Rattle.faults.specs.FaultLaws.{some-fault, first-fault}
+use Rattle.faults.specs.FaultLaws.{some-fault, first-fault, fault-first}
 use Rattle.faults.specs.Faults.{Fault, noFault, FirstFault}
 use Rattle.lists.specs.ListLaws.{all-map}
 use Rattle.lists.specs.Lists.{All}
 use Rattle.lists.specs.Tests.{eqb-true, eqb-false, byBool}
-use Rattle.repair.specs.Repair.{repairRefusal, handedOn, repairAnswerAt, repairAnswer, repairBlockAfter, repairMapAfter, Fitting, Agree}
+use Rattle.repair.specs.Repair.{repairRefusal, handedOn, refusedWith, repairAnswerAt, repairAnswer, repairBlockAfter, repairMapAfter, Fitting, Agree}
 use Rattle.repair.specs.RepairLaws.{fitting-refusal, accepted-fits, contradicted-fits, none-handed, bytes-all, byte-at, block-accepted, block-contradicted, map-accepted, map-refused}
 use Rattle.table.specs.Codewords.{IsCodeword}
 use Rattle.table.specs.PacketCall.{partAt}
 use Rattle.table.specs.PacketLaws.{packets-length, packets-sized, joined-packets, joined-length, packet-at}
-use Rattle.table.specs.Packets.{packets, joined, packetSum}
+use Rattle.table.specs.Packets.{Packets, packets, joined, packetSum}
 use Rattle.table.specs.Table.{places, size, checks}
 use Rattle.table.specs.TableLaws.{accepted}
 
@@ -61,14 +61,14 @@ reported t b map = record { check = repairAnswer t b map .check; byte = repairAn
 
 -- packets that contradict
 pub record Contradicted (t b map : List ℕ) : Type 0 where
-  -- the check that is reported "is the lowest that fails after restoring, among those then without a lost place": it has none, its sum
-  -- isn't zero at the byte and is zero below it, and every lower check without a lost place sums to zero
-  pub first : FirstFault (noneLost (outcome t b map .map)) (size t) (outcome t b map .block) (checks t) (reported t b map)
   -- come from no codeword
   pub no-codeword : (w : List ℕ) → IsCodeword t w → Agree t b map w → ⊥
   pub received : (p : ℕ) → p < places t → getD map p 0 ≡ 0 → partAt (size t) p (repairBlockAfter t b map) ≡ partAt (size t) p b
   pub zeroed : (p : ℕ) → p < places t → getD map p 0 ≡ 1 → partAt (size t) p (repairBlockAfter t b map) ≡ replicate (size t) 0
   pub map-kept : repairMapAfter t b map ≡ map
+  -- the check that is reported "is the lowest that fails after restoring, among those then without a lost place": it has none, its sum
+  -- isn't zero at the byte and is zero below it, and every lower check without a lost place sums to zero
+  pub first : FirstFault (noneLost (outcome t b map .map)) (size t) (outcome t b map .block) (checks t) (reported t b map)
 
 -- ---- the tests
 not-lost : (map : List ℕ) (p : ℕ) → getD map p 0 ≡ 0 → isLost map p ≡ false
@@ -145,9 +145,17 @@ module _ (t b map w : List ℕ) (f : Fitting t b map) (word : IsCodeword t w) (a
         (λ z. absurd (e (ap (λ l. getD l p 0) (map-is t b map passes) ∙ eqb-true _ 1 z))) (λ z. z)) ∙ packet-at (size t) (places t) w p h;
   }
 
+-- the restored packets, and the places of the checks
+module _ (t b map : List ℕ) (f : Fitting t b map) where
+  sized : Packets (size t) (outcome t b map .block)
+  sized = outcome-sized t b map (f .table) (f .block)
+
+  low : All (λ c. All (λ p. p < length (outcome t b map .block)) c) (checks t)
+  low = subst (λ k. All (λ c. All (λ p. p < k) c) (checks t)) (sym (outcome-length t b map (f .table) (f .block))) (accepted t (f .table) .low)
+
 pub contradicted-repair : (t b map : List ℕ) → repairRefusal t b map ≡ 8 → Contradicted t b map
 contradicted-repair t b map h = record {
-  first = first-fault (noneLost (outcome t b map .map)) (size t) (outcome t b map .block) (outcome-sized t b map (fits .table) (fits .block)) (checks t) low (reported t b map) is-reported;
+  first = first-fault (noneLost (outcome t b map .map)) (size t) (outcome t b map .block) (sized t b map fits) (checks t) (low t b map fits) (reported t b map) is-reported;
   no-codeword = λ w word agree. let z : _≡_ {A = ℕ} 8 0 = sym h ∙ repairing t b map w fits word agree .not-refused in omega arith;
   received = λ p k e. part p k ∙ zeroLost-kept (size t) map (packets (size t) (places t) b) p (not-lost map p e) ∙ packet-at (size t) (places t) b p k;
   zeroed = λ p k e. part p k ∙ zeroLost-zero (size t) map (packets (size t) (places t) b) p (subst (λ x. p < x) (sym (packets-length (size t) (places t) b)) k) (is-lost map p e);
@@ -157,15 +165,20 @@ contradicted-repair t b map h = record {
     fits : Fitting t b map
     fits = contradicted-fits t b map h .0
 
-    low : All (λ c. All (λ p. p < length (outcome t b map .block)) c) (checks t)
-    low = subst (λ k. All (λ c. All (λ p. p < k) c) (checks t)) (sym (outcome-length t b map (fits .table) (fits .block))) (accepted t (fits .table) .low)
-
     -- what contradicts is reported
     is-reported : contradicting t b map ≡ some (reported t b map)
     is-reported = some-fault (contradicting t b map) (contradicted-fits t b map h .1) ∙ rw h
 
     part : (p : ℕ) → p < places t → partAt (size t) p (repairBlockAfter t b map) ≡ getD (zeroLost (size t) map (packets (size t) (places t) b)) p []
     part p k = ap (partAt (size t) p) (block-contradicted t b map h) ∙ part-joined (size t) (places t) _ (start-length t b map (fits .table) (fits .block)) (start-sized t b map (fits .table) (fits .block)) p k
+
+-- and the lowest is reported: where a check without a lost place fails after restoring, 8 hands on that one and its byte
+pub lowest-reported : (t b map : List ℕ) → Fitting t b map → (f : Fault) → FirstFault (noneLost (outcome t b map .map)) (size t) (outcome t b map .block) (checks t) f
+    → repairAnswer t b map ≡ refusedWith 8 (f .check) (f .byte)
+lowest-reported t b map fits f first =
+    let is : contradicting t b map ≡ some f = fault-first (noneLost (outcome t b map .map)) (size t) (outcome t b map .block) (sized t b map fits) (checks t) (low t b map fits) f first in
+    let bad : repairRefusal t b map ≡ 8 = fitting-refusal t b map fits ∙ ap (λ x. cond (noFault x) 0 8) is in
+    rw (bad, is)
 
 -- no other answer has a check or a byte
 pub none-reported : (t b map : List ℕ) → repairRefusal t b map ≢ 8 → (repairAnswer t b map .check ≡ 0) × (repairAnswer t b map .byte ≡ 0)

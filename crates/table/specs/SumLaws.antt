@@ -68,11 +68,6 @@ same-lowest [] e = refl
 same-lowest (zero ∷ x) e = ap suc (same-lowest x e)
 same-lowest (suc v ∷ x) e = absurd (false≢true (rw (eqb·suc-zero v) at e))
 
-pub zeros-lowest : (n : ℕ) → lowestNonzero (replicate n 0) ≡ n
-unfolding lowestNonzero
-zeros-lowest zero = refl
-zeros-lowest (suc n) = ap suc (zeros-lowest n)
-
 -- a first part of k bytes holds it
 pub lowest-in-first : (k : ℕ) (x : List ℕ) → lowestNonzero (take k x) < k → lowestNonzero (take k x) < length x → lowestNonzero x ≡ lowestNonzero (take k x)
 unfolding lowestNonzero

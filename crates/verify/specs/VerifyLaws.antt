@@ -1,16 +1,15 @@
 -- The call of verification by cases, and what its values tell.
-use mathlib.Core.Path.{_≡_, refl, sym, ap, _∙_}
+use mathlib.Core.Path.{_≡_, refl, ap, _∙_}
 use mathlib.Core.Bool.{Bool, true, true≢false, false≢true}
 use mathlib.Core.List.{List, [], _∷_}
 use mathlib.Core.Logic.{_≢_}
 use mathlib.Core.Option.{Option, none, some, Option·none-ne-some, Option·some-ne-none, Option·some-injective}
-use Prim.Native.Nat.{ℕ, zero, suc, _+_, _*_, _<_}
-use native.Mathlib.Omega.{arith}
+use Prim.Native.Nat.{ℕ, zero, suc, _*_}
 use borrow.Author.Tests.{eq-eqb, ne-eqb, not-false}
 use lib.Dec.{eqb}
-use lib.ListN.{length, getD, take, replicate}
-use Rattle.lists.specs.Tests.{eqb-true, byBool}
-use Rattle.lists.specs.Lists.{All, All.nil, All.cons}
+use lib.ListN.{length}
+use Rattle.lists.specs.Tests.{eqb-true}
+use Rattle.lists.specs.Lists.{All.cons}
 use Rattle.faults.specs.Faults.{Fault, failing, everyCheck}
 use Rattle.table.specs.FirstCause.{firstCause, wrongLength, NoneHolds}
 use Rattle.table.specs.FirstCauseLaws.{none-holds, none-refuses, first-decides, rest-decides}
