@@ -63,11 +63,11 @@ typedef struct {
  * zero bytes; map and received places are kept.
  *
  * With 8 check and byte tell of the block as restored, before lost places
- * become zero again. check is the lowest check that fails: of those then
- * without a lost place, the first whose packets don't sum to zero. byte is the
- * position, 0 to s - 1, of the lowest byte of that sum that isn't zero. So 0
- * and 0 say that check 0 fails at byte 0. If the call is accepted, or refused
- * with another number, both are 0. */
+ * become zero. check is the lowest check that fails: of those then without a
+ * lost place, the first whose packets don't sum to zero. byte is the position,
+ * 0 to s - 1, of the lowest byte of that sum that isn't zero. So 0 and 0 say
+ * that check 0 fails at byte 0. If the call is accepted, or refused with
+ * another number, both are 0. */
 bs_repaired bs_repair(const uint16_t *table, size_t table_len,
                       uint8_t *block, size_t block_len,
                       uint8_t *map, size_t map_len);

@@ -98,8 +98,8 @@ done
 
 cmp received corrections
 
-# A wrong byte, 37 of the last packet, which lies in the last check alone: verification and refusal 8 tell both. A map that marks no
-# place as lost, and a block that keeps what it holds.
+# A wrong byte, 37 of the last packet, which lies in the last check alone: verification and refusal 8 tell both. No place is marked
+# lost, so that the block keeps what it holds.
 printf '\377' | dd of=block.aa bs=1 seek=$((63 * size + 37)) conv=notrunc 2>/dev/null
 cp block.aa damaged
 head -c 64 /dev/zero >map

@@ -79,7 +79,7 @@ contradicting t b map = contradiction (size t) (checks t) (outcome t b map)
 
 -- nothing contradicts
 abbrev pub agreeing : List ℕ → List ℕ → List ℕ → Bool
-agreeing t b map = consistent (size t) (checks t) (outcome t b map)
+agreeing t b map = noFault (contradicting t b map)
 
 -- what is told: restored is lost before less lost after; where received packets contradict, counts 0 and the check and byte that do
 pub record Counts : Type 0 where

@@ -47,7 +47,7 @@ module _ (judged : List ℕ → Bool) (s : ℕ) (b : List (List ℕ)) where
   pub fault-end : (cs : List (List ℕ)) (j : ℕ) → length cs ≤ j → failing judged s b j (drop j cs) ≡ none
   fault-end cs j h = rw (drop-of-length-le cs h)
 
-  -- ---- none fails exactly if they all do
+  -- ---- none fails exactly if every judged check sums to zero
   pub none-fails : (i : ℕ) (cs : List (List ℕ)) → failing judged s b i cs ≡ none → Zeros cs
   none-fails i [] h = nil
   none-fails i (c ∷ cs) h = byBool (judged c)

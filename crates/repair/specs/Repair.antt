@@ -45,7 +45,7 @@ pub record RepairAnswer : Type 0 where
   pub check : ℕ
   pub byte : ℕ
 
--- "refusal 8" hands "on the lowest failing check with that byte" (document 02, C-12), and no other answer does
+-- "verification and refusal 8 hand on the lowest failing check with that byte" (document 02, C-12); no other answer of repair has one
 abbrev pub handedOn : ℕ → Option Fault → Option Fault
 handedOn r f = elim (eqb r 8) [ true ↦ f | false ↦ none ]
 
@@ -55,7 +55,7 @@ refusedWith r check byte = record { refusal = r; restored = 0; lost = 0; additio
 
 -- by the refusal's number, 0 for none, what restoring comes to, and what is handed on
 abbrev pub repairAnswerAt : ℕ → State → Option Fault → RepairAnswer
-repairAnswerAt zero m f = record { refusal = 0; restored = tally 2 (m .map); lost = tally 1 (m .map); additions = m .adds; check = 0; byte = 0 }
+repairAnswerAt zero m f = record { refusal = 0; restored = tally 2 (m .map); lost = tally 1 (m .map); additions = m .adds; check = checkOf f; byte = byteOf f }
 repairAnswerAt (suc r) m f = refusedWith (suc r) (checkOf f) (byteOf f)
 
 abbrev pub repairAnswer : List ℕ → List ℕ → List ℕ → RepairAnswer

@@ -1,4 +1,4 @@
--- Demand 2 on repair, over the definitions of the call, for every table that is accepted, every block and every pattern of loss.
+-- Demand 2 on repair, and the check and byte that C-12 asks for, over the definitions of the call, for every table that is accepted, every block and every pattern of loss.
 use mathlib.Core.Path.{_≡_, refl, sym, ap, ap₂, _∙_, subst}
 use mathlib.Core.Bool.{Bool, true, false, cond}
 use mathlib.Core.List.{List, []}
@@ -66,6 +66,8 @@ pub record Contradicted (t b map : List ℕ) : Type 0 where
   pub received : (p : ℕ) → p < places t → getD map p 0 ≡ 0 → partAt (size t) p (repairBlockAfter t b map) ≡ partAt (size t) p b
   pub zeroed : (p : ℕ) → p < places t → getD map p 0 ≡ 1 → partAt (size t) p (repairBlockAfter t b map) ≡ replicate (size t) 0
   pub map-kept : repairMapAfter t b map ≡ map
+  -- what is lost after restoring is the largest stopping set among the lost places
+  pub stays : Largest t map (isLost (outcome t b map .map))
   -- the check that is reported "is the lowest that fails after restoring, among those then without a lost place": it has none, its sum
   -- isn't zero at the byte and is zero below it, and every lower check without a lost place sums to zero
   pub first : FirstFault (noneLost (outcome t b map .map)) (size t) (outcome t b map .block) (checks t) (reported t b map)
@@ -160,6 +162,7 @@ contradicted-repair t b map h = record {
   received = λ p k e. part p k ∙ zeroLost-kept (size t) map (packets (size t) (places t) b) p (not-lost map p e) ∙ packet-at (size t) (places t) b p k;
   zeroed = λ p k e. part p k ∙ zeroLost-zero (size t) map (packets (size t) (places t) b) p (subst (λ x. p < x) (sym (packets-length (size t) (places t) b)) k) (is-lost map p e);
   map-kept = map-refused t b map 8 h refl;
+  stays = stays-lost t b map (fits .map-length);
 }
   where
     fits : Fitting t b map
@@ -182,11 +185,11 @@ lowest-reported t b map fits f first =
 
 -- no other answer has a check or a byte
 pub none-reported : (t b map : List ℕ) → repairRefusal t b map ≢ 8 → (repairAnswer t b map .check ≡ 0) × (repairAnswer t b map .byte ≡ 0)
-none-reported t b map ne = rw (none-handed (repairRefusal t b map) (contradicting t b map) (ne-eqb (repairRefusal t b map) 8 ne)) (at (repairRefusal t b map) (outcome t b map))
+none-reported t b map ne = rw (none-handed (repairRefusal t b map) (contradicting t b map) (ne-eqb (repairRefusal t b map) 8 ne)) (at (repairRefusal t b map))
   where
-    at : (r : ℕ) (m : State) → (repairAnswerAt r m none .check ≡ 0) × (repairAnswerAt r m none .byte ≡ 0)
-    at zero m = (refl, refl)
-    at (suc r) m = (refl, refl)
+    at : (r : ℕ) → (repairAnswerAt r (outcome t b map) none .check ≡ 0) × (repairAnswerAt r (outcome t b map) none .byte ≡ 0)
+    at zero = (refl, refl)
+    at (suc r) = (refl, refl)
 
 -- "Old bytes at lost places never count": blocks with the same received packets come to the same answer, block and map
 pub record Alike (t b c map : List ℕ) : Type 0 where

@@ -1,8 +1,8 @@
--- The checks that have restored a place: none at the start, and after all turns none needs to be summed.
-use mathlib.Core.Path.{_≡_, sym, ap, ap₂, _∙_}
-use mathlib.Core.Bool.{false}
+-- The look at the checks: those that have restored a place, none at the start, needn't be summed; what is told of one that fails.
+use mathlib.Core.Path.{_≡_, sym, ap, _∙_}
+use mathlib.Core.Bool.{true, false}
 use mathlib.Core.List.{List, []}
-use mathlib.Core.Option.{some}
+use mathlib.Core.Option.{Option, none, some}
 use Prim.Native.Nat.{ℕ, _+_, _<_, _≤_}
 use native.Mathlib.Omega.{arith}
 use lib.Dec.{eqb}
@@ -18,9 +18,9 @@ use Rattle.table.specs.CodewordLaws.{zero-complete}
 use Rattle.chains.specs.Linked.{Counted}
 use Rattle.erasure.specs.Restoring.{noneLost}
 use Rattle.faults.specs.FaultLaws.{fault-zero, fault-past}
-use Rattle.faults.specs.Faults.{failing}
+use Rattle.faults.specs.Faults.{Fault, noFault, checkOf, byteOf, failing}
 use Rattle.turns.specs.Spent.{Spent}
-use Rattle.restore.specs.Mending.{faultTold}
+use Rattle.restore.specs.Mending.{Tells}
 use Rattle.restore.specs.declared.Judged.{Judged}
 
 pub spent-start : (t : List ℕ) (m n s : ℕ) (b l : List ℕ) → m ≤ 512 → Spent t m n s b l (replicate 512 0)
@@ -47,6 +47,9 @@ byte-fits t m n s k b at w c r e =
     let few = few-bytes t m n s k in
     omega arith
 
--- what is told of a check that fails
-pub told-fault : (r : Judged) (k y : ℕ) → r .agrees ≡ false → r .check ≡ k → r .byte ≡ y → faultTold r ≡ some (record { check = k; byte = y })
-told-fault r k y e1 e2 e3 = rw e1 (ap₂ (λ u v. some (record { check = u; byte = v })) e2 e3)
+-- what is told of a check that fails, and where none does
+pub tells-fault : (r : Judged) (f : Option Fault) (k y : ℕ) → f ≡ some (record { check = k; byte = y }) → r .agrees ≡ false → r .check ≡ k → r .byte ≡ y → Tells r f
+tells-fault r f k y is e1 e2 e3 = record { agrees-is = e1 ∙ sym (ap noFault is); check-is = e2 ∙ sym (ap checkOf is); byte-is = e3 ∙ sym (ap byteOf is) }
+
+pub tells-none : (r : Judged) (f : Option Fault) → f ≡ none → r .agrees ≡ true → r .check ≡ 0 → r .byte ≡ 0 → Tells r f
+tells-none r f is e1 e2 e3 = record { agrees-is = e1 ∙ sym (ap noFault is); check-is = e2 ∙ sym (ap checkOf is); byte-is = e3 ∙ sym (ap byteOf is) }

@@ -16,7 +16,9 @@ use Rattle.table.specs.Table.{places, size, checks}
 use Rattle.table.specs.Accepted.{Accepted}
 use Rattle.erasure.specs.OutcomeLaws.{start-length, start-sized, outcome-length, outcome-sized, tally-fewer}
 use Rattle.erasure.specs.Restoring.{zeroLost, restoring, contradiction, tally, outcome, contradicting, isLost}
-use Rattle.restore.specs.Mending.{faultTold, Mends}
+use Rattle.restore.specs.Mending.{Tells, Mends}
+use Rattle.faults.specs.FaultLaws.{no-fault, some-fault}
+use Rattle.faults.specs.Faults.{noFault, checkOf, byteOf}
 use Rattle.erasure.specs.Turns.{Restored, stateOf}
 use Rattle.erasure.specs.Values.{received-kept, zeroLost-length, zeroLost-kept, zeroLost-zero}
 use Rattle.restore.specs.declared.Judged.{Judged}
@@ -82,12 +84,16 @@ module _ (t : List ℕ) (m n s : ℕ) (k : Accepted t m n s) (b l : List ℕ) (l
   pub fewer : tally 1 l₂ ≤ tally 1 l
   fewer = rw map-then (tally-fewer t b l)
 
-  module _ (look : Judged) (looked : faultTold look ≡ contradiction s (checks t) (stateOf s n b₂ l₂ 0)) where
+  module _ (look : Judged) (looked : Tells look (contradiction s (checks t) (stateOf s n b₂ l₂ 0))) where
+    -- whether it agrees
+    agreed : noFault (contradicting t b l) ≡ look .agrees
+    agreed = sym (looked .agrees-is ∙ ap noFault look-then)
+
     -- no contradiction
     pub settled : look .agrees ≡ true → (r : Mended) → r .agrees ≡ true → r .restored ≡ tally 1 l - tally 1 l₂ → r .lost ≡ tally 1 l₂ → r .additions ≡ adds
         → r .check ≡ 0 → r .byte ≡ 0 → Mends t b l r b₂ l₂
     settled pass r e1 e2 e3 e4 e5 e6 =
-        let ok : contradicting t b l ≡ none = sym (looked ∙ look-then) ∙ rw pass in
+        let ok : contradicting t b l ≡ none = no-fault (contradicting t b l) (agreed ∙ pass) in
         let a : adds ≡ outcome t b l .adds = done .adds-are ∙ ap (λ st. st .adds) state-then in
         record {
           report = rw (ok, e1, e2, e3, e4, e5, e6, map-then, a);
@@ -99,7 +105,9 @@ module _ (t : List ℕ) (m n s : ℕ) (k : Accepted t m n s) (b l : List ℕ) (l
     pub unsettled : look .agrees ≡ false → (l₃ b₃ : List ℕ) → l₃ ≡ l → b₃ ≡ joined (zeroLost s l₃ (packets s n b₂))
         → (r : Mended) → r .agrees ≡ false → r .restored ≡ 0 → r .lost ≡ 0 → r .additions ≡ 0 → r .check ≡ look .check → r .byte ≡ look .byte → Mends t b l r b₃ l₃
     unsettled fail l₃ b₃ back g r e1 e2 e3 e4 e5 e6 =
-        let bad : contradicting t b l ≡ some (record { check = look .check; byte = look .byte }) = sym (looked ∙ look-then) ∙ rw fail in
+        let bad : contradicting t b l ≡ some (record { check = look .check; byte = look .byte }) =
+        some-fault (contradicting t b l) (agreed ∙ fail)
+        ∙ ap₂ (λ x y. some (record { check = x; byte = y })) (sym (looked .check-is ∙ ap checkOf look-then)) (sym (looked .byte-is ∙ ap byteOf look-then)) in
         let again : zeroLost s l₃ (packets s n b₂) ≡ zeroLost (size t) l (packets (size t) (places t) b) =
         ap₂ (λ x y. zeroLost x y (packets s n b₂)) (k .size-is) back ∙ ap (zeroLost (size t) l) packets-after
         ∙ zero-same (size t) l (outcome t b l .block) (packets (size t) (places t) b) (outcome-length t b l (k .accepted) fits ∙ sym (packets-length (size t) (places t) b))

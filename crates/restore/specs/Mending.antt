@@ -1,17 +1,18 @@
 -- What the core tells, and what it leaves in block and map.
 use mathlib.Core.Path.{_≡_}
-use mathlib.Core.Bool.{true, false}
 use mathlib.Core.List.{List}
-use mathlib.Core.Option.{Option, none, some}
+use mathlib.Core.Option.{Option}
 use Prim.Native.Nat.{ℕ}
 use Rattle.erasure.specs.Restoring.{Counts, outcome, contradicting, agreeing, countsIf, blockIf, mapIf}
-use Rattle.faults.specs.Faults.{Fault}
+use Rattle.faults.specs.Faults.{Fault, noFault, checkOf, byteOf}
 use Rattle.restore.specs.declared.Judged.{Judged}
 use Rattle.restore.specs.declared.Mended.{Mended}
 
--- what the look at the checks tells
-abbrev pub faultTold : Judged → Option Fault
-faultTold r = elim (r .agrees) [ true ↦ none | false ↦ some (record { check = r .check; byte = r .byte }) ]
+-- what the look at the checks tells of what it finds
+pub record Tells (r : Judged) (f : Option Fault) : Type 0 where
+  pub agrees-is : r .agrees ≡ noFault f
+  pub check-is : r .check ≡ checkOf f
+  pub byte-is : r .byte ≡ byteOf f
 
 -- what the code tells
 abbrev pub countsOf : Mended → Counts

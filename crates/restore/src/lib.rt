@@ -14,7 +14,7 @@ ghost use Rattle.chains.specs.Linked.{Counted};
 ghost use Rattle.erasure.specs.Restoring.{contradiction};
 ghost use Rattle.erasure.specs.Turns.{Restored, stateOf};
 ghost use Rattle.turns.specs.Spent.{Spent};
-ghost use Rattle.restore.specs.Mending.{faultTold, Mends};
+ghost use Rattle.restore.specs.Mending.{Tells, Mends};
 
 // What restoring comes to: whether every check without a lost place sums to zero, and the counts. If
 // not, counts are 0, and check and byte tell the lowest that doesn't; else these are 0.
@@ -30,7 +30,7 @@ pub struct Mended {
 // ---- the look at the checks
 
 // whether every check without a lost place sums to zero; if not, the lowest that doesn't, and the
-// lowest byte of its sum that isn't zero
+// lowest byte of its sum that isn't zero; else 0 and 0
 pub struct Judged {
     pub agrees: bool,
     pub check: u32,
@@ -70,7 +70,7 @@ fn judge(
         × Counted (now t) m (now map) (now count)
         × Spent (now t) m n s (now block) (now map) (now used)
         ⌝ }
-    ensures { λ r. ⌜ faultTold r ≡ contradiction s (checks (now (t .entry))) (stateOf s n (now (block .entry)) (now (map .entry)) 0) ⌝ }
+    ensures { λ r. ⌜ Tells r (contradiction s (checks (now (t .entry))) (stateOf s n (now (block .entry)) (now (map .entry)) 0)) ⌝ }
 {
     let mut at = 5 + m;
     let mut j = 0;
@@ -116,7 +116,7 @@ pub fn restore_lost(
         × (length (now map) ≡ n) ⌝ }
     ensures { λ r. ⌜
         Restored n s (checks (now (t .entry))) (now (block .entry)) (now (map .entry)) (now (block .exit)) (now (map .exit)) (r .adds)
-        × (faultTold (r .judged) ≡ contradiction s (checks (now (t .entry))) (stateOf s n (now (block .exit)) (now (map .exit)) 0))
+        × Tells (r .judged) (contradiction s (checks (now (t .entry))) (stateOf s n (now (block .exit)) (now (map .exit)) 0))
         ⌝ }
 {
     let mut count = [0u16; MOST_CHECKS];

@@ -1,4 +1,5 @@
 pub mod Demands
+pub mod NothingLost
 pub mod OwnPlan
 pub mod Refusals
 pub mod Restoring

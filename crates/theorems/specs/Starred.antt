@@ -43,7 +43,7 @@ table100 = 2 ∷ 3 ∷ 100 ∷ 2 ∷ 1 ∷ 3 ∷ 4 ∷ 0 ∷ 0 ∷ 1 ∷ 2 ∷ [
 abbrev single : ℕ → ℕ → List ℕ
 single at v = replicate at 0 ++ (v ∷ replicate (99 - at) 0)
 
--- zeros, then such a packet, then another
+-- zeros at place 0, 03 at byte k of place 1, 05 at byte i of place 2
 abbrev sumAt : ℕ → ℕ → List ℕ
 sumAt i k = replicate 100 0 ++ (single k 0x03 ++ single i 0x05)
 
@@ -107,8 +107,9 @@ starred =
     ∷ record { given = planning table10 ∷ planOf table10 .info ∷ (length (planOf table10 .steps) ∷ []) ∷ []; wanted = (0 ∷ []) ∷ (0 ∷ 1 ∷ 2 ∷ []) ∷ (0 ∷ []) ∷ [] }
     -- C-12: checks 0 1, 1 2 and 0, lost 0 and 1, 01 at place 2: refusal 8, by check 2 at byte 0
     ∷ record { given = mended table12 (0xff ∷ 0xff ∷ 0x01 ∷ []) (1 ∷ 1 ∷ 0 ∷ []); wanted = (8 ∷ 0 ∷ 0 ∷ 0 ∷ []) ∷ (2 ∷ 0 ∷ []) ∷ (0x00 ∷ 0x00 ∷ 0x01 ∷ []) ∷ (1 ∷ 1 ∷ 0 ∷ []) ∷ [] }
-    -- C-12: verification, packets of 100 bytes, two of which sum to 05 at byte 70 and 03 at byte 80
+    -- C-12: packets of 100 bytes, two of which sum to 05 at byte 70 and 03 at byte 80: verification and refusal 8 by check 1 at byte 70
     ∷ record { given = verified table100 (sumAt 70 80); wanted = (0 ∷ 0 ∷ []) ∷ (1 ∷ 70 ∷ []) ∷ [] }
+    ∷ record { given = mended table100 (sumAt 70 80) (0 ∷ 0 ∷ 0 ∷ []); wanted = (8 ∷ 0 ∷ 0 ∷ 0 ∷ []) ∷ (1 ∷ 70 ∷ []) ∷ sumAt 70 80 ∷ (0 ∷ 0 ∷ 0 ∷ []) ∷ [] }
     ∷ []
 
 pub starred-cases : map (λ c. c .given) starred ≡ map (λ c. c .wanted) starred

@@ -33,9 +33,9 @@ codeword-passes t b ok w = verification-is t b ok (w .size-fits) ∙ ap verdict 
 pub record FailsAt (t b : List ℕ) (f : Fault) : Type 0 where
   pub table : refusal t ≡ 0
   pub size-fits : length b ≡ places t * size t
-  -- the byte is below s, the sum's byte there isn't zero and every lower one is
+  -- a byte below s, where the check's sum isn't zero and every lower byte of it is zero
   pub first : FirstFault everyCheck (size t) (packets (size t) (places t) b) (checks t) f
-  -- every lower check sums to zero
+  -- in plain words: every lower check sums to zero
   pub lower : SumsToZero (size t) (take (f .check) (checks t)) (packets (size t) (places t) b)
 
 -- the n packets of such a block, and the places of the checks
@@ -55,6 +55,7 @@ fails-lowest t b f h =
     record { table = r .0; size-fits = r .1; first = first; lower = all-map (λ c z. z refl) (first .lower) }
 
 -- .. and the lowest is given
-pub lowest-given : (t b : List ℕ) (f : Fault) → FailsAt t b f → verifyAnswer t b ≡ valuesOf (Fails (f .check) (f .byte))
-lowest-given t b f w = verification-is t b (w .table) (w .size-fits)
-    ∙ ap verdict (fault-first everyCheck (size t) (packets (size t) (places t) b) (sized t b (w .table) (w .size-fits)) (checks t) (low t b (w .table) (w .size-fits)) f (w .first))
+pub lowest-given : (t b : List ℕ) (f : Fault) → refusal t ≡ 0 → length b ≡ places t * size t → FirstFault everyCheck (size t) (packets (size t) (places t) b) (checks t) f
+    → verifyAnswer t b ≡ valuesOf (Fails (f .check) (f .byte))
+lowest-given t b f ok fits first = verification-is t b ok fits
+    ∙ ap verdict (fault-first everyCheck (size t) (packets (size t) (places t) b) (sized t b ok fits) (checks t) (low t b ok fits) f first)

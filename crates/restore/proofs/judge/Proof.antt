@@ -5,7 +5,7 @@ use Rattle.table.specs.Table.{checks}
 use Rattle.erasure.specs.Restoring.{lostPlaces, noneLost, contradiction}
 use Rattle.erasure.specs.Turns.{stateOf}
 use Rattle.turns.specs.TurnLaws.{at-check}
-use Rattle.restore.proofs.Passing.{passed, byte-fits, told-fault}
+use Rattle.restore.proofs.Passing.{passed, byte-fits, tells-fault, tells-none}
 use Rattle.faults.specs.FaultLaws.{fault-hit, fault-zero, fault-end}
 use Rattle.faults.specs.Faults.{failing}
 use Rattle.table.specs.Accepted.{few-checks, has-weights, check-count, check-is, check-fits, check-in, offset-more}
@@ -83,9 +83,10 @@ returns c =
     let y = sum-byte (a .t .now) (a .block .now) (a .n) (a .s) _ _ inside _ is _ (c .before .before .sum-of-check .ensures) in
     let l = p .3 .each (s .j) more ∙ ap (λ l. length (lostPlaces (a .map .now) l)) (sym (at-check (a .t .now) (a .m) (a .n) (a .s) (p .0) (s .j) more)) in
     let e = c .fails .ensures in
-    told-fault _ (s .j) _ (e .0) (e .1) (e .2 ∙ y)
-    ∙ sym (s .inv .2 ∙ fault-hit (noneLost (a .map .now)) (a .s) (packets (a .s) (a .n) (a .block .now)) (checks (a .t .now)) (s .j) (rw (check-count _ _ _ _ (p .0)) more)
+    tells-fault _ _ (s .j) _
+    (s .inv .2 ∙ fault-hit (noneLost (a .map .now)) (a .s) (packets (a .s) (a .n) (a .block .now)) (checks (a .t .now)) (s .j) (rw (check-count _ _ _ _ (p .0)) more)
     (ap (λ k. eqb k 0) (sym l ∙ c .before .before .before .before .to-sum .ensures .0 (c .before .before .before .if1 .taken))) z)
+    (e .0) (e .1) (e .2 ∙ y)
 
 add-at-2 : tie.Need-add-at-2 Inv-loop μ-loop
 add-at-2 c =
@@ -125,7 +126,7 @@ returns-2 c =
     let p = c .before .before .before .before .before .before .before .pre in
     let a = c .before .before .before .before .before .before .before .args in
     let s = c .before .loop in
-    sym (s .inv .2 ∙ fault-end (noneLost (a .map .now)) (a .s) (packets (a .s) (a .n) (a .block .now)) (checks (a .t .now)) (s .j) (rw (check-count _ _ _ _ (p .0)) (c .loop-test .left)))
+    tells-none _ _ (s .inv .2 ∙ fault-end (noneLost (a .map .now)) (a .s) (packets (a .s) (a .n) (a .block .now)) (checks (a .t .now)) (s .j) (rw (check-count _ _ _ _ (p .0)) (c .loop-test .left))) refl refl refl
 
 pub judge-spec : {M : Type 1} → statement M
 judge-spec =
