@@ -81,7 +81,7 @@ contradicting t b map = contradiction (size t) (checks t) (outcome t b map)
 abbrev pub agreeing : List ℕ → List ℕ → List ℕ → Bool
 agreeing t b map = noFault (contradicting t b map)
 
--- what is told: restored is lost before less lost after; where received packets contradict, counts 0 and the check and byte that do
+-- what is told: restored is lost before less lost after; where received packets contradict, counts 0, and the check that fails with its byte
 pub record Counts : Type 0 where
   pub agrees : Bool
   pub restored : ℕ

@@ -30,11 +30,11 @@ abbrev pub byteOf : Option Fault → ℕ
 byteOf none = 0
 byteOf (some f) = f .byte
 
--- of check c, whose number is i
+-- that of check c, whose number is i
 abbrev pub faultOf : ℕ → List (List ℕ) → ℕ → List ℕ → Fault
 faultOf s b i c = record { check = i; byte = lowestNonzero (packetSum s b c) }
 
--- the lowest check that fails among those that are judged, the first of them being number i
+-- the lowest check that fails among those that are judged; the first of all checks is number i
 abbrev pub failing : (List ℕ → Bool) → ℕ → List (List ℕ) → ℕ → List (List ℕ) → Option Fault
 failing judged s b i [] = none
 failing judged s b i (c ∷ cs) = elim (judged c && not (zeroSum s b c)) [ true ↦ some (faultOf s b i c) | false ↦ failing judged s b (suc i) cs ]
