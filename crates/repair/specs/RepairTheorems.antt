@@ -13,7 +13,7 @@ use Rattle.erasure.specs.ContradictionLaws.{Sums, sums-of}
 use Rattle.erasure.specs.Largest.{stays-lost}
 use Rattle.erasure.specs.OldBytes.{old-bytes, old-bytes-cleared}
 use Rattle.erasure.specs.OutcomeLaws.{tally-lost, tally-restored, start-length, start-sized, outcome-length, outcome-sized, none-lost, part-joined}
-use Rattle.erasure.specs.Restoring.{State, Largest, lostPlaces, noneLost, zeroLost, contradiction, tally, outcome, contradicting, agreeing, isLost}
+use Rattle.erasure.specs.Restoring.{Largest, lostPlaces, noneLost, zeroLost, contradiction, tally, outcome, contradicting, agreeing, isLost}
 use Rattle.erasure.specs.RestoringLaws.{restoring-same, restoring-mark}
 use Rattle.erasure.specs.Stopping.{lostIn}
 use Rattle.erasure.specs.Tally.{restoredIn, restored-and-lost}
