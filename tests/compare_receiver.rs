@@ -646,6 +646,10 @@ fn told_cases(run: &mut Run) {
             &[0, 0, 0x01],
         ),
     );
+    run.fixed(
+        "C-12, byte 70",
+        told((3, 100), &[&[0], &[0, 1, 2]], &[], &[(1, 80, 3), (2, 70, 5)], (1, 70)),
+    );
     let pair: [&[usize]; 2] = [&[0], &[1]];
     run.fixed(
         "the higher check has the lower byte",
