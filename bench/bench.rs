@@ -16,11 +16,11 @@ mod gen;
 #[path = "../tests/model.rs"]
 mod model;
 mod plain;
+mod rounds;
 mod tuned;
 
 use calls::{Call, Lent};
-use gen::Rng;
-use std::fmt;
+use rounds::{flush, micros, millis, rounds, table, Ratio, SIZES};
 use std::hint::black_box;
 use std::time::{Duration, Instant};
 
@@ -33,32 +33,8 @@ const TABLES: [(&str, usize, usize); 4] = [
 /// Sources, packets, ones and seed of the tables to make: the largest, and a
 /// usual one.
 const MADE: [[usize; 4]; 2] = [[512, 1024, 10, 1], [800, 1000, 3, 12_345]];
-const SIZES: [usize; 7] = [1, 17, 64, 100, 256, 1000, 1024];
 
 // ---------------------------------------------------------------- measuring
-
-/// A ratio over all rounds.
-#[derive(Clone, Copy)]
-struct Ratio {
-    median: f64,
-    low: f64,
-    high: f64,
-}
-
-impl Ratio {
-    fn of(values: impl Iterator<Item = f64>) -> Self {
-        let mut values: Vec<f64> = values.collect();
-        values.sort_by(f64::total_cmp);
-        let at = |percent: usize| values[(values.len() - 1) * percent / 100];
-        Ratio { median: at(50), low: at(10), high: at(90) }
-    }
-}
-
-impl fmt::Display for Ratio {
-    fn fmt(&self, f: &mut fmt::Formatter) -> fmt::Result {
-        f.pad(&format!("{:.2} ({:.2} to {:.2})", self.median, self.low, self.high))
-    }
-}
 
 /// Microseconds, and the ratios to the pure exclusive-or on hot packets and
 /// over the real block, and to plain Rust. Plan and make have only the last.
@@ -66,10 +42,6 @@ struct Figures {
     time: f64,
     limits: Option<[Ratio; 2]>,
     plain: Ratio,
-}
-
-fn micros(since: Instant) -> f64 {
-    since.elapsed().as_secs_f64() * 1e6
 }
 
 /// The time of so many additions of hot packets of s bytes. A function of its
@@ -86,17 +58,6 @@ fn hot_additions(additions: usize, s: usize) -> f64 {
     micros(start)
 }
 
-/// Puts the bytes out of the caches.
-fn flush(bytes: &[u8]) {
-    use std::arch::x86_64::{_mm_clflush, _mm_mfence};
-    unsafe {
-        for line in bytes.chunks(64).chain(bytes.last().map(std::slice::from_ref)) {
-            _mm_clflush(line.as_ptr());
-        }
-        _mm_mfence();
-    }
-}
-
 /// Rounds for so long, each call with the packets in the caches or without.
 fn measure(call: &mut dyn Call, s: usize, warm: bool, long: Duration) -> Figures {
     let additions = call.additions();
@@ -109,18 +70,14 @@ fn measure(call: &mut dyn Call, s: usize, warm: bool, long: Duration) -> Figures
         run(call);
         micros(start)
     };
-    let mut rounds: Vec<[f64; 4]> = Vec::new();
-    let start = Instant::now();
-    while rounds.len() < 23 || start.elapsed() < long {
-        rounds.push([
+    let rounds = rounds(long, || {
+        [
             timed(call, |call| call.library()),
             hot_additions(additions, s),
             timed(call, |call| call.real()),
             timed(call, |call| call.plain()),
-        ]);
-    }
-    // The first two find code and branches cold.
-    let rounds = &rounds[2..];
+        ]
+    });
     let to = |kind: usize| Ratio::of(rounds.iter().map(|times| times[0] / times[kind]));
     Figures {
         time: Ratio::of(rounds.iter().map(|times| times[0])).median,
@@ -130,22 +87,6 @@ fn measure(call: &mut dyn Call, s: usize, warm: bool, long: Duration) -> Figures
 }
 
 // --------------------------------------------------- tables and their calls
-
-/// The first table of a kind, by seed, that the planner takes.
-fn table(kind: &str, n: usize, m: usize, s: usize) -> Vec<u16> {
-    let mut plan = vec![0; model::PLAN_BUFFER];
-    let mut work = vec![0; model::WORK_BUFFER];
-    let of_seed = |seed| {
-        let mut rng = Rng::new(seed, 0);
-        let checks = match kind {
-            "regular" => gen::regular(&mut rng, n, m, 3),
-            _ => gen::staircase(&mut rng, n, m, 3),
-        };
-        model::table_words(n, s, &checks)
-    };
-    let mut tables = (1..).map(of_seed);
-    tables.find(|t| tuned::plan(t, &mut plan, &mut work).refusal == 0).unwrap()
-}
 
 /// Plans don't depend on the size but for one word: plan is timed once.
 fn calls_of(table: &[u16]) -> Vec<(&'static str, Box<dyn Call>)> {
@@ -233,8 +174,6 @@ impl Report {
 }
 
 fn main() {
-    let quick = std::env::var("QUICK").is_ok_and(|quick| quick == "1");
-    let millis = |long: u64| Duration::from_millis(if quick { long / 10 } else { long });
     let mut report = Report { figures: Vec::new(), marks: Vec::new() };
     let start = Instant::now();
     for (kind, n, m) in TABLES {

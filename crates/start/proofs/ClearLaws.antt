@@ -1,218 +1,171 @@
--- Clearing: packets cleared by marks, run by run, and the slots that are zero then.
-use mathlib.Core.Path.{_≡_, refl, sym, ap, ap₂, _∙_}
-use mathlib.Core.Bool.{Bool, true, false, cond, true≢false}
-use mathlib.Core.List.{List, [], _∷_, _++_, append-assoc, append-nil}
+-- Clearing: runs of packets in a gap, the gaps between the information places, and the slots that are zero then.
+use mathlib.Core.Path.{_≡_, refl, sym, ap, _∙_}
+use mathlib.Core.Bool.{true, false, true≢false}
+use mathlib.Core.List.{List, []}
 use mathlib.Core.Logic.{⊎-elim}
-use Prim.Native.Nat.{ℕ, zero, suc, _+_, _*_, _-_, _<_, _≤_}
+use Prim.Native.Nat.{ℕ, _+_, _*_, _-_, _<_, _≤_}
 use native.Mathlib.Nat.{mul-le-mul-right}
+use native.Mathlib.Numerals.{add-one}
 use native.Mathlib.Omega.{arith}
-use lib.ListN.{length, getD, take, drop, replicate, length-append, length-drop, length-replicate, getD-replicate, List·getD-append, drop-of-length-le, replicate-append-replicate}
-use lib.Seq.{ext-getD, getD-take, getD-drop, getD-append-add, take-all, length-take-le, take-append-add, drop-append-add}
+use lib.ListN.{length, getD, replicate, length-replicate, List·getD-append}
+use lib.Seq.{ext-getD, getD-append-add}
+use Rattle.lists.specs.Buffers.{part-length, getD-part, written-bytes}
+use Rattle.lists.specs.ListLaws.{getD-has, getD-zeros}
+use Rattle.lists.specs.Lists.{has, written}
 use Rattle.lists.specs.Tests.{byBool, side}
-use Rattle.lists.specs.Lists.{All.nil, All.cons, written}
-use Rattle.table.specs.PacketLaws.{packets-length, packets-sized}
-use Rattle.table.specs.Packets.{Packets, packets, joined}
+use Rattle.table.specs.BufferLaws.{place-fits}
+use Rattle.table.specs.PacketLaws.{packets-length, packet-at}
+use Rattle.table.specs.Packets.{packets}
 use Rattle.plan.specs.declared.Step.{Step}
-use Rattle.plan.specs.Layout.{planPlaces, planGap}
+use Rattle.plan.specs.Layout.{planPlaces, planGap, infoCount, infoIn}
+use Rattle.plan.specs.LayoutLaws.{Formed, info-length}
 use Rattle.plan.specs.LookOver.{isMarked}
-use Rattle.slots.specs.SlotLaws.{all-take, all-drop, all-append}
-use Rattle.start.specs.Start.{cleared, MarkedOnly, Unmarked, slotsIn, ClearedFor}
-use Rattle.start.specs.StartLaws.{cut-again, slots-length}
+use Rattle.start.specs.Kept.{InformationKept}
+use Rattle.start.specs.Start.{clearsFirst, MarkedOnly, Alike, GapCleared, behind, GapsCleared, slotsIn, ClearedFor}
+use Rattle.start.proofs.GapLaws.{between, behind-le, behind-low}
 
--- ---- packets cleared
-pub cleared-length : (keep : ℕ → Bool) (s i : ℕ) (ps : List (List ℕ)) → length (cleared keep s i ps) ≡ length ps
-cleared-length keep s i [] = refl
-cleared-length keep s i (p ∷ ps) = ap suc (cleared-length keep s (suc i) ps)
-
-pub cleared-sized : (keep : ℕ → Bool) (s i : ℕ) {ps : List (List ℕ)} → Packets s ps → Packets s (cleared keep s i ps)
-cleared-sized keep s i nil = nil
-cleared-sized keep s i (cons {x = p} e a) = cons (one (keep i)) (cleared-sized keep s (suc i) a)
-  where
-    one : (b : Bool) → length (cond b p (replicate s 0)) ≡ s
-    one true = e
-    one false = length-replicate s 0
-
-cleared-at : (keep : ℕ → Bool) (s i : ℕ) (ps : List (List ℕ)) (k : ℕ) → k < length ps
-    → getD (cleared keep s i ps) k [] ≡ cond (keep (i + k)) (getD ps k []) (replicate s 0)
-cleared-at keep s i [] k h = absurd (omega arith)
-cleared-at keep s i (p ∷ ps) zero h = ap (λ (m : ℕ). cond (keep m) p (replicate s 0)) {x = i} {y = i + 0} (omega arith)
-cleared-at keep s i (p ∷ ps) (suc k) h = cleared-at keep s (suc i) ps k (omega arith)
-    ∙ ap (λ (m : ℕ). cond (keep m) (getD ps k []) (replicate s 0)) {x = suc i + k} {y = i + suc k} (omega arith)
-
--- a packet that is kept, and one that isn't
-pub cleared-keeps : (keep : ℕ → Bool) (s i : ℕ) (ps : List (List ℕ)) (k : ℕ) → k < length ps → keep (i + k) ≡ true → getD (cleared keep s i ps) k [] ≡ getD ps k []
-cleared-keeps keep s i ps k h e = cleared-at keep s i ps k h ∙ ap (λ b. cond b (getD ps k []) (replicate s 0)) e
-
-pub cleared-clears : (keep : ℕ → Bool) (s i : ℕ) (ps : List (List ℕ)) (k : ℕ) → k < length ps → keep (i + k) ≡ false → getD (cleared keep s i ps) k [] ≡ replicate s 0
-cleared-clears keep s i ps k h e = cleared-at keep s i ps k h ∙ ap (λ b. cond b (getD ps k []) (replicate s 0)) e
-
--- two rows of packets
-pub cleared-append : (keep : ℕ → Bool) (s i : ℕ) (ps qs : List (List ℕ)) → cleared keep s i (ps ++ qs) ≡ cleared keep s i ps ++ cleared keep s (i + length ps) qs
-cleared-append keep s i [] qs = ap (λ (k : ℕ). cleared keep s k qs) {x = i} {y = i + 0} (omega arith)
-cleared-append keep s i (p ∷ ps) qs = ap (λ r. cond (keep i) p (replicate s 0) ∷ r) (cleared-append keep s (suc i) ps qs
-    ∙ ap (λ (k : ℕ). cleared keep s (suc i) ps ++ cleared keep s k qs) {x = suc i + length ps} {y = i + suc (length ps)} (omega arith))
-
--- ---- packets cleared run by run
--- k packets from a on become s zero bytes each
-abbrev zeroed : ℕ → ℕ → ℕ → List (List ℕ) → List (List ℕ)
-zeroed s a k ps = take a ps ++ (replicate k (replicate s 0) ++ drop (a + k) ps)
-
--- past a first part of n elements
-getD-past : (p q : List (List ℕ)) (n i : ℕ) → length p ≡ n → n ≤ i → getD (p ++ q) i [] ≡ getD q (i - n) []
-getD-past p q n i e h = ap (λ (k : ℕ). getD (p ++ q) k []) {x = i} {y = length p + (i - n)} (omega arith) ∙ getD-append-add p q (i - n) []
-
-module _ (s a k : ℕ) (ps : List (List ℕ)) (fits : a + k ≤ length ps) where
-  head-long : length (take a ps) ≡ a
-  head-long = length-take-le a ps (omega arith)
-
-  zeros-long : length (replicate k (replicate {A = ℕ} s 0)) ≡ k
-  zeros-long = length-replicate k (replicate s 0)
-
-  zeroed-length : length (zeroed s a k ps) ≡ length ps
-  zeroed-length = length-append (take a ps) _ ∙ (let e = length-append (replicate k (replicate {A = ℕ} s 0)) (drop (a + k) ps) in
-      let d = length-drop (a + k) ps in omega (arith, head-long, zeros-long))
-
-  zeroed-before : (i : ℕ) → i < a → getD (zeroed s a k ps) i [] ≡ getD ps i []
-  zeroed-before i h = List·getD-append (take a ps) _ [] i (omega (arith, head-long)) ∙ getD-take a ps i [] h
-
-  zeroed-in : (i : ℕ) → a ≤ i → i < a + k → getD (zeroed s a k ps) i [] ≡ replicate s 0
-  zeroed-in i h g = getD-past (take a ps) _ a i head-long h ∙ List·getD-append (replicate k (replicate s 0)) _ [] (i - a) (omega (arith, zeros-long))
-      ∙ getD-replicate k (i - a) (replicate s 0) [] (omega arith)
-
-  zeroed-after : (i : ℕ) → a + k ≤ i → getD (zeroed s a k ps) i [] ≡ getD ps i []
-  zeroed-after i h = getD-past (take a ps) _ a i head-long (omega arith) ∙ getD-past (replicate k (replicate s 0)) _ k (i - a) zeros-long (omega arith)
-      ∙ getD-drop (a + k) ps (i - a - k) [] ∙ ap (λ (x : ℕ). getD ps x []) {x = a + k + (i - a - k)} {y = i} (omega arith)
-
--- where the clearing stands: below low the packets are cleared, from low on they are as they were
-module _ (keep : ℕ → Bool) (s first : ℕ) (b : List (List ℕ)) where
-  abbrev pub half : ℕ → List (List ℕ)
-  half low = take low (cleared keep s first b) ++ drop low b
-
-  abbrev done : List (List ℕ)
-  done = cleared keep s first b
-
-  pub half-length : (low : ℕ) → low ≤ length b → length (half low) ≡ length b
-  half-length low h = length-append (take low done) (drop low b)
-      ∙ (let e = length-take-le low done (omega (arith, cleared-length keep s first b)) in let d = length-drop low b in omega arith)
-
-  half-below : (low i : ℕ) → low ≤ length b → i < low → getD (half low) i [] ≡ getD done i []
-  half-below low i h g =
-      let e = length-take-le low done (omega (arith, cleared-length keep s first b)) in
-      List·getD-append (take low done) _ [] i (omega arith) ∙ getD-take low done i [] g
-
-  half-above : (low i : ℕ) → low ≤ length b → low ≤ i → getD (half low) i [] ≡ getD b i []
-  half-above low i h g =
-      let e = length-take-le low done (omega (arith, cleared-length keep s first b)) in
-      getD-past (take low done) _ low i e g ∙ getD-drop low b (i - low) [] ∙ ap (λ (x : ℕ). getD b x []) {x = low + (i - low)} {y = i} (omega arith)
-
-  pub half-all : (low : ℕ) → length b ≤ low → half low ≡ done
-  half-all low h = ap₂ _++_ (take-all low done (omega (arith, cleared-length keep s first b))) (drop-of-length-le b h) ∙ append-nil done
-
-  -- one turn: the packets from low to r − 1 are not to be kept, packet r is, or it is the last
-  module _ (low r : ℕ) (l : low ≤ r) (q : r ≤ length b) (none : (i : ℕ) → low ≤ i → i < r → keep (first + i) ≡ false) where
-    fits : low + (r - low) ≤ length (half low)
-    fits = omega (arith, half-length low (omega arith))
-
-    turn-at : (high : ℕ) → r ≤ high → high ≤ length b → ((i : ℕ) → r ≤ i → i < high → keep (first + i) ≡ true) → zeroed s low (r - low) (half low) ≡ half high
-    turn-at high lo hi one =
-        let z = zeroed-length s low (r - low) (half low) fits in
-        ext-getD [] _ _ (z ∙ half-length low (omega arith) ∙ sym (half-length high hi)) (λ i g.
-        let m : i < length b = omega (arith, z, half-length low (omega arith)) in
-        ⊎-elim
-        (λ x. zeroed-before s low (r - low) (half low) fits i x ∙ half-below low i (omega arith) x ∙ sym (half-below high i hi (omega arith)))
-        (λ x. ⊎-elim
-        (λ y. zeroed-in s low (r - low) (half low) fits i x (omega arith) ∙ sym (cleared-clears keep s first b i m (none i x y)) ∙ sym (half-below high i hi (omega arith)))
-        (λ y. zeroed-after s low (r - low) (half low) fits i (omega arith) ∙ half-above low i (omega arith) x
-        ∙ ⊎-elim (λ u. sym (half-below high i hi u ∙ cleared-keeps keep s first b i m (one i y u))) (λ u. sym (half-above high i hi u)) (side i high))
-        (side i r)) (side i low))
-
-    pub half-turn : (r < length b → keep (first + r) ≡ true) → zeroed s low (r - low) (half low) ≡ half (r + 1)
-    half-turn stops = ⊎-elim
-        (λ m. turn-at (r + 1) (omega arith) (omega arith) (λ i x y. let e : r ≡ i = omega arith in rw (← e) (stops m)))
-        (λ m. turn-at r (omega arith) q (λ i x y. absurd (omega arith)) ∙ half-all r m ∙ sym (half-all (r + 1) (omega arith)))
-        (side r (length b))
-
--- ---- on a buffer
-joined-append : (a b : List (List ℕ)) → joined (a ++ b) ≡ joined a ++ joined b
-joined-append [] b = refl
-joined-append (p ∷ a) b = ap (λ r. p ++ r) (joined-append a b) ∙ sym (append-assoc p (joined a) (joined b))
-
-pub joined-zeros : (s g : ℕ) → joined (replicate g (replicate s 0)) ≡ replicate (g * s) 0
-joined-zeros s zero = ap (λ (k : ℕ). replicate k 0) {x = 0} {y = 0 * s} (omega arith)
-joined-zeros s (suc g) =
-    ap (λ (r : List ℕ). replicate s 0 ++ r) (joined-zeros s g) ∙ replicate-append-replicate s (g * s) 0
-    ∙ ap (λ (k : ℕ). replicate k 0) {x = s + g * s} {y = suc g * s} (omega arith)
-
-joined-take : (s : ℕ) {ps : List (List ℕ)} → Packets s ps → (a : ℕ) → a ≤ length ps → joined (take a ps) ≡ take (a * s) (joined ps)
-joined-take s {ps} w zero h = ap (λ (x : ℕ). take x (joined ps)) {x = 0} {y = zero * s} (omega arith)
-joined-take s nil (suc a) h = absurd (omega arith)
-joined-take s (cons {x = p} {l = ps} e w) (suc a) h = ap (λ r. p ++ r) (joined-take s w a (omega arith)) ∙ sym (take-append-add p (joined ps) (a * s))
-    ∙ ap (λ (x : ℕ). take x (p ++ joined ps)) {x = length p + a * s} {y = suc a * s} (omega arith)
-
-joined-drop : (s : ℕ) {ps : List (List ℕ)} → Packets s ps → (a : ℕ) → a ≤ length ps → joined (drop a ps) ≡ drop (a * s) (joined ps)
-joined-drop s {ps} w zero h = ap (λ (x : ℕ). drop x (joined ps)) {x = 0} {y = zero * s} (omega arith)
-joined-drop s nil (suc a) h = absurd (omega arith)
-joined-drop s (cons {x = p} {l = ps} e w) (suc a) h = joined-drop s w a (omega arith) ∙ sym (drop-append-add p (joined ps) (a * s))
-    ∙ ap (λ (x : ℕ). drop x (p ++ joined ps)) {x = length p + a * s} {y = suc a * s} (omega arith)
-
--- a run of packets cleared is one run of bytes cleared
-pub zeroed-written : (s a k : ℕ) {ps : List (List ℕ)} → Packets s ps → a + k ≤ length ps → joined (zeroed s a k ps) ≡ written (joined ps) (a * s) (replicate (k * s) 0)
-zeroed-written s a k {ps} w h = joined-append (take a ps) _
-    ∙ ap₂ _++_ (joined-take s w a (omega arith)) (joined-append (replicate k (replicate s 0)) (drop (a + k) ps)
-    ∙ ap₂ _++_ (joined-zeros s k) (joined-drop s w (a + k) h ∙ ap (λ (x : ℕ). drop x (joined ps)) {x = (a + k) * s} {y = a * s + length (replicate {A = ℕ} (k * s) 0)}
-    (let e : length (replicate {A = ℕ} (k * s) 0) ≡ k * s = length-replicate (k * s) 0 in omega arith)))
-
--- the bytes of packets i to r − 1 of count
+-- ---- a gap
+-- the bytes of packets i to r − 1 of so many
 pub run-bytes : (i r count s : ℕ) → i ≤ r → r ≤ count → i * s + (r - i) * s ≤ count * s
 run-bytes i r count s h g =
     let d = r - i in
     let e : (i + d) * s ≡ r * s = ap (λ (k : ℕ). k * s) (omega arith) in
     omega (arith, mul-le-mul-right s g)
 
--- one turn on count packets b₀: those without a mark are cleared up to the next that has one
-pub clear-turn : (marks : List ℕ) (s first count i r : ℕ) (b₀ b b′ : List ℕ) → length b₀ ≡ count * s → i < count → Unmarked marks first i count r
-    → b ≡ joined (half (isMarked marks) s first (packets s count b₀) i) → b′ ≡ written b (i * s) (replicate ((r - i) * s) 0)
-    → b′ ≡ joined (half (isMarked marks) s first (packets s count b₀) (r + 1))
-clear-turn marks s first count i r b₀ b b′ bytes more u e f =
-    let keep = isMarked marks in
-    let ps = packets s count b₀ in
-    let now = half keep s first ps i in
-    let sized = packets-sized s count b₀ bytes in
-    let long = packets-length s count b₀ in
-    let whole : Packets s now = all-append (all-take i (cleared-sized keep s first sized)) (all-drop i sized) in
-    let room : i + (r - i) ≤ length now = omega (arith, half-length keep s first ps i (omega arith), u .from, u .upto) in
-    f ∙ ap (λ x. written x (i * s) (replicate ((r - i) * s) 0)) e ∙ sym (zeroed-written s i (r - i) whole room)
-    ∙ ap joined (half-turn keep s first ps i r (u .from) (omega (arith, u .upto)) (u .none) (λ h. u .stops (omega arith)))
+run-end : (i r s : ℕ) → i ≤ r → i * s + (r - i) * s ≡ r * s
+run-end i r s h = let d = r - i in let e : (i + d) * s ≡ r * s = ap (λ (k : ℕ). k * s) (omega arith) in omega arith
 
--- ---- block and scratch, cleared by marks
-module _ (w : List ℕ) (s : ℕ) (b c : List ℕ) (lb : length b ≡ planPlaces w * s) (lc : length c ≡ planGap w * s)
-    (xs : List Step) (marks : List ℕ) (only : MarkedOnly xs marks) where
-  abbrev front : List (List ℕ)
-  front = packets s (planPlaces w) b
+-- nothing is cleared yet
+pub gap-none : (marks : List ℕ) (s first low : ℕ) (b : List ℕ) → GapCleared marks s first low low b b
+gap-none marks s first low b = record { below = λ x h. refl; above = λ x h. refl; zero = λ p i h g. absurd (omega arith) }
 
-  abbrev back : List (List ℕ)
-  back = packets s (planGap w) c
+-- past packets that are marked a run is cleared
+module _ (marks : List ℕ) (s first low i from to : ℕ) (b₀ b : List ℕ) (l : low ≤ i) (h : i ≤ from) (g : from ≤ to) (room : to * s ≤ length b)
+    (skipped : (p : ℕ) → i ≤ p → p < from → isMarked marks (first + p) ≡ true) (done : GapCleared marks s first low i b₀ b) where
+  abbrev zeros : List ℕ
+  zeros = replicate ((to - from) * s) 0
 
-  front-long : length front ≡ planPlaces w
-  front-long = packets-length s (planPlaces w) b
+  long : length zeros ≡ (to - from) * s
+  long = length-replicate ((to - from) * s) 0
 
-  abbrev keep : ℕ → Bool
-  keep = isMarked marks
+  pub gap-more : GapCleared marks s first low to b₀ (written b (from * s) zeros)
+  gap-more =
+      let e = run-end from to s g in
+      let w = written-bytes b (from * s) zeros ((to - from) * s) long (omega arith) in
+      let before : low * s ≤ i * s = mul-le-mul-right s l in
+      let here : i * s ≤ from * s = mul-le-mul-right s h in
+      let after : from * s ≤ to * s = mul-le-mul-right s g in
+      record {
+        below = λ x m. w .below x (omega arith) ∙ done .below x m;
+        above = λ x m. w .above x (omega arith) ∙ done .above x (omega arith);
+        zero = λ p j m k free f. ⊎-elim
+            (λ c. let q = place-fits p i s c in w .below (p * s + j) (omega arith) ∙ done .zero p j m c free f)
+            (λ c. ⊎-elim
+            (λ d. absurd (true≢false (sym (skipped p c d) ∙ free)))
+            (λ d. let q = place-fits p to s k in let r : from * s ≤ p * s = mul-le-mul-right s d in let v = p * s + j - from * s in
+            ap (λ (x : ℕ). getD (written b (from * s) zeros) x 0) {x = p * s + j} {y = from * s + v} (omega arith)
+            ∙ w .inside v (omega arith) ∙ getD-zeros ((to - from) * s) v)
+            (side p from)) (side p i);
+      }
 
-  slots-cleared : (b′ c′ : List ℕ) → b′ ≡ joined (cleared keep s 0 front) → c′ ≡ joined (cleared keep s (planPlaces w) back)
-      → slotsIn w s b′ c′ ≡ cleared keep s 0 (slotsIn w s b c)
-  slots-cleared b′ c′ e f =
-      let x = cleared keep s 0 front in let y = cleared keep s (planPlaces w) back in
-      ap₂ _++_
-      (ap (packets s (planPlaces w)) e ∙ cut-again s (planPlaces w) (cleared-sized keep s 0 (packets-sized s (planPlaces w) b lb)) (cleared-length keep s 0 front ∙ front-long))
-      (ap (packets s (planGap w)) f
-      ∙ cut-again s (planGap w) (cleared-sized keep s (planPlaces w) (packets-sized s (planGap w) c lc)) (cleared-length keep s (planPlaces w) back ∙ packets-length s (planGap w) c))
-      ∙ ap (λ (k : ℕ). x ++ cleared keep s k back) {x = planPlaces w} {y = 0 + length front} (omega (arith, front-long)) ∙ sym (cleared-append keep s 0 front back)
+-- it gets on
+pub turn-on : {marks : List ℕ} {first i high from to : ℕ} → Alike marks true first i high from → Alike marks false first from high to → i < high → i < to
+turn-on {marks} {first} {i} {high} {from} {to} u v more = ⊎-elim (λ h. h)
+    (λ h. let e : from ≡ to = omega (arith, u .from, v .from) in
+    absurd (true≢false (sym (v .stops (omega arith)) ∙ ap (λ (k : ℕ). isMarked marks (first + k)) (sym e) ∙ u .stops (omega (arith, u .from)))))
+    (side i to)
 
-  pub cleared-for : (b′ c′ : List ℕ) → b′ ≡ joined (cleared keep s 0 front) → c′ ≡ joined (cleared keep s (planPlaces w) back) → ClearedFor w s xs b′ c′
-  cleared-for b′ c′ e f = record {
-    zero = λ p h none.
-        let out : isMarked marks p ≡ false = byBool (isMarked marks p) (λ z. absurd (true≢false (sym (only .only p z) ∙ none))) (λ z. z) in
-        ap (λ st. getD st p []) (slots-cleared b′ c′ e f) ∙ cleared-clears keep s 0 (slotsIn w s b c) p (omega (arith, slots-length w s b c lb lc))
-        (ap keep {x = 0 + p} {y = p} (omega arith) ∙ out);
+-- ---- the gaps between the information places
+module _ (w : List ℕ) (f : Formed w) (marks : List ℕ) (s : ℕ) (b₀ : List ℕ) where
+  abbrev I : List ℕ
+  I = infoIn w
+
+  I-long : length I ≡ infoCount w
+  I-long = info-length w f
+
+  pub gaps-none : GapsCleared w marks s 0 0 b₀ b₀
+  gaps-none = record { upto = refl; zero = λ p i h. absurd (omega arith); keeps = record { each = λ p i h l. refl }; rest = λ x h. refl }
+
+  -- behind the last there is room
+  pub gaps-low : (low : ℕ) (b : List ℕ) → GapsCleared w marks s (infoCount w) low b₀ b → low ≤ planPlaces w
+  gaps-low low b done = omega (arith, done .upto, behind-low (planPlaces w) I (f .rises) (infoCount w) (omega (arith, I-long)))
+
+  -- the gap behind the first k information places, up to high, holds no other
+  module _ (k low high : ℕ) (b b′ : List ℕ) (few : k ≤ infoCount w) (done : GapsCleared w marks s k low b₀ b) (gap : GapCleared marks s 0 low high b b′)
+      (order : low ≤ high) (next : k < length I → high ≤ getD I k 0) where
+    none-in : (p : ℕ) → low ≤ p → p < high → has p I ≡ false
+    none-in p h g = between (planPlaces w) 0 I (f .rises) k (omega (arith, I-long)) p (omega (arith, done .upto)) (λ m. let n = next m in omega arith)
+
+    outside : (p i : ℕ) → has p I ≡ true → i < s → getD b′ (p * s + i) 0 ≡ getD b (p * s + i) 0
+    outside p i h l = ⊎-elim
+        (λ c. gap .below (p * s + i) (let q = place-fits p low s c in omega arith))
+        (λ c. ⊎-elim
+        (λ d. absurd (true≢false (sym h ∙ none-in p c d)))
+        (λ d. gap .above (p * s + i) (let q : high * s ≤ p * s = mul-le-mul-right s d in omega arith))
+        (side p high)) (side p low)
+
+    pub kept-on : InformationKept w s b₀ b′
+    kept-on = record { each = λ p i h l. outside p i h l ∙ done .keeps .each p i h l }
+
+    pub zero-on : (p i : ℕ) → p < high → has p I ≡ false → isMarked marks p ≡ false → i < s → getD b′ (p * s + i) 0 ≡ 0
+    zero-on p i m h free l = ⊎-elim
+        (λ c. gap .below (p * s + i) (let q = place-fits p low s c in omega arith) ∙ done .zero p i c h free l)
+        (λ c. gap .zero p i c m (ap (isMarked marks) {x = 0 + p} {y = p} (omega arith) ∙ free) l)
+        (side p low)
+
+  -- one turn: the gap before the k-th
+  pub gaps-more : (k low : ℕ) (b b′ : List ℕ) → k < infoCount w → GapsCleared w marks s k low b₀ b → GapCleared marks s 0 low (getD I k 0) b b′
+      → GapsCleared w marks s (k + 1) (getD I k 0 + 1) b₀ b′
+  gaps-more k low b b′ more done gap =
+      let high = getD I k 0 in
+      let order : low ≤ high = omega (arith, done .upto, behind-le (planPlaces w) I (f .rises) k (omega (arith, I-long))) in
+      let wide : high ≤ high + 1 = omega arith in
+      let up : high * s ≤ (high + 1) * s = mul-le-mul-right s wide in
+      let on : low * s ≤ high * s = mul-le-mul-right s order in
+      record {
+        upto = add-one high ∙ sym (ap (behind I) (add-one k));
+        zero = λ p i m h free l. ⊎-elim
+            (λ c. zero-on k low high b b′ (omega arith) done gap order (λ z. omega arith) p i c h free l)
+            (λ c. let e : p ≡ high = omega arith in absurd (true≢false (sym (getD-has I k (omega (arith, I-long))) ∙ ap (λ (x : ℕ). has x I) (sym e) ∙ h)))
+            (side p high);
+        keeps = kept-on k low high b b′ (omega arith) done gap order (λ z. omega arith);
+        rest = λ x m. gap .above x (omega arith) ∙ done .rest x (omega arith);
+      }
+
+-- ---- block and scratch
+-- a packet whose bytes are zero
+zero-packet : (s n : ℕ) (b : List ℕ) → length b ≡ n * s → (p : ℕ) → p < n → ((i : ℕ) → i < s → getD b (p * s + i) 0 ≡ 0) → getD (packets s n b) p [] ≡ replicate s 0
+zero-packet s n b e p h z =
+    let long = part-length b (p * s) s (let q = place-fits p n s h in omega arith) in
+    packet-at s n b p h ∙ ext-getD 0 _ _ (long ∙ sym (length-replicate s 0)) (λ i l. getD-part b (p * s) s i (omega arith) ∙ z i (omega arith) ∙ sym (getD-zeros s i))
+
+module _ (w : List ℕ) (f : Formed w) (s : ℕ) (b₀ b b′ c c′ : List ℕ) (lb : length b′ ≡ planPlaces w * s) (lc : length c′ ≡ planGap w * s)
+    (xs : List Step) (marks : List ℕ) (only : MarkedOnly xs marks) (low : ℕ)
+    (gaps : GapsCleared w marks s (infoCount w) low b₀ b) (last : GapCleared marks s 0 low (planPlaces w) b b′)
+    (back : GapCleared marks s (planPlaces w) 0 (planGap w) c c′) where
+  behind-all : infoCount w < length (infoIn w) → planPlaces w ≤ getD (infoIn w) (infoCount w) 0
+  behind-all h = absurd (omega (arith, info-length w f))
+
+  order : low ≤ planPlaces w
+  order = gaps-low w f marks s b₀ low b gaps
+
+  pub all-kept : InformationKept w s b₀ b′
+  all-kept = kept-on w f marks s b₀ (infoCount w) low (planPlaces w) b b′ (omega arith) gaps last order behind-all
+
+  free : (p : ℕ) → clearsFirst xs p ≡ false → isMarked marks p ≡ false
+  free p none = byBool (isMarked marks p) (λ z. absurd (true≢false (sym (only .only p z) ∙ none))) (λ z. z)
+
+  pub cleared-for : ClearedFor w s xs b′ c′
+  cleared-for = record {
+    zero = λ p h none other.
+        let n = planPlaces w in let front = packets s n b′ in let rest = packets s (planGap w) c′ in
+        let long = packets-length s n b′ in
+        ⊎-elim
+        (λ m. List·getD-append front rest [] p (omega arith)
+        ∙ zero-packet s n b′ lb p m (λ i l. zero-on w f marks s b₀ (infoCount w) low n b b′ (omega arith) gaps last order behind-all p i m other (free p none) l))
+        (λ m. let q = p - n in
+        ap (λ (x : ℕ). getD (slotsIn w s b′ c′) x []) {x = p} {y = length front + q} (omega arith) ∙ getD-append-add front rest q []
+        ∙ zero-packet s (planGap w) c′ lc q (omega arith) (λ i l. back .zero q i (omega arith) (omega arith)
+        (ap (isMarked marks) {x = n + q} {y = p} (omega arith) ∙ free p none) l))
+        (side p n);
   }

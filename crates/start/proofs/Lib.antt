@@ -1,3 +1,4 @@
 pub mod ClearLaws
 pub mod CopyLaws
+pub mod GapLaws
 pub mod MarkLaws

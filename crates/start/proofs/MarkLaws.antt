@@ -1,6 +1,6 @@
 -- Marks of the slots that need no clearing: what they say of one step more in front, and the plan's steps from the last on.
-use mathlib.Core.Path.{_≡_, sym, ap, ap₂, _∙_}
-use mathlib.Core.Bool.{false, cond, true≢false}
+use mathlib.Core.Path.{_≡_, refl, sym, ap, ap₂, _∙_}
+use mathlib.Core.Bool.{Bool, true, false, Bool·beq, cond, not, true≢false}
 use mathlib.Core.List.{List, [], _∷_}
 use mathlib.Core.Logic.{⊎-elim}
 use Prim.Native.Nat.{ℕ, suc, _+_, _-_, _<_, _≤_}
@@ -43,6 +43,19 @@ pub only-none : (xs : List Step) {m : List ℕ} → Marked [] m → MarkedOnly x
 only-none xs {m} k = record {
   only = λ p h. absurd (true≢false (sym h ∙ ⊎-elim (λ l. k .each p l) (λ l. unmarked-past m p l) (side p (length m))));
 }
+
+-- a mark compared with the one that is looked for
+pub marked-unlike : (a b : Bool) → not (Bool·beq a b) ≡ true → a ≡ not b
+marked-unlike true true e = sym e
+marked-unlike true false e = refl
+marked-unlike false true e = refl
+marked-unlike false false e = e
+
+pub marked-like : (a b : Bool) → not (Bool·beq a b) ≡ false → a ≡ b
+marked-like true true e = refl
+marked-like true false e = e
+marked-like false true e = sym e
+marked-like false false e = refl
 
 -- one step more in front
 pub mark-clear : {xs : List Step} {m : List ℕ} (to : ℕ) → to < length m → Marked xs m → Marked (Clear to ∷ xs) (set m to 1)

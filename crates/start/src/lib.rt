@@ -1,17 +1,16 @@
-// What stands in the slots before the first step: those that the first step on them doesn't clear are zero, and the information
-// packets stand at their places.
+// What stands in the slots before the first step: the information packets stand at their places, each written once, and the
+// other slots are zero, but for some that the first step on them clears.
 use plan::MOST_SLOTS;
 use plan::Step;
 ghost use mathlib.Core.Path.{_≡_};
 ghost use mathlib.Core.List.{List, [], _∷_};
-ghost use Prim.Native.Nat.{_+_, _*_, _≤_};
+ghost use Prim.Native.Nat.{_+_, _*_, _<_, _≤_};
 ghost use lib.ListN.{length, take};
-ghost use Rattle.table.specs.Packets.{packets, joined};
 ghost use Rattle.plan.specs.declared.Step.{Step as StepValue};
-ghost use Rattle.plan.specs.Layout.{planPlaces, infoCount, slots, stepCount, stepsOf, planRefusal};
-ghost use Rattle.plan.specs.LookOver.{isMarked};
+ghost use Rattle.plan.specs.Layout.{planPlaces, infoCount, infoIn, slots, stepCount, stepsOf, planRefusal};
 ghost use Rattle.plan.specs.Step.{SlotsBelow};
-ghost use Rattle.start.specs.Start.{Lent, withInformation, cleared, Marked, MarkedOnly, Unmarked, ClearedFor, PreparedFor};
+ghost use Rattle.start.specs.Kept.{InformationKept, OthersKept};
+ghost use Rattle.start.specs.Start.{Lent, withInformation, Marked, MarkedOnly, Alike, GapCleared, Together, GapsCleared, ClearedFor, PreparedFor};
 
 // ---- marks: slots that need no clearing
 
@@ -63,15 +62,15 @@ fn mark_slots(plan: &[u32], s: usize, steps: usize, marks: &mut [u8])
     }
 }
 
-// Past the packets from i on that have no mark; packets are numbered from first on, and are count.
-fn unmarked(marks: &[u8], first: usize, i: usize, count: usize) -> usize
-    requires { ⌜ (i ≤ count)
-        × (first + count ≤ length (now marks)) ⌝ }
-    ensures { λ r. ⌜ Unmarked (now (marks .entry)) first i count r ⌝ }
+// Past the packets from i on that have a mark, or that have none; packets are numbered from first on, and end at high.
+fn past(marks: &[u8], marked: bool, first: usize, i: usize, high: usize) -> usize
+    requires { ⌜ (i ≤ high)
+        × (first + high ≤ length (now marks)) ⌝ }
+    ensures { λ r. ⌜ Alike (now (marks .entry)) marked first i high r ⌝ }
 {
     let mut r = i;
-    while r < count {
-        if marks[first + r] == 1 {
+    while r < high {
+        if (marks[first + r] == 1) != marked {
             return r;
         }
         r += 1;
@@ -81,48 +80,123 @@ fn unmarked(marks: &[u8], first: usize, i: usize, count: usize) -> usize
 
 // ---- clearing
 
-// The packets of b become zero, but those that have a mark.
-fn clear_unmarked(b: &mut [u8], marks: &[u8], first: usize, count: usize, s: usize)
-    requires bytes { ⌜ length (now b) ≡ count * s ⌝ }
-    requires marks { ⌜ first + count ≤ length (now marks) ⌝ }
-    ensures { λ _. ⌜ now (b .exit) ≡ joined (cleared (isMarked (now (marks .entry))) s first (packets s count (now (b .entry)))) ⌝ }
+// The packets from low to high that have no mark become zero, run by run.
+fn clear_unmarked(b: &mut [u8], marks: &[u8], first: usize, low: usize, high: usize, s: usize)
+    requires bytes { ⌜ high * s ≤ length (now b) ⌝ }
+    requires marks { ⌜ first + high ≤ length (now marks) ⌝ }
+    requires order { ⌜ low ≤ high ⌝ }
+    ensures { λ _. ⌜ GapCleared (now (marks .entry)) s first low high (now (b .entry)) (now (b .exit)) ⌝ }
 {
-    let mut i = 0;
-    while i < count {
-        let r = unmarked(marks, first, i, count);
-        packets::clear(b, i * s, (r - i) * s);
-        i = r + 1;
+    let mut i = low;
+    while i < high {
+        let from = past(marks, true, first, i, high);
+        let to = past(marks, false, first, from, high);
+        packets::clear(b, from * s, (to - from) * s);
+        i = to;
     }
 }
 
-// Every slot becomes zero, but some that the plan's first steps clear first.
-fn clear_slots(plan: &[u32], s: usize, steps: usize, block: &mut [u8], scratch: &mut [u8])
+// The same, in one run where packets are too short to look for marks.
+fn clear_packets(b: &mut [u8], marks: &[u8], first: usize, low: usize, high: usize, s: usize)
+    requires bytes { ⌜ high * s ≤ length (now b) ⌝ }
+    requires marks { ⌜ first + high ≤ length (now marks) ⌝ }
+    requires order { ⌜ low ≤ high ⌝ }
+    ensures { λ _. ⌜ GapCleared (now (marks .entry)) s first low high (now (b .entry)) (now (b .exit)) ⌝ }
+{
+    if LONG <= s {
+        clear_unmarked(b, marks, first, low, high, s);
+    } else {
+        packets::clear(b, low * s, (high - low) * s);
+    }
+}
+
+// The same, where there may be none.
+fn clear_gap(b: &mut [u8], marks: &[u8], first: usize, low: usize, high: usize, s: usize)
+    requires bytes { ⌜ high * s ≤ length (now b) ⌝ }
+    requires marks { ⌜ first + high ≤ length (now marks) ⌝ }
+    requires order { ⌜ low ≤ high ⌝ }
+    ensures { λ _. ⌜ GapCleared (now (marks .entry)) s first low high (now (b .entry)) (now (b .exit)) ⌝ }
+{
+    if low < high {
+        clear_packets(b, marks, first, low, high, s);
+    }
+}
+
+// The gaps before and between the information places become zero, but for packets that have a mark. The place behind them.
+fn clear_gaps(plan: &[u32], s: usize, marks: &[u8], block: &mut [u8]) -> usize
+    requires formed { ⌜ planRefusal (now plan) ≡ 0 ⌝ }
+    requires marks { ⌜ slots (now plan) ≤ length (now marks) ⌝ }
+    requires block { ⌜ length (now block) ≡ planPlaces (now plan) * s ⌝ }
+    ensures { λ r. ⌜ GapsCleared (now (plan .entry)) (now (marks .entry)) s (infoCount (now (plan .entry))) r (now (block .entry)) (now (block .exit)) ⌝ }
+{
+    let count = plan::info_count(plan);
+    let mut low = 0;
+    let mut i = 0;
+    while i < count {
+        let place = plan::info_place(plan, i);
+        clear_gap(block, marks, 0, low, place, s);
+        low = place + 1;
+        i += 1;
+    }
+    low
+}
+
+// Every slot but the information places becomes zero, or is one that the plan's first steps clear first.
+fn clear_others(plan: &[u32], s: usize, steps: usize, block: &mut [u8], scratch: &mut [u8])
     requires lent { ⌜ Lent (now plan) s (length (now block)) (length (now scratch)) ⌝ }
     requires steps { ⌜ steps ≤ stepCount (now plan) ⌝ }
-    ensures { λ _. ⌜ ClearedFor (now (plan .entry)) s (take steps (stepsOf (now (plan .entry)))) (now (block .exit)) (now (scratch .exit)) ⌝ }
+    ensures cleared { λ _. ⌜ ClearedFor (now (plan .entry)) s (take steps (stepsOf (now (plan .entry)))) (now (block .exit)) (now (scratch .exit)) ⌝ }
+    ensures keeps { λ _. ⌜ InformationKept (now (plan .entry)) s (now (block .entry)) (now (block .exit)) ⌝ }
 {
     let n = plan::places(plan);
     let g = plan::gap(plan);
     let mut marks = [0u8; MOST_SLOTS];
     mark_slots(plan, s, steps, &mut marks);
-    clear_unmarked(block, &marks, 0, n, s);
-    clear_unmarked(scratch, &marks, n, g, s);
+    let low = clear_gaps(plan, s, &marks, block);
+    clear_gap(block, &marks, 0, low, n, s);
+    clear_gap(scratch, &marks, n, 0, g, s);
 }
 
 // ---- copying
 
-// The k-th information packet is copied to the k-th information place.
+// Past the information places from the k-th on that follow each other.
+fn together(plan: &[u32], k: usize, count: usize) -> usize
+    requires formed { ⌜ planRefusal (now plan) ≡ 0 ⌝ }
+    requires number { ⌜ (k < count)
+        × (count ≡ infoCount (now plan)) ⌝ }
+    ensures { λ r. ⌜ Together (infoIn (now (plan .entry))) k count r ⌝ }
+{
+    let place = plan::info_place(plan, k);
+    let mut r = k + 1;
+    while r < count {
+        if plan::info_place(plan, r) != place + (r - k) {
+            return r;
+        }
+        r += 1;
+    }
+    r
+}
+
+// The k-th information packet is copied to the k-th information place: run by run.
 fn copy_information(plan: &[u32], s: usize, information: &[u8], block: &mut [u8])
     requires formed { ⌜ planRefusal (now plan) ≡ 0 ⌝ }
     requires information { ⌜ length (now information) ≡ infoCount (now plan) * s ⌝ }
     requires block { ⌜ length (now block) ≡ planPlaces (now plan) * s ⌝ }
-    ensures { λ _. ⌜ now (block .exit) ≡ withInformation (now (plan .entry)) s (now (information .entry)) (now (block .entry)) ⌝ }
+    ensures copied { λ _. ⌜ now (block .exit) ≡ withInformation (now (plan .entry)) s (now (information .entry)) (now (block .entry)) ⌝ }
+    ensures others { λ _. ⌜ OthersKept (now (plan .entry)) s (now (block .entry)) (now (block .exit)) ⌝ }
 {
     let count = plan::info_count(plan);
     let mut k = 0;
     while k < count {
-        packets::copy(block, plan::info_place(plan, k) * s, information, k * s, s);
-        k += 1;
+        let r = together(plan, k, count);
+        packets::copy(
+            block,
+            plan::info_place(plan, k) * s,
+            information,
+            k * s,
+            (r - k) * s,
+        );
+        k = r;
     }
 }
 
@@ -143,6 +217,6 @@ pub fn prepare(
     ensures { λ _. ⌜ PreparedFor (now (plan .entry)) s (take steps (stepsOf (now (plan .entry)))) (now (information .entry))
         (now (block .exit)) (now (scratch .exit)) ⌝ }
 {
-    clear_slots(plan, s, steps, block, scratch);
+    clear_others(plan, s, steps, block, scratch);
     copy_information(plan, s, information, block);
 }

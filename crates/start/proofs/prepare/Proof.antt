@@ -6,8 +6,8 @@ use borrow.Author.Needs.{needs}
 use Rattle.start.proofs.prepare.Statement.{statement}
 use Rattle.start.proofs.prepare.Tie as tie
 
-clear-slots-requires : tie.Need-clear-slots-requires
-clear-slots-requires c κs = search needs
+clear-others-requires : tie.Need-clear-others-requires
+clear-others-requires c κs = search needs
 
 copy-information-requires : tie.Need-copy-information-requires
 copy-information-requires c κs = search needs
@@ -21,10 +21,10 @@ same-length-2 c = search needs
 returns : tie.Need-returns
 returns c =
     let a = c .before .before .before .before .before .before .before .before .before .before .before .before .before .before .before .args in let p = c .before .before .before .before .before .before .before .before .before .before .before .before .before .before .before .pre in let w = a .plan .now in
-    rw (c .before .before .copy-information .ensures)
-    (prepared-for w (a .s) _ _ (c .before .before .before .before .before .before .before .block .given ∙ p .0 .block) (c .before .before .before .before .before .scratch .given ∙ p .0 .scratch) (well w (p .0 .formed)) _ (a .information .now) (p .1 .1) (c .before .before .before .before .before .before .before .before .clear-slots .ensures))
+    rw (c .before .before .copy-information .ensures .0)
+    (prepared-for w (a .s) _ _ (c .before .before .before .before .before .before .before .block .given ∙ p .0 .block) (c .before .before .before .before .before .scratch .given ∙ p .0 .scratch) (well w (p .0 .formed)) _ (a .information .now) (p .1 .1) (c .before .before .before .before .before .before .before .before .clear-others .ensures .0))
 
 pub prepare-spec : {M : Type 1} → statement M
 prepare-spec =
     tie.close
-    (tie.spec clear-slots-requires copy-information-requires same-length same-length-2 returns)
+    (tie.spec clear-others-requires copy-information-requires same-length same-length-2 returns)

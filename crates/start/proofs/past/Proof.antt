@@ -1,20 +1,18 @@
--- `start::unmarked` meets its contract: no packet passed has a mark.
+-- `start::past` meets its contract: the packets passed are all marked, or none is.
 use Prim.Native.Nat.{ℕ, _+_, _-_, _<_, _≤_}
 use mathlib.Core.Path.{_≡_}
-use mathlib.Core.Bool.{false}
 use borrow.Author.Count.{below-more}
-use borrow.Author.Tests.{eq-eqb, ne-eqb}
-use lib.ListN.{getD}
 use Rattle.plan.specs.LookOver.{isMarked}
+use Rattle.start.proofs.MarkLaws.{marked-unlike, marked-like}
 use native.Mathlib.Omega.{arith}
-use Rattle.start.proofs.unmarked.Statement.{statement}
-use Rattle.start.proofs.unmarked.Tie as tie
+use Rattle.start.proofs.past.Statement.{statement}
+use Rattle.start.proofs.past.Tie as tie
 
 abbrev Inv-loop : tie.InvT-loop
-Inv-loop marks first i count r₀ r = (i ≤ r) × (r ≤ count) × ((k : ℕ) → k < r → i ≤ k → isMarked marks (first + k) ≡ false)
+Inv-loop marks marked first i high r₀ r = (i ≤ r) × (r ≤ high) × ((k : ℕ) → k < r → i ≤ k → isMarked marks (first + k) ≡ marked)
 
 abbrev μ-loop : tie.MeasureT-loop
-μ-loop marks first i count r₀ r = count - r
+μ-loop marks marked first i high r₀ r = high - r
 
 loop-holds : tie.Need-loop-holds Inv-loop μ-loop
 loop-holds c = (omega arith, c .pre .0, λ k h g. absurd (omega arith))
@@ -31,8 +29,8 @@ returns c =
     record {
       from = l .inv .0;
       upto = l .inv .1;
-      none = λ k h g. l .inv .2 k g h;
-      stops = λ h. eq-eqb (getD (a .marks .now) (a .first + l .r) 0) 1 (c .if1 .taken);
+      each = λ k h g. l .inv .2 k g h;
+      stops = λ h. marked-unlike (isMarked (a .marks .now) (a .first + l .r)) (a .marked) (c .if1 .taken);
     }
 
 add-r : tie.Need-add-r Inv-loop μ-loop
@@ -46,17 +44,17 @@ loop-again c =
     let a = c .before .before .before .before .args in let l = c .before .before .before .loop in (
       omega arith,
       omega arith,
-      below-more (λ k. a .i ≤ k → isMarked (a .marks .now) (a .first + k) ≡ false) (l .r) (l .inv .2)
-          (λ h. ne-eqb (getD (a .marks .now) (a .first + l .r) 0) 1 (c .if1 .left)),
+      below-more (λ k. a .i ≤ k → isMarked (a .marks .now) (a .first + k) ≡ a .marked) (l .r) (l .inv .2)
+          (λ h. marked-like (isMarked (a .marks .now) (a .first + l .r)) (a .marked) (c .if1 .left)),
     )
 
 returns-2 : tie.Need-returns-2 Inv-loop μ-loop
 returns-2 c =
     let l = c .before .loop in
-    record { from = l .inv .0; upto = l .inv .1; none = λ k h g. l .inv .2 k g h; stops = λ h. absurd (omega arith) }
+    record { from = l .inv .0; upto = l .inv .1; each = λ k h g. l .inv .2 k g h; stops = λ h. absurd (omega arith) }
 
-pub unmarked-spec : {M : Type 1} → statement M
-unmarked-spec =
+pub past-spec : {M : Type 1} → statement M
+past-spec =
     tie.close
     (tie.spec
     Inv-loop

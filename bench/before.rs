@@ -1,0 +1,150 @@
+//! Encoding by two builds of the uplink's library, as ratios within one run.
+//!
+//! A round is one call of each on the same buffers; the one that comes first in
+//! one round comes last in the next. Before anything is timed answer, block and
+//! scratch of both are compared.
+
+#![allow(dead_code)]
+
+#[path = "../tests/gen.rs"]
+mod gen;
+#[path = "../tests/model.rs"]
+mod model;
+mod plain;
+mod rounds;
+mod tuned;
+
+use gen::Rng;
+use rounds::{flush, micros, millis, rounds, table, Ratio, SIZES};
+use std::time::Instant;
+
+/// As libuplink.h has it.
+type Call = unsafe extern "C" fn(
+    *const u32,
+    usize,
+    *const u8,
+    usize,
+    *mut u8,
+    usize,
+    *mut u8,
+    usize,
+    usize,
+) -> model::Encoded;
+
+macro_rules! encode {
+    ($library:literal, $name:ident) => {
+        #[link(name = $library, kind = "static")]
+        extern "C" {
+            fn $name(
+                plan: *const u32,
+                plan_len: usize,
+                information: *const u8,
+                information_len: usize,
+                block: *mut u8,
+                block_len: usize,
+                scratch: *mut u8,
+                scratch_len: usize,
+                limit: usize,
+            ) -> model::Encoded;
+        }
+    };
+}
+
+encode!("uplink", bs_encode);
+encode!("before", before_bs_encode);
+
+/// Kind, n and m: a half of the places are sources, nearly all, all; and no two
+/// sources stand together.
+const TABLES: [(&str, usize, usize); 5] = [
+    ("regular", 1024, 512),
+    ("staircase", 1024, 512),
+    ("few", 1024, 16),
+    ("few", 1024, 0),
+    ("pairs", 1024, 512),
+];
+
+struct Lent {
+    plan: Vec<u32>,
+    information: Vec<u8>,
+    block: Vec<u8>,
+    scratch: Vec<u8>,
+}
+
+impl Lent {
+    fn new(table: &[u16]) -> Self {
+        let (n, s) = (table[1] as usize, table[2] as usize);
+        let mut plan = vec![0; model::PLAN_BUFFER];
+        let planned = tuned::plan(table, &mut plan, &mut vec![0; model::WORK_BUFFER]);
+        plan.truncate(planned.length as usize);
+        let information = Rng::new(1, 1).bytes((n - planned.kept as usize) * s);
+        let (block, scratch) = (vec![7; n * s], vec![7; planned.gap as usize * s]);
+        Lent { plan, information, block, scratch }
+    }
+    fn encode(&mut self, call: Call) -> model::Encoded {
+        let Lent { plan, information, block, scratch } = self;
+        unsafe {
+            call(
+                plan.as_ptr(),
+                plan.len(),
+                information.as_ptr(),
+                information.len(),
+                block.as_mut_ptr(),
+                block.len(),
+                scratch.as_mut_ptr(),
+                scratch.len(),
+                usize::MAX,
+            )
+        }
+    }
+    fn timed(&mut self, call: Call, warm: bool) -> f64 {
+        if !warm {
+            [&self.block, &self.scratch, &self.information].into_iter().for_each(|b| flush(b));
+        }
+        let start = Instant::now();
+        self.encode(call);
+        micros(start)
+    }
+    /// Answer, block and scratch, whatever they held.
+    fn outcome(&mut self, call: Call) -> (model::Encoded, Vec<u8>, Vec<u8>) {
+        self.block.fill(7);
+        self.scratch.fill(7);
+        (self.encode(call), self.block.clone(), self.scratch.clone())
+    }
+}
+
+/// Times of the later and of the earlier build in each round.
+fn measure(lent: &mut Lent, warm: bool) -> Vec<[f64; 2]> {
+    let mut first = false;
+    rounds(millis(1000), || {
+        first = !first;
+        if first {
+            [lent.timed(bs_encode, warm), lent.timed(before_bs_encode, warm)]
+        } else {
+            let before = lent.timed(before_bs_encode, warm);
+            [lent.timed(bs_encode, warm), before]
+        }
+    })
+}
+
+fn main() {
+    println!("{:<18} {:<5} {:>5} {:>8}  now to before", "table", "block", "s", "us");
+    let mut slower = Vec::new();
+    for (kind, n, m) in TABLES {
+        for s in SIZES {
+            let mut lent = Lent::new(&table(kind, n, m, s));
+            assert!(lent.outcome(bs_encode) == lent.outcome(before_bs_encode), "another outcome");
+            for (block, warm) in [("warm", true), ("cold", false)] {
+                let times = measure(&mut lent, warm);
+                let time = Ratio::of(times.iter().map(|times| times[0])).median;
+                let ratio = Ratio::of(times.iter().map(|times| times[0] / times[1]));
+                let line = format!("{:<18} {block:<5} {s:>5}", format!("{kind} {n} {m}"));
+                println!("{line} {time:>8.1}  {ratio}");
+                if ratio.median > 1.02 {
+                    slower.push(line);
+                }
+            }
+        }
+    }
+    println!("\nslower by more than a fiftieth: {}", slower.len());
+    slower.iter().for_each(|line| println!("{line}"));
+}
