@@ -139,12 +139,12 @@ fn main() {
                 let ratio = Ratio::of(times.iter().map(|times| times[0] / times[1]));
                 let line = format!("{:<18} {block:<5} {s:>5}", format!("{kind} {n} {m}"));
                 println!("{line} {time:>8.1}  {ratio}");
-                if ratio.median > 1.02 {
+                if ratio.low > 1.0 {
                     slower.push(line);
                 }
             }
         }
     }
-    println!("\nslower by more than a fiftieth: {}", slower.len());
+    println!("\nslower in nine rounds of ten: {}", slower.len());
     slower.iter().for_each(|line| println!("{line}"));
 }

@@ -24,11 +24,13 @@ use rounds::{flush, micros, millis, rounds, table, Ratio, SIZES};
 use std::hint::black_box;
 use std::time::{Duration, Instant};
 
-const TABLES: [(&str, usize, usize); 4] = [
+/// Of the last encode alone: few steps, so that what comes before them shows.
+const TABLES: [(&str, usize, usize); 5] = [
     ("regular", 1024, 512),
     ("staircase", 1024, 512),
     ("regular", 256, 128),
     ("staircase", 256, 128),
+    ("few", 1024, 16),
 ];
 /// Sources, packets, ones and seed of the tables to make: the largest, and a
 /// usual one.
@@ -89,18 +91,19 @@ fn measure(call: &mut dyn Call, s: usize, warm: bool, long: Duration) -> Figures
 // --------------------------------------------------- tables and their calls
 
 /// Plans don't depend on the size but for one word: plan is timed once.
-fn calls_of(table: &[u16]) -> Vec<(&'static str, Box<dyn Call>)> {
+fn calls_of(kind: &str, table: &[u16]) -> Vec<(&'static str, Box<dyn Call>)> {
     let mut calls: Vec<(&'static str, Box<dyn Call>)> = Vec::new();
+    let all = kind != "few";
     #[cfg(uplink)]
     {
         let plan = calls::Plan::new(Lent::new(table));
-        if table[2] == 64 {
+        if all && table[2] == 64 {
             calls.push(("plan", Box::new(plan)));
         }
         calls.push(("encode", Box::new(calls::Encode::new(Lent::new(table)))));
     }
     #[cfg(receiver)]
-    {
+    if all {
         for (name, share) in [("repair 10 %", 10), ("repair 20 %", 20), ("repair 30 %", 30)] {
             calls.push((name, Box::new(calls::Repair::new(Lent::new(table), share))));
         }
@@ -112,17 +115,18 @@ fn calls_of(table: &[u16]) -> Vec<(&'static str, Box<dyn Call>)> {
 
 // -------------------------------------------------------------------- marks
 
-/// The most that the ratios may be where n is 1,024, m is 512 and the block is
-/// warm: to the pure exclusive-or at s 64 and at s 1,024, and to plain Rust.
-/// Make has its mark for each table that is made.
-fn marks_of(call: &str, kind: &str) -> Option<([f64; 2], f64)> {
+/// The most that the ratios may be where n is 1,024 and the block is warm: to
+/// the pure exclusive-or at s 64 and at s 1,024, and to plain Rust. Make has its
+/// mark for each table that is made.
+fn marks_of(call: &str, kind: &str) -> Option<(Option<[f64; 2]>, f64)> {
     match (call, kind) {
-        ("plan", _) => Some(([0.0, 0.0], 1.3)),
-        ("make", _) => Some(([0.0, 0.0], 3.0)),
-        ("encode", "regular") => Some(([1.75, 1.35], 0.75)),
-        ("encode", _) => Some(([2.1, 1.6], 0.85)),
-        ("repair 20 %", _) => Some(([2.9, 1.6], 0.8)),
-        ("verify", _) => Some(([1.15, 1.15], 0.75)),
+        ("plan", _) => Some((None, 1.3)),
+        ("make", _) => Some((None, 3.0)),
+        ("encode", "few") => Some((None, 0.8)),
+        ("encode", "regular") => Some((Some([1.75, 1.35]), 0.75)),
+        ("encode", _) => Some((Some([2.1, 1.6]), 0.85)),
+        ("repair 20 %", _) => Some((Some([2.9, 1.6]), 0.8)),
+        ("verify", _) => Some((Some([1.15, 1.15]), 0.75)),
         _ => None,
     }
 }
@@ -134,8 +138,9 @@ fn mark_lines(call: &str, kind: &str, s: usize, figures: &Figures) -> Vec<String
         let verdict = if ratio.median <= mark { "holds" } else { "missed" };
         format!("{call:<12} {kind:<10} {s:>5}  {to:<14} {mark:>5.2}  {ratio:<22} {verdict}")
     };
-    let limit = if s == 64 { limits[0] } else { limits[1] };
-    let by_limit = figures.limits.map(|[hot, _]| line("pure xor", limit, hot));
+    let by_limit = limits.zip(figures.limits).map(|(marks, [hot, _])| {
+        line("pure xor", if s == 64 { marks[0] } else { marks[1] }, hot)
+    });
     let to = if call == "plan" { "tuned planner" } else { "plain Rust" };
     by_limit.into_iter().chain([line(to, plain, figures.plain)]).collect()
 }
@@ -182,7 +187,7 @@ fn main() {
         let large = n == 1024;
         for s in SIZES {
             let marked = large && [64, 1024].contains(&s);
-            for (call, mut with) in calls_of(&table(kind, n, m, s)) {
+            for (call, mut with) in calls_of(kind, &table(kind, n, m, s)) {
                 let warm = measure(&mut *with, s, true, millis(if marked { 2000 } else { 300 }));
                 report.row(&name, call, "warm", s, &warm);
                 if marked {

@@ -11,13 +11,13 @@ use borrow.Author.Tests.{eqb-false, ne-eqb}
 use lib.Dec.{eqb}
 use lib.ListN.{length, getD, set, take, drop, replicate, length-set, length-replicate, getD-replicate, List·getD-eq-default}
 use lib.Seq.{drop-cons, drop-drop, take-add, getD-set-other, set-append-left}
-use Rattle.lists.specs.Buffers.{part-length, written-length}
+use Rattle.lists.specs.Buffers.{part-length, getD-part, written-length}
 use Rattle.lists.specs.ListLaws.{all-getD, all-set}
 use Rattle.lists.specs.Lists.{All.cons, has, written}
 use Rattle.lists.specs.Tests.{side, or-false-l, or-false-r}
 use Rattle.lists.specs.WroteLaws.{wrote-none, wrote-append}
-use Rattle.table.specs.BufferLaws.{place-fits, set-copied}
-use Rattle.table.specs.PacketLaws.{packets-length, packets-sized, packets-joined, joined-packets}
+use Rattle.table.specs.BufferLaws.{place-fits, packet-part, set-copied}
+use Rattle.table.specs.PacketLaws.{packets-length, packets-sized, packets-joined, joined-length, joined-packets}
 use Rattle.table.specs.Packets.{Packets, packets, joined}
 use Rattle.plan.specs.declared.Step.{Step}
 use Rattle.plan.specs.Layout.{planPlaces, planGap, infoCount, infoIn, slots}
@@ -25,7 +25,7 @@ use Rattle.plan.specs.LayoutLaws.{Formed, info-length, info-below}
 use Rattle.plan.specs.Steps.{withPackets}
 use Rattle.start.specs.Kept.{OthersKept}
 use Rattle.start.specs.Start.{Together, withInformation, clearsFirst, slotsIn, ClearedFor, PreparedFor}
-use Rattle.start.specs.StartLaws.{set-alike, lengths-alike, with-length, cut-again, same-byte, slots-length}
+use Rattle.start.specs.StartLaws.{set-alike, lengths-alike, with-length, cut-again, slots-length}
 
 -- ---- packets at places
 -- into slots that agree at the other places
@@ -143,6 +143,20 @@ module _ (s n m : ℕ) (b information : List ℕ) (lb : length b ≡ n * s) (li 
 
   pub run-copied : withPackets (packets s n b) (drop k I) (drop k qs) ≡ withPackets (packets s n (partly (r - k))) (drop r I) (drop r qs)
   run-copied = with-run (r - k) (omega (arith, whole)) ∙ ap (λ (i : ℕ). withPackets (packets s n (partly (r - k))) (drop i I) (drop i qs)) whole
+
+-- ---- bytes of packets
+-- byte i of packet p
+byte-at : (s : ℕ) {ps : List (List ℕ)} → Packets s ps → (p i : ℕ) → p < length ps → i < s → getD (joined ps) (p * s + i) 0 ≡ getD (getD ps p []) i 0
+byte-at s {ps} a p i h l = sym (ap (λ (x : List ℕ). getD x i 0) (packet-part s a p h) ∙ getD-part (joined ps) (p * s) s i l)
+
+-- of a packet that is the same in two rows of as many
+same-byte : (s : ℕ) {ps qs : List (List ℕ)} → Packets s ps → Packets s qs → length ps ≡ length qs → (p i : ℕ) → i < s
+    → (p < length qs → getD ps p [] ≡ getD qs p []) → getD (joined ps) (p * s + i) 0 ≡ getD (joined qs) (p * s + i) 0
+same-byte s {ps} {qs} a b e p i l same = ⊎-elim
+    (λ h. byte-at s a p i (omega arith) l ∙ ap (λ (x : List ℕ). getD x i 0) (same h) ∙ sym (byte-at s b p i h l))
+    (λ h. let m = mul-le-mul-right s h in let n : length ps * s ≡ length qs * s = ap (λ (k : ℕ). k * s) e in
+    List·getD-eq-default (joined ps) 0 (omega (arith, joined-length s a)) ∙ sym (List·getD-eq-default (joined qs) 0 (omega (arith, joined-length s b))))
+    (side p (length qs))
 
 -- ---- the information copied
 -- no other byte is changed

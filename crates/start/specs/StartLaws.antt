@@ -3,8 +3,7 @@ use mathlib.Core.Path.{_≡_, refl, sym, ap, ap₂, _∙_}
 use mathlib.Core.Bool.{true, false, _||_}
 use mathlib.Core.List.{List, [], _∷_}
 use mathlib.Core.Logic.{⊎-elim}
-use Prim.Native.Nat.{ℕ, _+_, _*_, _<_}
-use native.Mathlib.Nat.{mul-le-mul-right}
+use Prim.Native.Nat.{ℕ, _+_, _*_}
 use native.Mathlib.Omega.{arith}
 use borrow.Author.Tests.{eqb-true, eqb-false, eq-eqb, ne-eqb}
 use lib.Dec.{eqb}
@@ -12,9 +11,7 @@ use lib.ListN.{length, getD, set, replicate, length-set, length-append, length-r
 use lib.Seq.{ext-getD, getD-set-same, getD-set-other, take-at, drop-at}
 use Rattle.gf2.specs.Gf2.{XorGroup, add}
 use Rattle.lists.specs.Tests.{byBool, side}
-use Rattle.lists.specs.Buffers.{getD-part}
-use Rattle.table.specs.BufferLaws.{packet-part}
-use Rattle.table.specs.PacketLaws.{packets-length, packets-sized, packets-joined, joined-length, joined-packets}
+use Rattle.table.specs.PacketLaws.{packets-length, packets-sized, packets-joined, joined-packets}
 use Rattle.table.specs.Packets.{Packets, packets, joined}
 use Rattle.plan.specs.declared.Step.{Step}
 use Rattle.plan.specs.declared.Step.the-variants.{Clear, Add}
@@ -68,19 +65,6 @@ with-length st (i ∷ I) (p ∷ ps) = with-length (set st i p) I ps ∙ length-s
 -- packets joined and cut again
 pub cut-again : (s n : ℕ) {ps : List (List ℕ)} → Packets s ps → length ps ≡ n → packets s n (joined ps) ≡ ps
 cut-again s n {ps} a e = ap (λ (k : ℕ). packets s k (joined ps)) (sym e) ∙ joined-packets s a
-
--- byte i of packet p
-byte-at : (s : ℕ) {ps : List (List ℕ)} → Packets s ps → (p i : ℕ) → p < length ps → i < s → getD (joined ps) (p * s + i) 0 ≡ getD (getD ps p []) i 0
-byte-at s {ps} a p i h l = sym (ap (λ (x : List ℕ). getD x i 0) (packet-part s a p h) ∙ getD-part (joined ps) (p * s) s i l)
-
--- of a packet that is the same in two rows of as many
-pub same-byte : (s : ℕ) {ps qs : List (List ℕ)} → Packets s ps → Packets s qs → length ps ≡ length qs → (p i : ℕ) → i < s
-    → (p < length qs → getD ps p [] ≡ getD qs p []) → getD (joined ps) (p * s + i) 0 ≡ getD (joined qs) (p * s + i) 0
-same-byte s {ps} {qs} a b e p i l same = ⊎-elim
-    (λ h. byte-at s a p i (omega arith) l ∙ ap (λ (x : List ℕ). getD x i 0) (same h) ∙ sym (byte-at s b p i h l))
-    (λ h. let m = mul-le-mul-right s h in let n : length ps * s ≡ length qs * s = ap (λ (k : ℕ). k * s) e in
-    List·getD-eq-default (joined ps) 0 (omega (arith, joined-length s a)) ∙ sym (List·getD-eq-default (joined qs) 0 (omega (arith, joined-length s b))))
-    (side p (length qs))
 
 module _ (w : List ℕ) (s : ℕ) (b c : List ℕ) (lb : length b ≡ planPlaces w * s) (lc : length c ≡ planGap w * s) where
   abbrev front : List (List ℕ)

@@ -1,5 +1,5 @@
 -- `start::clear_gaps` meets its contract: the gaps before the first i information places are done.
-use Prim.Native.Nat.{_+_, _-_, _*_, _≤_}
+use Prim.Native.Nat.{_-_, _≤_}
 use mathlib.Core.Path.{_≡_, refl, _∙_}
 use lib.ListN.{length}
 use Rattle.plan.specs.Layout.{planPlaces, infoIn}

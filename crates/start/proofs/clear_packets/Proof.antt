@@ -1,5 +1,4 @@
 -- `start::clear_packets` meets its contract: by the runs without a mark, or as one run.
-use mathlib.Core.Path.{refl}
 use Rattle.start.proofs.ClearLaws.{gap-none, gap-more, run-bytes}
 use native.Mathlib.Nat.{mul-le-mul-right}
 use native.Mathlib.Omega.{arith}

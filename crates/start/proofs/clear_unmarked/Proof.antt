@@ -1,6 +1,6 @@
 -- `start::clear_unmarked` meets its contract: the packets below i are done, the others as they were.
-use Prim.Native.Nat.{ℕ, _+_, _-_, _*_, _≤_}
-use mathlib.Core.Path.{_≡_, refl, sym, ap, _∙_, subst}
+use Prim.Native.Nat.{_-_, _≤_}
+use mathlib.Core.Path.{_≡_, refl, _∙_}
 use lib.ListN.{length}
 use Rattle.start.specs.Start.{GapCleared}
 use Rattle.start.proofs.ClearLaws.{gap-none, gap-more, turn-on, run-bytes}

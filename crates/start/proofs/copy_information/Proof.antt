@@ -1,5 +1,5 @@
 -- `start::copy_information` meets its contract: what is left to copy decides the block.
-use Prim.Native.Nat.{ℕ, _+_, _-_, _*_, _≤_, _<_}
+use Prim.Native.Nat.{ℕ, _-_, _*_, _≤_, _<_}
 use mathlib.Core.Path.{_≡_, refl, sym, ap, _∙_}
 use mathlib.Core.List.{List}
 use lib.ListN.{length, take, drop, drop-of-length-le}
@@ -10,7 +10,6 @@ use Rattle.lists.specs.Lists.{written}
 use Rattle.plan.specs.Layout.{planPlaces, infoCount, infoIn}
 use Rattle.plan.specs.LayoutLaws.{well, info-below, info-length}
 use Rattle.plan.specs.Steps.{withPackets}
-use Rattle.start.specs.Kept.{OthersKept}
 use Rattle.start.proofs.ClearLaws.{run-bytes}
 use Rattle.start.proofs.CopyLaws.{run-room, run-copied, others-kept}
 use native.Mathlib.Omega.{arith}
