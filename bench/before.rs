@@ -1,8 +1,9 @@
 //! Encoding by two builds of the uplink's library, as ratios within one run.
 //!
 //! A round is one call of each on the same buffers; the one that comes first in
-//! one round comes last in the next. Before anything is timed answer, block and
-//! scratch of both are compared.
+//! one round comes last in the next. A block is cold if block, scratch and
+//! information were flushed from the caches before each call; the plan stays.
+//! Before anything is timed answer, block and scratch of both are compared.
 
 #![allow(dead_code)]
 
@@ -53,11 +54,13 @@ macro_rules! encode {
 encode!("uplink", bs_encode);
 encode!("before", before_bs_encode);
 
-/// Kind, n and m: a half of the places are sources, nearly all, all; and no two
-/// sources stand together.
-const TABLES: [(&str, usize, usize); 5] = [
+/// Kind, n and m: half of the places hold information, scattered and in a row;
+/// nearly all; all; and every other one, so that no two stand together.
+const TABLES: [(&str, usize, usize); 7] = [
     ("regular", 1024, 512),
     ("staircase", 1024, 512),
+    ("regular", 256, 128),
+    ("staircase", 256, 128),
     ("few", 1024, 16),
     ("few", 1024, 0),
     ("pairs", 1024, 512),

@@ -92,7 +92,7 @@ module _ (w : List ℕ) (f : Formed w) (marks : List ℕ) (s : ℕ) (b₀ : List
 
   -- the gap behind the first k information places, up to high, holds no other
   module _ (k low high : ℕ) (b b′ : List ℕ) (few : k ≤ infoCount w) (done : GapsCleared w marks s k low b₀ b) (gap : GapCleared marks s 0 low high b b′)
-      (order : low ≤ high) (next : k < length I → high ≤ getD I k 0) where
+      (next : k < length I → high ≤ getD I k 0) where
     none-in : (p : ℕ) → low ≤ p → p < high → has p I ≡ false
     none-in p h g = between (planPlaces w) 0 I (f .rises) k (omega (arith, I-long)) p (omega (arith, done .upto)) (λ m. let n = next m in omega arith)
 
@@ -104,10 +104,10 @@ module _ (w : List ℕ) (f : Formed w) (marks : List ℕ) (s : ℕ) (b₀ : List
         (λ d. gap .above (p * s + i) (let q : high * s ≤ p * s = mul-le-mul-right s d in omega arith))
         (side p high)) (side p low)
 
-    pub kept-on : InformationKept w s b₀ b′
+    kept-on : InformationKept w s b₀ b′
     kept-on = record { each = λ p i h l. outside p i h l ∙ done .keeps .each p i h l }
 
-    pub zero-on : (p i : ℕ) → p < high → has p I ≡ false → isMarked marks p ≡ false → i < s → getD b′ (p * s + i) 0 ≡ 0
+    zero-on : (p i : ℕ) → p < high → has p I ≡ false → isMarked marks p ≡ false → i < s → getD b′ (p * s + i) 0 ≡ 0
     zero-on p i m h free l = ⊎-elim
         (λ c. gap .below (p * s + i) (let q = place-fits p low s c in omega arith) ∙ done .zero p i c h free l)
         (λ c. gap .zero p i c m (ap (isMarked marks) {x = 0 + p} {y = p} (omega arith) ∙ free) l)
@@ -125,10 +125,10 @@ module _ (w : List ℕ) (f : Formed w) (marks : List ℕ) (s : ℕ) (b₀ : List
       record {
         upto = add-one high ∙ sym (ap (behind I) (add-one k));
         zero = λ p i m h free l. ⊎-elim
-            (λ c. zero-on k low high b b′ (omega arith) done gap order (λ z. omega arith) p i c h free l)
+            (λ c. zero-on k low high b b′ (omega arith) done gap (λ z. omega arith) p i c h free l)
             (λ c. let e : p ≡ high = omega arith in absurd (true≢false (sym (getD-has I k (omega (arith, I-long))) ∙ ap (λ (x : ℕ). has x I) (sym e) ∙ h)))
             (side p high);
-        keeps = kept-on k low high b b′ (omega arith) done gap order (λ z. omega arith);
+        keeps = kept-on k low high b b′ (omega arith) done gap (λ z. omega arith);
         rest = λ x m. gap .above x (omega arith) ∙ done .rest x (omega arith);
       }
 
@@ -139,33 +139,30 @@ zero-packet s n b e p h z =
     let long = part-length b (p * s) s (let q = place-fits p n s h in omega arith) in
     packet-at s n b p h ∙ ext-getD 0 _ _ (long ∙ sym (length-replicate s 0)) (λ i l. getD-part b (p * s) s i (omega arith) ∙ z i (omega arith) ∙ sym (getD-zeros s i))
 
-module _ (w : List ℕ) (f : Formed w) (s : ℕ) (b₀ b b′ c c′ : List ℕ) (lb : length b′ ≡ planPlaces w * s) (lc : length c′ ≡ planGap w * s)
-    (xs : List Step) (marks : List ℕ) (only : MarkedOnly xs marks) (low : ℕ)
-    (gaps : GapsCleared w marks s (infoCount w) low b₀ b) (last : GapCleared marks s 0 low (planPlaces w) b b′)
-    (back : GapCleared marks s (planPlaces w) 0 (planGap w) c c′) where
+-- the gap behind the last information place
+module _ (w : List ℕ) (f : Formed w) (s : ℕ) (marks : List ℕ) (low : ℕ) (b₀ b b′ : List ℕ)
+    (gaps : GapsCleared w marks s (infoCount w) low b₀ b) (last : GapCleared marks s 0 low (planPlaces w) b b′) where
   behind-all : infoCount w < length (infoIn w) → planPlaces w ≤ getD (infoIn w) (infoCount w) 0
   behind-all h = absurd (omega (arith, info-length w f))
 
-  order : low ≤ planPlaces w
-  order = gaps-low w f marks s b₀ low b gaps
-
   pub all-kept : InformationKept w s b₀ b′
-  all-kept = kept-on w f marks s b₀ (infoCount w) low (planPlaces w) b b′ (omega arith) gaps last order behind-all
+  all-kept = kept-on w f marks s b₀ (infoCount w) low (planPlaces w) b b′ (omega arith) gaps last behind-all
 
-  free : (p : ℕ) → clearsFirst xs p ≡ false → isMarked marks p ≡ false
-  free p none = byBool (isMarked marks p) (λ z. absurd (true≢false (sym (only .only p z) ∙ none))) (λ z. z)
+  all-zero : (p i : ℕ) → p < planPlaces w → has p (infoIn w) ≡ false → isMarked marks p ≡ false → i < s → getD b′ (p * s + i) 0 ≡ 0
+  all-zero = zero-on w f marks s b₀ (infoCount w) low (planPlaces w) b b′ (omega arith) gaps last behind-all
 
-  pub cleared-for : ClearedFor w s xs b′ c′
-  cleared-for = record {
+  -- and the scratch
+  pub cleared-for : (c c′ : List ℕ) → length b′ ≡ planPlaces w * s → length c′ ≡ planGap w * s → (xs : List Step) → MarkedOnly xs marks
+      → GapCleared marks s (planPlaces w) 0 (planGap w) c c′ → ClearedFor w s xs b′ c′
+  cleared-for c c′ lb lc xs only back = record {
     zero = λ p h none other.
         let n = planPlaces w in let front = packets s n b′ in let rest = packets s (planGap w) c′ in
         let long = packets-length s n b′ in
+        let free : isMarked marks p ≡ false = byBool (isMarked marks p) (λ z. absurd (true≢false (sym (only .only p z) ∙ none))) (λ z. z) in
         ⊎-elim
-        (λ m. List·getD-append front rest [] p (omega arith)
-        ∙ zero-packet s n b′ lb p m (λ i l. zero-on w f marks s b₀ (infoCount w) low n b b′ (omega arith) gaps last order behind-all p i m other (free p none) l))
+        (λ m. List·getD-append front rest [] p (omega arith) ∙ zero-packet s n b′ lb p m (λ i l. all-zero p i m other free l))
         (λ m. let q = p - n in
         ap (λ (x : ℕ). getD (slotsIn w s b′ c′) x []) {x = p} {y = length front + q} (omega arith) ∙ getD-append-add front rest q []
-        ∙ zero-packet s (planGap w) c′ lc q (omega arith) (λ i l. back .zero q i (omega arith) (omega arith)
-        (ap (isMarked marks) {x = n + q} {y = p} (omega arith) ∙ free p none) l))
+        ∙ zero-packet s (planGap w) c′ lc q (omega arith) (λ i l. back .zero q i (omega arith) (omega arith) (ap (isMarked marks) {x = n + q} {y = p} (omega arith) ∙ free) l))
         (side p n);
   }

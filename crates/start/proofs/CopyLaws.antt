@@ -29,7 +29,7 @@ use Rattle.start.specs.StartLaws.{set-alike, lengths-alike, with-length,
 
 -- ---- packets at places
 -- into slots that agree at the other places
-pub packets-alike : (I : List ℕ) (ps st st′ : List (List ℕ)) (p : ℕ) → length ps ≡ length I → length st ≡ length st′
+packets-alike : (I : List ℕ) (ps st st′ : List (List ℕ)) (p : ℕ) → length ps ≡ length I → length st ≡ length st′
     → (has p I ≡ false → getD st p [] ≡ getD st′ p []) → getD (withPackets st I ps) p [] ≡ getD (withPackets st′ I ps) p []
 packets-alike [] ps st st′ p m l e = e refl
 packets-alike (i ∷ I) [] st st′ p m l e = absurd (omega arith)
@@ -58,14 +58,14 @@ with-append st tail (i ∷ I) (p ∷ ps) h =
     ∙ with-append (set st i p) tail I ps (λ k l. let e = length-set st i p in let m = h (suc k) (omega arith) in omega arith)
 
 -- one more packet
-pub with-more : (st : List (List ℕ)) (I : List ℕ) (ps : List (List ℕ)) (k : ℕ) → k < length I → k < length ps
+with-more : (st : List (List ℕ)) (I : List ℕ) (ps : List (List ℕ)) (k : ℕ) → k < length I → k < length ps
     → withPackets st (drop k I) (drop k ps) ≡ withPackets (set st (getD I k 0) (getD ps k [])) (drop (k + 1) I) (drop (k + 1) ps)
 with-more st I ps k h l =
     ap₂ (λ (x : List ℕ) (y : List (List ℕ)). withPackets st x y) (drop-cons I k 0 h) (drop-cons ps k [] l)
     ∙ ap (λ (j : ℕ). withPackets (set st (getD I k 0) (getD ps k [])) (drop j I) (drop j ps)) (sym (add-one k))
 
 -- a packet copied, in bytes and in packets
-pub copied : (s n m : ℕ) (b information : List ℕ) → length b ≡ n * s → length information ≡ m * s → (p k : ℕ) → p < n → k < m
+copied : (s n m : ℕ) (b information : List ℕ) → length b ≡ n * s → length information ≡ m * s → (p k : ℕ) → p < n → k < m
     → packets s n (written b (p * s) (take s (drop (k * s) information))) ≡ set (packets s n b) p (getD (packets s m information) k [])
 copied s n m b information e f p k h l =
     let ps = packets s n b in let qs = packets s m information in

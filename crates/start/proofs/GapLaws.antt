@@ -40,7 +40,7 @@ module _ (n : ℕ) (I : List ℕ) (rises : rising n 0 I ≡ true) where
 
 -- ---- places that follow each other
 module _ (I : List ℕ) (k : ℕ) where
-  abbrev pub Follow : ℕ → Type 0
+  abbrev Follow : ℕ → Type 0
   Follow r = (j : ℕ) → k + j < r → getD I (k + j) 0 ≡ getD I k 0 + j
 
   pub follow-one : Follow (k + 1)

@@ -39,7 +39,7 @@ pub record Marked (xs : List Step) (marks : List ℕ) : Type 0 where
 pub record MarkedOnly (xs : List Step) (marks : List ℕ) : Type 0 where
   pub only : (p : ℕ) → isMarked marks p ≡ true → clearsFirst xs p ≡ true
 
--- the packets from i to r − 1, numbered from first on, are all marked, or none is; packet r is otherwise, or they end at high
+-- the packets from i to r − 1 are all marked, or none is; packet r is otherwise, or r is high; packet p has mark first + p
 pub record Alike (marks : List ℕ) (marked : Bool) (first i high r : ℕ) : Type 0 where
   pub from : i ≤ r
   pub upto : r ≤ high
@@ -47,7 +47,7 @@ pub record Alike (marks : List ℕ) (marked : Bool) (first i high r : ℕ) : Typ
   pub stops : r < high → isMarked marks (first + r) ≡ not marked
 
 -- ---- clearing, in a buffer b that becomes b′: byte i of packet p stands at p · s + i
--- the packets from low to high − 1, numbered from first on, are zero where they have no mark; bytes of other packets stay
+-- the packets from low to high − 1 are zero where they have no mark, and the bytes of the packets outside stay; packet p has mark first + p
 pub record GapCleared (marks : List ℕ) (s first low high : ℕ) (b b′ : List ℕ) : Type 0 where
   pub below : (x : ℕ) → x < low * s → getD b′ x 0 ≡ getD b x 0
   pub above : (x : ℕ) → high * s ≤ x → getD b′ x 0 ≡ getD b x 0

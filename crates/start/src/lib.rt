@@ -62,7 +62,7 @@ fn mark_slots(plan: &[u32], s: usize, steps: usize, marks: &mut [u8])
     }
 }
 
-// Past the packets from i on that have a mark, or that have none; packets are numbered from first on, and end at high.
+// Past the packets from i to high - 1 that have a mark, or that have none; packet p has mark first + p.
 fn past(marks: &[u8], marked: bool, first: usize, i: usize, high: usize) -> usize
     requires { ⌜ (i ≤ high)
         × (first + high ≤ length (now marks)) ⌝ }
@@ -80,7 +80,7 @@ fn past(marks: &[u8], marked: bool, first: usize, i: usize, high: usize) -> usiz
 
 // ---- clearing
 
-// The packets from low to high that have no mark become zero, run by run.
+// The packets from low to high - 1 that have no mark become zero, run by run.
 fn clear_unmarked(b: &mut [u8], marks: &[u8], first: usize, low: usize, high: usize, s: usize)
     requires bytes { ⌜ high * s ≤ length (now b) ⌝ }
     requires marks { ⌜ first + high ≤ length (now marks) ⌝ }
@@ -96,8 +96,8 @@ fn clear_unmarked(b: &mut [u8], marks: &[u8], first: usize, low: usize, high: us
     }
 }
 
-// The same, in one run where packets are too short to look for marks.
-fn clear_packets(b: &mut [u8], marks: &[u8], first: usize, low: usize, high: usize, s: usize)
+// The same; where packets are too short to look for marks all of them become zero, in one run.
+fn clear_gap(b: &mut [u8], marks: &[u8], first: usize, low: usize, high: usize, s: usize)
     requires bytes { ⌜ high * s ≤ length (now b) ⌝ }
     requires marks { ⌜ first + high ≤ length (now marks) ⌝ }
     requires order { ⌜ low ≤ high ⌝ }
@@ -105,24 +105,13 @@ fn clear_packets(b: &mut [u8], marks: &[u8], first: usize, low: usize, high: usi
 {
     if LONG <= s {
         clear_unmarked(b, marks, first, low, high, s);
-    } else {
+    } else if low < high {
         packets::clear(b, low * s, (high - low) * s);
     }
 }
 
-// The same, where there may be none.
-fn clear_gap(b: &mut [u8], marks: &[u8], first: usize, low: usize, high: usize, s: usize)
-    requires bytes { ⌜ high * s ≤ length (now b) ⌝ }
-    requires marks { ⌜ first + high ≤ length (now marks) ⌝ }
-    requires order { ⌜ low ≤ high ⌝ }
-    ensures { λ _. ⌜ GapCleared (now (marks .entry)) s first low high (now (b .entry)) (now (b .exit)) ⌝ }
-{
-    if low < high {
-        clear_packets(b, marks, first, low, high, s);
-    }
-}
-
-// The gaps before and between the information places become zero, but for packets that have a mark. The place behind them.
+// The gaps before and between the information places become zero, but for packets that have a mark. The place behind the last
+// of them, 0 if there is none.
 fn clear_gaps(plan: &[u32], s: usize, marks: &[u8], block: &mut [u8]) -> usize
     requires formed { ⌜ planRefusal (now plan) ≡ 0 ⌝ }
     requires marks { ⌜ slots (now plan) ≤ length (now marks) ⌝ }
@@ -141,7 +130,7 @@ fn clear_gaps(plan: &[u32], s: usize, marks: &[u8], block: &mut [u8]) -> usize
     low
 }
 
-// Every slot but the information places becomes zero, or is one that the plan's first steps clear first.
+// Every slot becomes zero, but the information places, which stay, and some that the plan's first steps clear first.
 fn clear_others(plan: &[u32], s: usize, steps: usize, block: &mut [u8], scratch: &mut [u8])
     requires lent { ⌜ Lent (now plan) s (length (now block)) (length (now scratch)) ⌝ }
     requires steps { ⌜ steps ≤ stepCount (now plan) ⌝ }

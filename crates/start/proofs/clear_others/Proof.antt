@@ -63,7 +63,7 @@ returns c =
     let gaps = c .before .before .before .before .before .before .before .before .before .before .before .before .clear-gaps .ensures in let last = rw n at (c .before .before .before .before .before .before .before .clear-gap .ensures) in let back = rw (n, g) at (c .before .before .clear-gap2 .ensures) in
     let only = c .before .before .before .before .before .before .before .before .before .before .before .before .before .before .before .before .mark-slots .ensures in
     let lb = c .before .before .before .before .before .before .block2 .given ∙ c .before .before .before .before .before .before .before .before .before .before .before .block .given ∙ p .0 .block in let lc = c .before .scratch .given ∙ p .0 .scratch in
-    (cleared-for w f (a .s) (a .block .now) _ _ (a .scratch .now) _ lb lc _ _ only _ gaps last back, all-kept w f (a .s) (a .block .now) _ _ (a .scratch .now) _ lb lc _ _ only _ gaps last back)
+    (cleared-for w f (a .s) _ _ (a .block .now) _ _ gaps last (a .scratch .now) _ lb lc _ only back, all-kept w f (a .s) _ _ (a .block .now) _ _ gaps last)
 
 pub clear-others-spec : {M : Type 1} → statement M
 clear-others-spec =

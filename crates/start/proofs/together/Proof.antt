@@ -50,7 +50,7 @@ loop-again c =
       omega arith,
       omega arith,
       follow-more I (a .k) (l .r) (l .inv .0) (l .inv .2)
-          (sym (c .before .info-place2 .ensures) ∙ c .if1 .left ∙ ap (λ (p : ℕ). p + (l .r - a .k)) (c .before .before .before .before .info-place .ensures)),
+          (omega (arith, c .before .info-place2 .ensures, c .before .before .before .before .info-place .ensures)),
     )
 
 returns-2 : tie.Need-returns-2 Inv-loop μ-loop
