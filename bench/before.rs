@@ -16,7 +16,7 @@ mod rounds;
 mod tuned;
 
 use gen::Rng;
-use rounds::{flush, micros, millis, rounds, table, Ratio, SIZES};
+use rounds::{flush, micros, millis, rounds, table, Ratio, SIZES, TABLES};
 use std::time::Instant;
 
 /// As libuplink.h has it.
@@ -54,17 +54,9 @@ macro_rules! encode {
 encode!("uplink", bs_encode);
 encode!("before", before_bs_encode);
 
-/// Kind, n and m: half of the places hold information, scattered and in a row;
-/// nearly all; all; and every other one, so that no two stand together.
-const TABLES: [(&str, usize, usize); 7] = [
-    ("regular", 1024, 512),
-    ("staircase", 1024, 512),
-    ("regular", 256, 128),
-    ("staircase", 256, 128),
-    ("few", 1024, 16),
-    ("few", 1024, 0),
-    ("pairs", 1024, 512),
-];
+/// Beside the tables of the other benchmarks: no step at all, and every other
+/// place an information place, so that no two stand together.
+const MORE: [(&str, usize, usize); 2] = [("few", 1024, 0), ("pairs", 1024, 512)];
 
 struct Lent {
     plan: Vec<u32>,
@@ -132,7 +124,7 @@ fn measure(lent: &mut Lent, warm: bool) -> Vec<[f64; 2]> {
 fn main() {
     println!("{:<18} {:<5} {:>5} {:>8}  now to before", "table", "block", "s", "us");
     let mut slower = Vec::new();
-    for (kind, n, m) in TABLES {
+    for (kind, n, m) in TABLES.into_iter().chain(MORE) {
         for s in SIZES {
             let mut lent = Lent::new(&table(kind, n, m, s));
             assert!(lent.outcome(bs_encode) == lent.outcome(before_bs_encode), "another outcome");

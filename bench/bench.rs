@@ -20,18 +20,10 @@ mod rounds;
 mod tuned;
 
 use calls::{Call, Lent};
-use rounds::{flush, micros, millis, rounds, table, Ratio, SIZES};
+use rounds::{flush, micros, millis, rounds, table, Ratio, SIZES, TABLES};
 use std::hint::black_box;
 use std::time::{Duration, Instant};
 
-/// Of the last encode alone: few steps, so that what comes before them shows.
-const TABLES: [(&str, usize, usize); 5] = [
-    ("regular", 1024, 512),
-    ("staircase", 1024, 512),
-    ("regular", 256, 128),
-    ("staircase", 256, 128),
-    ("few", 1024, 16),
-];
 /// Sources, packets, ones and seed of the tables to make: the largest, and a
 /// usual one.
 const MADE: [[usize; 4]; 2] = [[512, 1024, 10, 1], [800, 1000, 3, 12_345]];
@@ -90,7 +82,8 @@ fn measure(call: &mut dyn Call, s: usize, warm: bool, long: Duration) -> Figures
 
 // --------------------------------------------------- tables and their calls
 
-/// Plans don't depend on the size but for one word: plan is timed once.
+/// Plans don't depend on the size but for one word: plan is timed once. With few
+/// steps encode alone is timed: what comes before them shows there.
 fn calls_of(kind: &str, table: &[u16]) -> Vec<(&'static str, Box<dyn Call>)> {
     let mut calls: Vec<(&'static str, Box<dyn Call>)> = Vec::new();
     let all = kind != "few";

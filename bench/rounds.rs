@@ -5,6 +5,15 @@ use crate::{model, tuned};
 use std::fmt;
 use std::time::{Duration, Instant};
 
+/// Kind, n and m. Half of the places hold information, scattered or in a row;
+/// in the last table nearly all do, so that there are few steps.
+pub const TABLES: [(&str, usize, usize); 5] = [
+    ("regular", 1024, 512),
+    ("staircase", 1024, 512),
+    ("regular", 256, 128),
+    ("staircase", 256, 128),
+    ("few", 1024, 16),
+];
 pub const SIZES: [usize; 7] = [1, 17, 64, 100, 256, 1000, 1024];
 
 /// A ratio over all rounds.

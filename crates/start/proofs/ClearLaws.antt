@@ -21,7 +21,7 @@ use Rattle.plan.specs.Layout.{planPlaces, planGap, infoCount, infoIn}
 use Rattle.plan.specs.LayoutLaws.{Formed, info-length}
 use Rattle.plan.specs.LookOver.{isMarked}
 use Rattle.start.specs.Kept.{InformationKept}
-use Rattle.start.specs.Start.{clearsFirst, MarkedOnly, Alike, GapCleared, behind, GapsCleared, slotsIn, ClearedFor}
+use Rattle.start.specs.Start.{MarkedOnly, Alike, GapCleared, behind, GapsCleared, slotsIn, ClearedFor}
 use Rattle.start.proofs.GapLaws.{between, behind-le, behind-low}
 
 -- ---- a gap

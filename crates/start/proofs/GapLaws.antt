@@ -11,7 +11,7 @@ use Rattle.lists.specs.Lists.{has}
 use Rattle.lists.specs.Tests.{eqb-lt, eqb-gt, side}
 use Rattle.table.specs.Table.{rising}
 use Rattle.plan.specs.LayoutLaws.{and-right, rising-at, rising-order}
-use Rattle.start.specs.Start.{behind}
+use Rattle.start.specs.Start.{behind, Together}
 
 rises-on : (n b q : ℕ) (I : List ℕ) → rising n b (q ∷ I) ≡ true → rising n (suc q) I ≡ true
 rises-on n b q I e = and-right (leb b q && ltb q n) (rising n (suc q) I) e
@@ -39,14 +39,19 @@ module _ (n : ℕ) (I : List ℕ) (rises : rising n 0 I ≡ true) where
   behind-low (suc k) h = rising-at n 0 I rises k h .1
 
 -- ---- places that follow each other
-module _ (I : List ℕ) (k : ℕ) where
-  abbrev Follow : ℕ → Type 0
-  Follow r = (j : ℕ) → k + j < r → getD I (k + j) 0 ≡ getD I k 0 + j
+module _ {I : List ℕ} {k count : ℕ} where
+  pub together-one : k < count → Together I k count (k + 1)
+  together-one h = record {
+    some = omega arith;
+    upto = omega arith;
+    follow = λ j l. let z : j ≡ 0 = omega arith in rw z (ap (λ (i : ℕ). getD I i 0) {x = k + 0} {y = k} (omega arith) ∙ omega arith);
+  }
 
-  pub follow-one : Follow (k + 1)
-  follow-one j h = let z : j ≡ 0 = omega arith in rw z (ap (λ (i : ℕ). getD I i 0) {x = k + 0} {y = k} (omega arith) ∙ omega arith)
-
-  pub follow-more : (r : ℕ) → k < r → Follow r → getD I r 0 ≡ getD I k 0 + (r - k) → Follow (r + 1)
-  follow-more r m f e j h = ⊎-elim (f j)
-      (λ g. ap (λ (i : ℕ). getD I i 0) {x = k + j} {y = r} (omega arith) ∙ e ∙ ap (λ (i : ℕ). getD I k 0 + i) {x = r - k} {y = j} (omega arith))
-      (side (k + j) r)
+  pub together-more : {r : ℕ} → r < count → Together I k count r → getD I r 0 ≡ getD I k 0 + (r - k) → Together I k count (r + 1)
+  together-more {r} h t e = let m = t .some in record {
+    some = omega arith;
+    upto = omega arith;
+    follow = λ j l. ⊎-elim (t .follow j)
+        (λ g. ap (λ (i : ℕ). getD I i 0) {x = k + j} {y = r} (omega arith) ∙ e ∙ ap (λ (i : ℕ). getD I k 0 + i) {x = r - k} {y = j} (omega arith))
+        (side (k + j) r);
+  }

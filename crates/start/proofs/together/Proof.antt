@@ -1,16 +1,15 @@
 -- `start::together` meets its contract: the places passed follow each other.
-use Prim.Native.Nat.{ℕ, _+_, _-_, _<_, _≤_}
-use mathlib.Core.Path.{_≡_, sym, ap, _∙_}
-use lib.ListN.{getD}
+use Prim.Native.Nat.{_-_}
 use Rattle.plan.specs.Layout.{infoIn}
 use Rattle.plan.specs.LayoutLaws.{well, info-below}
-use Rattle.start.proofs.GapLaws.{follow-one, follow-more}
+use Rattle.start.specs.Start.{Together}
+use Rattle.start.proofs.GapLaws.{together-one, together-more}
 use native.Mathlib.Omega.{arith}
 use Rattle.start.proofs.together.Statement.{statement}
 use Rattle.start.proofs.together.Tie as tie
 
 abbrev Inv-loop : tie.InvT-loop
-Inv-loop plan k count place r₀ r = (k < r) × (r ≤ count) × ((j : ℕ) → k + j < r → getD (infoIn plan) (k + j) 0 ≡ getD (infoIn plan) k 0 + j)
+Inv-loop plan k count place r₀ r = Together (infoIn plan) k count r
 
 abbrev μ-loop : tie.MeasureT-loop
 μ-loop plan k count place r₀ r = count - r
@@ -22,13 +21,13 @@ add-r : tie.Need-add-r Inv-loop μ-loop
 add-r c = let z = well (c .before .before .args .plan .now) (c .before .before .pre .0) .counts in omega (arith, c .before .before .pre .1)
 
 loop-holds : tie.Need-loop-holds Inv-loop μ-loop
-loop-holds c = (omega arith, omega (arith, c .before .before .pre .1), follow-one (infoIn (c .before .before .args .plan .now)) (c .before .before .args .k))
+loop-holds c = together-one (c .before .before .pre .1 .0)
 
 info-place-requires-2 : tie.Need-info-place-requires-2 Inv-loop μ-loop
 info-place-requires-2 c κs = let z = well (c .before .before .before .before .args .plan .now) (c .before .before .before .before .pre .0) .counts in (omega (arith, c .before .before .before .before .pre .1), omega arith)
 
 sub-if1 : tie.Need-sub-if1 Inv-loop μ-loop
-sub-if1 c = omega arith
+sub-if1 c = let m = c .before .before .loop .inv .some in omega arith
 
 add-if1 : tie.Need-add-if1 Inv-loop μ-loop
 add-if1 c =
@@ -36,7 +35,7 @@ add-if1 c =
     omega (arith, c .before .before .before .info-place .ensures, info-below w f (a .k) (omega (arith, c .before .before .before .before .before .pre .1)), c .before .before .before .before .before .pre .1)
 
 returns : tie.Need-returns Inv-loop μ-loop
-returns c = let l = c .before .before .before .loop in record { some = l .inv .0; upto = l .inv .1; follow = l .inv .2 }
+returns c = c .before .before .before .loop .inv
 
 add-r-2 : tie.Need-add-r-2 Inv-loop μ-loop
 add-r-2 c = omega arith
@@ -45,16 +44,10 @@ loop-less : tie.Need-loop-less Inv-loop μ-loop
 loop-less c = omega arith
 
 loop-again : tie.Need-loop-again Inv-loop μ-loop
-loop-again c =
-    let a = c .before .before .before .before .before .before .args in let l = c .before .before .before .loop in let I = infoIn (a .plan .now) in (
-      omega arith,
-      omega arith,
-      follow-more I (a .k) (l .r) (l .inv .0) (l .inv .2)
-          (omega (arith, c .before .info-place2 .ensures, c .before .before .before .before .info-place .ensures)),
-    )
+loop-again c = together-more (c .before .before .loop-test .taken) (c .before .before .before .loop .inv) (omega (arith, c .before .info-place2 .ensures, c .before .before .before .before .info-place .ensures))
 
 returns-2 : tie.Need-returns-2 Inv-loop μ-loop
-returns-2 c = let l = c .before .loop in record { some = l .inv .0; upto = l .inv .1; follow = l .inv .2 }
+returns-2 c = c .before .loop .inv
 
 pub together-spec : {M : Type 1} → statement M
 together-spec =
