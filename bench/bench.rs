@@ -1,6 +1,6 @@
 //! Benchmarks of the libraries' calls, as ratios within one run. Built with
-//! --cfg uplink (plan, encode), --cfg receiver (repair, verify), --cfg tables
-//! (make), or some of them.
+//! --cfg uplink (plan, encode), --cfg receiver (repair, full repair, verify),
+//! --cfg tables (make), or some of them.
 //!
 //! A round is one call of each kind in turn: the library's, the pure
 //! exclusive-or of as many additions on hot packets, the same additions at
@@ -31,7 +31,8 @@ const MADE: [[usize; 4]; 2] = [[512, 1024, 10, 1], [800, 1000, 3, 12_345]];
 // ---------------------------------------------------------------- measuring
 
 /// Microseconds, and the ratios to the pure exclusive-or on hot packets and
-/// over the real block, and to plain Rust. Plan and make have only the last.
+/// over the real block, and to plain Rust. Plan, full repair and make have only
+/// the last; where peeling alone restores it is the ratio to repair.
 struct Figures {
     time: f64,
     limits: Option<[Ratio; 2]>,
@@ -83,7 +84,9 @@ fn measure(call: &mut dyn Call, s: usize, warm: bool, long: Duration) -> Figures
 // --------------------------------------------------- tables and their calls
 
 /// Plans don't depend on the size but for one word: plan is timed once. With few
-/// steps encode alone is timed: what comes before them shows there.
+/// steps encode alone is timed: what comes before them shows there. Full repair
+/// is timed for the larger tables, with 45 % lost, where peeling stalls, and with
+/// 20 %, where it alone restores.
 fn calls_of(kind: &str, table: &[u16]) -> Vec<(&'static str, Box<dyn Call>)> {
     let mut calls: Vec<(&'static str, Box<dyn Call>)> = Vec::new();
     let all = kind != "few";
@@ -100,6 +103,12 @@ fn calls_of(kind: &str, table: &[u16]) -> Vec<(&'static str, Box<dyn Call>)> {
         for (name, share) in [("repair 10 %", 10), ("repair 20 %", 20), ("repair 30 %", 30)] {
             calls.push((name, Box::new(calls::Repair::new(Lent::new(table), share))));
         }
+        if table[1] == 1024 && [64, 1024].contains(&table[2]) {
+            for (name, share, peeled) in [("full 45 %", 45, false), ("peeled 20 %", 20, true)] {
+                let call = calls::FullRepair::new(Lent::new(table), share, peeled);
+                calls.push((name, Box::new(call)));
+            }
+        }
         calls.push(("verify", Box::new(calls::Verify::new(Lent::new(table)))));
         calls.push(("wrong byte", Box::new(calls::Verify::wrong_byte(Lent::new(table)))));
     }
@@ -109,9 +118,10 @@ fn calls_of(kind: &str, table: &[u16]) -> Vec<(&'static str, Box<dyn Call>)> {
 // -------------------------------------------------------------------- marks
 
 /// The most that the ratios may be where n is 1,024 and the block is warm: to
-/// the pure exclusive-or at s 64 and at s 1,024, and to plain Rust. Make has its
-/// mark for each table that is made.
-fn marks_of(call: &str, kind: &str) -> Option<(Option<[f64; 2]>, f64)> {
+/// the pure exclusive-or at s 64 and at s 1,024, and to plain Rust. Full repair
+/// has its mark to plain elimination at s 1,024 only. Make has its mark for each
+/// table that is made.
+fn marks_of(call: &str, kind: &str, s: usize) -> Option<(Option<[f64; 2]>, f64)> {
     match (call, kind) {
         ("plan", _) => Some((None, 1.3)),
         ("make", _) => Some((None, 3.0)),
@@ -119,6 +129,8 @@ fn marks_of(call: &str, kind: &str) -> Option<(Option<[f64; 2]>, f64)> {
         ("encode", "regular") => Some((Some([1.75, 1.35]), 0.75)),
         ("encode", _) => Some((Some([2.1, 1.6]), 0.85)),
         ("repair 20 %", _) => Some((Some([2.9, 1.6]), 0.8)),
+        ("full 45 %", _) if s == 1024 => Some((None, 1.5)),
+        ("peeled 20 %", _) => Some((None, 3.0)),
         ("verify", _) => Some((Some([1.15, 1.15]), 0.75)),
         _ => None,
     }
@@ -126,7 +138,7 @@ fn marks_of(call: &str, kind: &str) -> Option<(Option<[f64; 2]>, f64)> {
 
 /// A line for each mark of a call at s 64 or 1,024.
 fn mark_lines(call: &str, kind: &str, s: usize, figures: &Figures) -> Vec<String> {
-    let Some((limits, plain)) = marks_of(call, kind) else { return Vec::new() };
+    let Some((limits, plain)) = marks_of(call, kind, s) else { return Vec::new() };
     let line = |to: &str, mark: f64, ratio: Ratio| {
         let verdict = if ratio.median <= mark { "holds" } else { "missed" };
         format!("{call:<12} {kind:<10} {s:>5}  {to:<14} {mark:>5.2}  {ratio:<22} {verdict}")
@@ -134,7 +146,11 @@ fn mark_lines(call: &str, kind: &str, s: usize, figures: &Figures) -> Vec<String
     let by_limit = limits.zip(figures.limits).map(|(marks, [hot, _])| {
         line("pure xor", if s == 64 { marks[0] } else { marks[1] }, hot)
     });
-    let to = if call == "plan" { "tuned planner" } else { "plain Rust" };
+    let to = match call {
+        "plan" => "tuned planner",
+        "peeled 20 %" => "repair",
+        _ => "plain Rust",
+    };
     by_limit.into_iter().chain([line(to, plain, figures.plain)]).collect()
 }
 

@@ -10,7 +10,7 @@
 pub use uplink::{Encode, Plan};
 
 #[cfg(receiver)]
-pub use receiver::{Repair, Verify};
+pub use receiver::{FullRepair, Repair, Verify};
 
 #[cfg(tables)]
 pub use tables::Staircase;
@@ -244,6 +244,16 @@ mod receiver {
             map: *mut u8,
             map_len: usize,
         ) -> model::Repaired;
+        fn bs_full_repair(
+            table: *const u16,
+            table_len: usize,
+            block: *mut u8,
+            block_len: usize,
+            map: *mut u8,
+            map_len: usize,
+            work: *mut u64,
+            work_len: usize,
+        ) -> model::FullyRepaired;
         fn bs_verify(
             table: *const u16,
             table_len: usize,
@@ -323,11 +333,7 @@ mod receiver {
         /// plain Rust restores. Old bytes at lost places don't count, so that
         /// the block can be used again.
         pub fn new(mut lent: Lent, share: usize) -> Self {
-            let n = lent.table[1] as usize;
-            let mut received = vec![0; n];
-            for p in Rng::new(share as u64, 2).some_below(n, n * share / 100) {
-                received[p] = 1;
-            }
+            let received = received_map(&lent, share);
             let bytes = lent.bytes();
             let mut map = received.clone();
             let answer = plain::repair(&lent.table, &mut lent.slots[..bytes], &mut map);
@@ -341,6 +347,16 @@ mod receiver {
             assert!(call.map == after && call.lent.slots[..bytes] == block, "another block");
             call
         }
+    }
+
+    /// The map of a block of which so many of a hundred places are lost.
+    fn received_map(lent: &Lent, share: usize) -> Vec<u8> {
+        let n = lent.table[1] as usize;
+        let mut map = vec![0; n];
+        for p in Rng::new(share as u64, 2).some_below(n, n * share / 100) {
+            map[p] = 1;
+        }
+        map
     }
 
     /// The course of a repair: each check used with the place that it restores,
@@ -363,6 +379,53 @@ mod receiver {
         let last = |(check, used): &(&Vec<usize>, bool)| !used && lost_in(&lost, check).is_empty();
         let last = checks.iter().zip(used).filter(last);
         (turns, last.map(|(check, _)| check.clone()).collect())
+    }
+
+    /// The packets at some places, summed at a place; at none where only the
+    /// sum is looked at.
+    type Sum = (Vec<usize>, Option<usize>);
+
+    /// The course of elimination over what is still lost: for each check with a
+    /// lost place the places that are summed, its received ones and those that
+    /// lead the rows added; then for each place that is settled those that lead
+    /// the rows added to its own.
+    fn elimination(checks: &[Vec<usize>], lost: &[bool]) -> Vec<Sum> {
+        let mut leads: Vec<Option<Vec<bool>>> = vec![None; lost.len()];
+        let mut sums = Vec::new();
+        for check in checks.iter().filter(|check| check.iter().any(|p| lost[*p])) {
+            let mut row = vec![false; lost.len()];
+            check.iter().filter(|p| lost[**p]).for_each(|p| row[*p] = true);
+            let mut places: Vec<usize> = check.iter().copied().filter(|p| !lost[*p]).collect();
+            let lead = reduce(&mut row, &leads, &mut places);
+            sums.push((places, lead));
+            if let Some(lead) = lead {
+                leads[lead] = Some(row);
+            }
+        }
+        for place in (0..lost.len()).rev() {
+            let Some(mut row) = leads[place].take() else { continue };
+            row[place] = false;
+            let mut places = Vec::new();
+            if reduce(&mut row, &leads, &mut places).is_none() {
+                sums.push((places, Some(place)));
+            }
+        }
+        sums
+    }
+
+    /// The highest place left of a row, to which those that lead its places are
+    /// added as long as they can be.
+    fn reduce(
+        row: &mut [bool],
+        leads: &[Option<Vec<bool>>],
+        places: &mut Vec<usize>,
+    ) -> Option<usize> {
+        while let Some(highest) = row.iter().rposition(|b| *b) {
+            let Some(by) = &leads[highest] else { return Some(highest) };
+            row.iter_mut().zip(by).for_each(|(a, b)| *a ^= b);
+            places.push(highest);
+        }
+        None
     }
 
     impl Call for Repair {
@@ -404,6 +467,131 @@ mod receiver {
             let bytes = self.lent.bytes();
             let Lent { table, slots, .. } = &mut self.lent;
             let answer = plain::repair(black_box(table), &mut slots[..bytes], &mut self.map);
+            assert_eq!(answer, self.answer);
+        }
+        fn packets(&self) -> Vec<&[u8]> {
+            vec![&self.lent.slots[..self.lent.bytes()]]
+        }
+    }
+
+    /// Full repair beside plain elimination or, where peeling alone restores,
+    /// beside the library's repair.
+    pub struct FullRepair {
+        lent: Lent,
+        received: Vec<u8>,
+        map: Vec<u8>,
+        work: Vec<u64>,
+        answer: model::FullyRepaired,
+        peeled: bool,
+        /// Every sum of the turns, of the look at the checks and of elimination.
+        sums: Vec<Sum>,
+    }
+
+    impl FullRepair {
+        /// So many of a hundred places are lost. Both sides give the same block
+        /// and map, and the work is cleared.
+        pub fn new(mut lent: Lent, share: usize, peeled: bool) -> Self {
+            let received = received_map(&lent, share);
+            let bytes = lent.bytes();
+            let mut map = received.clone();
+            let mut work = vec![7; model::WORK_BUFFER];
+            let block = &mut lent.slots[..bytes];
+            let answer = plain::full_repair(&lent.table, block, &mut map, &mut work);
+            let (after, block) = (map.clone(), block.to_vec());
+            assert_eq!(answer.refusal, 0);
+
+            let sums = sums_of(&lent.checks, &received);
+            let mut call = FullRepair { lent, received, map, work, answer, peeled, sums };
+            for by in [Self::library, Self::plain] {
+                call.reset();
+                call.work.fill(7);
+                by(&mut call);
+                let repaired = &call.lent.slots[..bytes];
+                assert!(call.map == after && repaired == block, "another block");
+            }
+            call.reset();
+            call.library();
+            assert!(call.work.iter().all(|w| *w == 0), "work isn't zero");
+            call
+        }
+        /// As many restored and lost, by peeling alone.
+        fn old_repair(&mut self) {
+            let bytes = self.lent.bytes();
+            let Lent { table, slots, .. } = &mut self.lent;
+            let block = &mut slots[..bytes];
+            let answer = unsafe {
+                bs_repair(
+                    table.as_ptr(),
+                    table.len(),
+                    block.as_mut_ptr(),
+                    block.len(),
+                    self.map.as_mut_ptr(),
+                    self.map.len(),
+                )
+            };
+            assert_eq!(answer.restored, self.answer.restored);
+            assert_eq!((answer.refusal, answer.lost, self.answer.lost), (0, 0, 0));
+        }
+    }
+
+    /// Every sum of a full repair, in order.
+    fn sums_of(checks: &[Vec<usize>], received: &[u8]) -> Vec<Sum> {
+        let (turns, last) = course(checks, received.to_vec());
+        let mut lost: Vec<bool> = received.iter().map(|b| *b == 1).collect();
+        let mut sums = Vec::new();
+        for (check, place) in turns {
+            lost[place] = false;
+            sums.push((check.into_iter().filter(|p| *p != place).collect(), Some(place)));
+        }
+        sums.extend(last.into_iter().map(|check| (check, None)));
+        sums.extend(elimination(checks, &lost));
+        sums
+    }
+
+    impl Call for FullRepair {
+        fn additions(&self) -> usize {
+            let of = |(places, to): &Sum| places.len().saturating_sub(to.is_none() as usize);
+            self.sums.iter().map(of).sum()
+        }
+        fn reset(&mut self) {
+            self.map.copy_from_slice(&self.received);
+        }
+        fn library(&mut self) {
+            let bytes = self.lent.bytes();
+            let Lent { table, slots, .. } = &mut self.lent;
+            let block = &mut slots[..bytes];
+            let answer = unsafe {
+                bs_full_repair(
+                    table.as_ptr(),
+                    table.len(),
+                    block.as_mut_ptr(),
+                    block.len(),
+                    self.map.as_mut_ptr(),
+                    self.map.len(),
+                    self.work.as_mut_ptr(),
+                    self.work.len(),
+                )
+            };
+            assert_eq!(answer, self.answer);
+        }
+        fn real(&mut self) {
+            let Lent { slots, s, .. } = &mut self.lent;
+            let mut sum = [0; model::MAX_SIZE];
+            for (places, to) in &self.sums {
+                match to {
+                    Some(to) => places.iter().for_each(|p| add_slots(slots, *s, *to, *p)),
+                    None => sum_of_check(places, slots, &mut sum[..*s]),
+                }
+            }
+        }
+        fn plain(&mut self) {
+            if self.peeled {
+                return self.old_repair();
+            }
+            let bytes = self.lent.bytes();
+            let Lent { table, slots, .. } = &mut self.lent;
+            let block = &mut slots[..bytes];
+            let answer = plain::full_repair(black_box(table), block, &mut self.map, &mut self.work);
             assert_eq!(answer, self.answer);
         }
         fn packets(&self) -> Vec<&[u8]> {

@@ -1,8 +1,9 @@
-//! Repair, verification, encoding and the staircase maker in plain Rust, for
-//! comparison.
+//! Repair, full repair, verification, encoding and the staircase maker in plain
+//! Rust, for comparison.
 
-use crate::model::{Encoded, Made, Repaired, Verified};
+use crate::model::{Encoded, FullyRepaired, Made, Repaired, Verified};
 use crate::model::{MAX_CHECKS, MAX_GAP, MAX_ONES, MAX_PLACES, MAX_SIZE, MAX_STEPS, MAX_WEIGHT};
+use crate::model::WORK_BUFFER;
 use std::cmp::Reverse;
 use std::collections::BinaryHeap;
 
@@ -116,24 +117,24 @@ pub fn verify(table: &[u16], block: &[u8]) -> Verified {
 
 // ----------------------------------------------------------------- repair
 
-pub fn repair(table: &[u16], block: &mut [u8], map: &mut [u8]) -> Repaired {
-    let t = match look_over(table) {
-        Ok(t) => t,
-        Err(cause) => return Repaired::refused(cause),
-    };
-    let s = t.s;
-    if block.len() != t.n * s || map.len() != t.n {
-        return Repaired::refused(5);
-    }
-    if map.iter().any(|b| *b > 1) {
-        return Repaired::refused(7);
-    }
-    let zero_lost = |block: &mut [u8], map: &[u8]| {
-        for (packet, _) in block.chunks_exact_mut(s).zip(map).filter(|(_, lost)| **lost == 1) {
-            packet.fill(0);
-        }
-    };
+/// What peeling gives: map bytes as they become, lost places left in each check,
+/// and the checks that restored a place.
+struct Peeled {
+    state: Vec<u8>,
+    unknown: Vec<u8>,
+    used: Vec<bool>,
+    restored: u32,
+    additions: u32,
+}
 
+fn zero_lost(block: &mut [u8], s: usize, map: &[u8]) {
+    for (packet, _) in block.chunks_exact_mut(s).zip(map).filter(|(_, lost)| **lost == 1) {
+        packet.fill(0);
+    }
+}
+
+fn peel(t: &Checks, block: &mut [u8], map: &[u8]) -> Peeled {
+    let s = t.s;
     // For each check the count of lost places; for each place its checks.
     let mut first = vec![0u16; t.n + 1];
     for p in t.places {
@@ -155,7 +156,7 @@ pub fn repair(table: &[u16], block: &mut [u8], map: &mut [u8]) -> Repaired {
     }
 
     let mut state = map.to_vec();
-    zero_lost(block, map);
+    zero_lost(block, s, map);
     // Checks with one lost place, lowest first.
     let mut ready: BinaryHeap<Reverse<u16>> =
         (0..t.m).filter(|c| unknown[*c] == 1).map(|c| Reverse(c as u16)).collect();
@@ -182,18 +183,168 @@ pub fn repair(table: &[u16], block: &mut [u8], map: &mut [u8]) -> Repaired {
             }
         }
     }
+    Peeled { state, unknown, used, restored, additions }
+}
 
-    // A check that restored a place sums to zero.
+/// The lowest check and byte that fail among the checks without a lost place. A
+/// check that restored a place sums to zero.
+fn failing(t: &Checks, block: &[u8], peeled: &Peeled) -> Option<(usize, usize)> {
     let mut sum = [0; MAX_SIZE];
-    for c in (0..t.m).filter(|c| unknown[*c] == 0 && !used[*c]) {
-        if let Some(byte) = nonzero_in_sum(t.check(c), block, &mut sum[..s]) {
-            zero_lost(block, map);
-            return Repaired { check: c as u32, byte: byte as u32, ..Repaired::refused(8) };
+    let mut judged = (0..t.m).filter(|c| peeled.unknown[*c] == 0 && !peeled.used[*c]);
+    judged.find_map(|c| Some((c, nonzero_in_sum(t.check(c), block, &mut sum[..t.s])?)))
+}
+
+pub fn repair(table: &[u16], block: &mut [u8], map: &mut [u8]) -> Repaired {
+    let t = match look_over(table) {
+        Ok(t) => t,
+        Err(cause) => return Repaired::refused(cause),
+    };
+    if block.len() != t.n * t.s || map.len() != t.n {
+        return Repaired::refused(5);
+    }
+    if map.iter().any(|b| *b > 1) {
+        return Repaired::refused(7);
+    }
+    let peeled = peel(&t, block, map);
+    if let Some((check, byte)) = failing(&t, block, &peeled) {
+        zero_lost(block, t.s, map);
+        return Repaired { check: check as u32, byte: byte as u32, ..Repaired::refused(8) };
+    }
+    map.copy_from_slice(&peeled.state);
+    let lost = map.iter().filter(|b| **b == 1).count() as u32;
+    let Peeled { restored, additions, .. } = peeled;
+    Repaired { refusal: 0, restored, lost, additions, check: 0, byte: 0 }
+}
+
+// ------------------------------------------------------------- full repair
+
+/// Words of a row.
+const WORDS: usize = MAX_PLACES / 64;
+
+/// The highest place of a row, whose words from so many on are zero.
+#[inline]
+fn highest(row: &[u64], words: &mut usize) -> Option<usize> {
+    while *words > 0 {
+        let top = row[*words - 1];
+        if top != 0 {
+            return Some(*words * 64 - 1 - top.leading_zeros() as usize);
+        }
+        *words -= 1;
+    }
+    None
+}
+
+#[inline]
+fn add_words(to: &mut [u64], from: &[u64]) {
+    for (a, b) in to.iter_mut().zip(from) {
+        *a ^= *b;
+    }
+}
+
+/// One more than the row that a place leads, 0 for none.
+type Leads = [u16; MAX_PLACES];
+
+/// The rows of the checks that have lost places, each led by its highest place,
+/// where the sum of its packets lies in the block. None if a row comes out
+/// empty and its sum isn't zero.
+fn eliminate(t: &Checks, block: &mut [u8], peeled: &Peeled, work: &mut [u64]) -> Option<Leads> {
+    let s = t.s;
+    let mut leads = [0; MAX_PLACES];
+    let mut sum = [0; MAX_SIZE];
+    let sum = &mut sum[..s];
+    for c in (0..t.m).filter(|c| peeled.unknown[*c] > 0) {
+        let mut row = [0u64; WORDS];
+        sum.fill(0);
+        for p in t.check(c).iter().map(|p| *p as usize) {
+            if peeled.state[p] == 1 {
+                row[p / 64] |= 1 << (p % 64);
+            } else {
+                add(sum, &block[p * s..][..s]);
+            }
+        }
+        let mut words = WORDS;
+        loop {
+            let Some(lead) = highest(&row, &mut words) else {
+                if sum.iter().any(|b| *b != 0) {
+                    return None;
+                }
+                break;
+            };
+            let packet = &mut block[lead * s..][..s];
+            if leads[lead] == 0 {
+                leads[lead] = c as u16 + 1;
+                work[c * WORDS..][..WORDS].copy_from_slice(&row);
+                packet.copy_from_slice(sum);
+                break;
+            }
+            let by = (leads[lead] as usize - 1) * WORDS;
+            add_words(&mut row[..words], &work[by..][..words]);
+            add(sum, packet);
         }
     }
-    map.copy_from_slice(&state);
-    let lost = state.iter().filter(|b| **b == 1).count() as u32;
-    Repaired { refusal: 0, restored, lost, additions, check: 0, byte: 0 }
+    Some(leads)
+}
+
+/// From the highest lead down: the rows of lower leads are added until the row
+/// is empty, and its place is restored, or a place is met that leads no row, and
+/// it stays lost.
+fn settle(t: &Checks, block: &mut [u8], state: &mut [u8], leads: &Leads, work: &[u64]) -> u32 {
+    let mut restored = 0;
+    for lead in (0..t.n).rev().filter(|p| leads[*p] > 0) {
+        let at = |place: usize| (leads[place] as usize - 1) * WORDS;
+        let mut row = [0u64; WORDS];
+        row.copy_from_slice(&work[at(lead)..][..WORDS]);
+        row[lead / 64] ^= 1 << (lead % 64);
+        let mut words = lead / 64 + 1;
+        loop {
+            let Some(place) = highest(&row, &mut words) else {
+                state[lead] = 2;
+                restored += 1;
+                break;
+            };
+            if leads[place] == 0 {
+                break;
+            }
+            add_words(&mut row[..words], &work[at(place)..][..words]);
+            add_slots(block, t.s, lead, place);
+        }
+    }
+    restored
+}
+
+/// Peeling, then elimination over what is still lost.
+pub fn full_repair(
+    table: &[u16],
+    block: &mut [u8],
+    map: &mut [u8],
+    work: &mut [u64],
+) -> FullyRepaired {
+    let t = match look_over(table) {
+        Ok(t) => t,
+        Err(cause) => return FullyRepaired::refused(cause),
+    };
+    if block.len() != t.n * t.s || map.len() != t.n || work.len() != WORK_BUFFER {
+        return FullyRepaired::refused(5);
+    }
+    if map.iter().any(|b| *b > 1) {
+        return FullyRepaired::refused(7);
+    }
+    let mut peeled = peel(&t, block, map);
+    let leads = match failing(&t, block, &peeled) {
+        None => eliminate(&t, block, &peeled, work),
+        Some(_) => None,
+    };
+    let Some(leads) = leads else {
+        zero_lost(block, t.s, map);
+        work.fill(0);
+        return FullyRepaired::refused(8);
+    };
+    let restored = peeled.restored + settle(&t, block, &mut peeled.state, &leads, work);
+    map.copy_from_slice(&peeled.state);
+    zero_lost(block, t.s, map);
+    work.fill(0);
+    let lost = map.iter().filter(|b| **b == 1).count() as u32;
+    FullyRepaired { refusal: 0, restored, lost, check: 0, byte: 0 }
 }
 
 // --------------------------------------------------------------- encoding

@@ -1,5 +1,6 @@
-//! Repairs a block that lost three packets, then verifies it. Then finds where
-//! two packets differ that should be equal.
+//! Repairs a block that lost three packets, then verifies it. Then repairs one
+//! where no check has a single lost place. Then finds where two packets differ
+//! that should be equal.
 
 #[repr(C)]
 struct Repaired {
@@ -7,6 +8,15 @@ struct Repaired {
     restored: u32,
     lost: u32,
     additions: u32,
+    check: u32,
+    byte: u32,
+}
+
+#[repr(C)]
+struct FullyRepaired {
+    refusal: u32,
+    restored: u32,
+    lost: u32,
     check: u32,
     byte: u32,
 }
@@ -36,6 +46,16 @@ extern "C" {
         map: *mut u8,
         map_len: usize,
     ) -> Repaired;
+    fn bs_full_repair(
+        table: *const u16,
+        table_len: usize,
+        block: *mut u8,
+        block_len: usize,
+        map: *mut u8,
+        map_len: usize,
+        work: *mut u64,
+        work_len: usize,
+    ) -> FullyRepaired;
     fn bs_verify(table: *const u16, table_len: usize, block: *const u8, block_len: usize)
         -> Verified;
     fn bs_packet(n: usize, s: usize, place: usize, block: *const u8, block_len: usize) -> Part;
@@ -70,6 +90,28 @@ fn repair(
         0 => Ok((r.restored, r.lost, r.additions)),
         8 => Err(Unrepaired::Contradicts { check: r.check, byte: r.byte }),
         refusal => Err(Unrepaired::Refused(refusal)),
+    }
+}
+
+/// Restores every lost packet that the received ones decide; the numbers of
+/// restored and still lost places, or the refusal.
+fn full_repair(table: &[u16], block: &mut [u8], map: &mut [u8]) -> Result<(u32, u32), u32> {
+    let mut work = vec![0u64; 8192];
+    let r = unsafe {
+        bs_full_repair(
+            table.as_ptr(),
+            table.len(),
+            block.as_mut_ptr(),
+            block.len(),
+            map.as_mut_ptr(),
+            map.len(),
+            work.as_mut_ptr(),
+            work.len(),
+        )
+    };
+    match (r.refusal, r.check, r.byte) {
+        (0, 0, 0) => Ok((r.restored, r.lost)),
+        (refusal, ..) => Err(refusal),
     }
 }
 
@@ -117,6 +159,25 @@ fn repair_and_verify() {
     println!("receiver.rs: 3 restored, 0 lost, 9 additions; packet 5 is {:02x}", block[5]);
 }
 
+fn repair_fully() {
+    // The table and the block sent as above; places 2, 4 and 6 didn't arrive.
+    // Each check has lost two places or more.
+    let table = [2, 7, 1, 3, 4, 4, 4, 12, 0, 2, 4, 6, 1, 2, 5, 6, 3, 4, 5, 6];
+    let sent = [0x01, 0x02, 0x04, 0x0e, 0x08, 0x0b, 0x0d];
+    let mut block = [0x01, 0x02, 0, 0x0e, 0, 0x0b, 0];
+    let mut map = [0, 0, 1, 0, 1, 0, 1];
+
+    let repaired = repair(&table, &mut block, &mut map);
+    let full = full_repair(&table, &mut block, &mut map);
+    if repaired != Ok((0, 3, 0)) || full != Ok((3, 0)) || block != sent {
+        wrong(format!("{repaired:?}, {full:?}, {block:02x?}"));
+    }
+    println!(
+        "receiver.rs: fully repaired: 3 restored, 0 lost; packets 2, 4, 6 are {:02x} {:02x} {:02x}",
+        block[2], block[4], block[6]
+    );
+}
+
 fn find_the_byte() {
     // Two packets of eight bytes, each sent twice: a check for each pair.
     let table = [2, 4, 8, 2, 2, 2, 4, 0, 1, 2, 3];
@@ -135,5 +196,6 @@ fn find_the_byte() {
 
 fn main() {
     repair_and_verify();
+    repair_fully();
     find_the_byte();
 }

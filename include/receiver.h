@@ -1,4 +1,4 @@
-/* Receiver: repair and verification of sparse-check blocks.
+/* Receiver: repair, full repair and verification of sparse-check blocks.
  *
  * A block is n packets of s bytes, at places 0 to n - 1. A check is a set of
  * places; the block is a codeword if the packets of each check sum to zero
@@ -15,8 +15,8 @@
  * where its length is 0.
  *
  * refusal is 0 if the call was accepted. A refused call gives 0 in all other
- * fields, but for check and byte with 8, and, where nothing else is said,
- * leaves its buffers as they were:
+ * fields, but for check and byte with bs_repair's 8, and, where nothing else is
+ * said, leaves its buffers as they were:
  *
  *      1  a table of fewer than 5 words
  *      2  first word not 2, or n, s or m beyond its limits
@@ -25,7 +25,8 @@
  *      4  a place not below n, or not ascending in its check
  *      5  a buffer of wrong length
  *      7  a byte of the lost map over 1
- *      8  the received packets contradict each other
+ *      8  the received packets contradict each other; of bs_full_repair: no
+ *         codeword agrees with them
  *     10  a place not below n in bs_packet
  *
  * Of several causes the one with the lowest number is given.
@@ -71,6 +72,38 @@ typedef struct {
 bs_repaired bs_repair(const uint16_t *table, size_t table_len,
                       uint8_t *block, size_t block_len,
                       uint8_t *map, size_t map_len);
+
+typedef struct {
+    uint32_t refusal;
+    uint32_t restored; /* places restored */
+    uint32_t lost;     /* places still lost */
+    uint32_t check;    /* 0 */
+    uint32_t byte;     /* 0 */
+} bs_fully_repaired;
+
+/* Restores every lost packet that the received ones decide: a place is
+ * restored exactly if all codewords that agree with the received packets
+ * agree there. So it restores what bs_repair restores, with the same packets,
+ * and more where that stops. block and map are as for bs_repair. work has
+ * exactly 8,192 64-bit words, as the planner's; what it holds doesn't count,
+ * and neither do bytes at lost places.
+ *
+ * Accepted: map bytes of restored places become 2, their packets are in the
+ * block, and places still lost hold zero bytes. Received places are kept.
+ * work is zero. Where nothing stays lost the block is a codeword.
+ * Refusals: 1 to 5, 7 and 8. 8 says that no codeword agrees with the received
+ * packets: wherever bs_repair answers 8, and also where only several checks
+ * together contradict; check and byte are 0. After 8 every place that map
+ * says is lost holds zero bytes, map and received places are kept, and work
+ * is zero. After any other refusal all buffers are as they were.
+ *
+ * A map that a repair has marked is refused with 7: to go on with more
+ * packets, set the 2s back to 1, or to 0 to take restored packets for
+ * received ones. */
+bs_fully_repaired bs_full_repair(const uint16_t *table, size_t table_len,
+                                 uint8_t *block, size_t block_len,
+                                 uint8_t *map, size_t map_len,
+                                 uint64_t *work, size_t work_len);
 
 typedef struct {
     uint32_t refusal;

@@ -1,4 +1,5 @@
-//! The receiver's library against the model: repair, verification, packet.
+//! The receiver's library against the model: repair, full repair, verification,
+//! packet.
 
 mod gen;
 mod harness;
@@ -6,7 +7,7 @@ mod model;
 
 use gen::Rng;
 use harness::{holds, same, Lent, Run};
-use model::{Part, Repaired, Table, Verified};
+use model::{FullyRepaired, Part, Repaired, Table, Verified};
 
 #[link(name = "receiver", kind = "static")]
 extern "C" {
@@ -18,6 +19,16 @@ extern "C" {
         map: *mut u8,
         map_len: usize,
     ) -> Repaired;
+    fn bs_full_repair(
+        table: *const u16,
+        table_len: usize,
+        block: *mut u8,
+        block_len: usize,
+        map: *mut u8,
+        map_len: usize,
+        work: *mut u64,
+        work_len: usize,
+    ) -> FullyRepaired;
     fn bs_verify(table: *const u16, table_len: usize, block: *const u8, block_len: usize)
         -> Verified;
     fn bs_packet(n: usize, s: usize, place: usize, block: *const u8, block_len: usize) -> Part;
@@ -54,6 +65,56 @@ fn repair(
     Ok((answer, block, map))
 }
 
+/// The library's answer, block and map, if they and the work are the model's.
+fn full_repair_with(
+    rng: &mut Rng,
+    table: &[u16],
+    block: &[u8],
+    map: &[u8],
+    work: &[u64],
+) -> Result<(FullyRepaired, Vec<u8>, Vec<u8>), String> {
+    let lent_table = Lent::new(rng, table);
+    let mut lent_block = Lent::new(rng, block);
+    let mut lent_map = Lent::new(rng, map);
+    let mut lent_work = Lent::new(rng, work);
+    let answer = unsafe {
+        bs_full_repair(
+            lent_table.ptr(),
+            lent_table.len(),
+            lent_block.mut_ptr(),
+            lent_block.len(),
+            lent_map.mut_ptr(),
+            lent_map.len(),
+            lent_work.mut_ptr(),
+            lent_work.len(),
+        )
+    };
+    let (mut block, mut map, mut work) = (block.to_vec(), map.to_vec(), work.to_vec());
+    let expected = model::full_repair(table, &mut block, &mut map, &mut work);
+    same("full repair", &answer, &expected)?;
+    lent_table.kept("full repair, table")?;
+    lent_block.holds("full repair, block", &block)?;
+    lent_map.holds("full repair, map", &map)?;
+    lent_work.holds("full repair, work", &work)?;
+    Ok((answer, block, map))
+}
+
+/// Work that held anything before.
+fn dirty_work(rng: &mut Rng) -> Vec<u64> {
+    let some = rng.next();
+    (0..model::WORK_BUFFER as u64).map(|i| some.wrapping_mul(2 * i + 1)).collect()
+}
+
+fn full_repair(
+    rng: &mut Rng,
+    table: &[u16],
+    block: &[u8],
+    map: &[u8],
+) -> Result<(FullyRepaired, Vec<u8>, Vec<u8>), String> {
+    let work = dirty_work(rng);
+    full_repair_with(rng, table, block, map, &work)
+}
+
 fn verify(rng: &mut Rng, table: &[u16], block: &[u8]) -> Result<Verified, String> {
     let lent_table = Lent::new(rng, table);
     let lent_block = Lent::new(rng, block);
@@ -88,6 +149,10 @@ fn ok(restored: u32, lost: u32, additions: u32) -> Repaired {
 
 fn contradicts(check: u32, byte: u32) -> Repaired {
     Repaired { refusal: 8, restored: 0, lost: 0, additions: 0, check, byte }
+}
+
+fn fully(restored: u32, lost: u32) -> FullyRepaired {
+    FullyRepaired { refusal: 0, restored, lost, check: 0, byte: 0 }
 }
 
 // ------------------------------------------------------------ random cases
@@ -256,6 +321,8 @@ fn damaged_case(rng: &mut Rng) -> Result<(), String> {
     }
     repair(rng, &words, &block, &map)?;
     verify(rng, &words, &block)?;
+    let work_len = if rng.once_in(6) { 8191 } else { model::WORK_BUFFER };
+    full_repair_with(rng, &words, &block, &map, &vec![7; work_len])?;
     Ok(())
 }
 
@@ -365,15 +432,175 @@ fn brute_byte_case(rng: &mut Rng) -> Result<(), String> {
     Ok(())
 }
 
+// ------------------------------------------------- random cases, full repair
+
+/// Full repair and what holds of it beside repair. Gives answer, block and map.
+fn full_beside(
+    rng: &mut Rng,
+    t: &Table,
+    block: &[u8],
+    map: &[u8],
+) -> Result<(FullyRepaired, Vec<u8>, Vec<u8>), String> {
+    let words = gen::words(t);
+    let (old, old_block, old_map) = repair(rng, &words, block, map)?;
+    let (answer, after, map_after) = full_repair(rng, &words, block, map)?;
+    if answer.refusal != 0 {
+        return Ok((answer, after, map_after));
+    }
+    same("repair beside", &old.refusal, &0)?;
+    for p in (0..t.n).filter(|p| old_map[*p] == 2) {
+        same("restored alike, map", &map_after[p], &2)?;
+        holds("restored alike", packet_of(&after, t.s, p) == packet_of(&old_block, t.s, p))?;
+    }
+    let lost = places_lost(map).len() as u32;
+    same("restored and still lost", &(answer.restored + answer.lost), &lost)?;
+    same("still lost", &(answer.lost as usize), &places_lost(&map_after).len())?;
+
+    // A second call restores nothing; the map as it is now is refusal 7 if
+    // something was restored.
+    let again: Vec<u8> = map_after.iter().map(|b| (*b == 1) as u8).collect();
+    let (second, same_block, _) = full_repair(rng, &words, &after, &again)?;
+    same("second full repair", &second, &fully(0, answer.lost))?;
+    holds("second full repair, block", same_block == after)?;
+    if answer.restored > 0 {
+        let (second, _, _) = full_repair(rng, &words, &after, &map_after)?;
+        same("old map", &second, &FullyRepaired::refused(7))?;
+    }
+    if answer.lost == 0 {
+        same("repaired block", &verify(rng, &words, &after)?.codeword, &1)?;
+    }
+    Ok((answer, after, map_after))
+}
+
+fn packet_of(block: &[u8], s: usize, place: usize) -> &[u8] {
+    &block[place * s..(place + 1) * s]
+}
+
+fn full_case(rng: &mut Rng) -> Result<(), String> {
+    let t = gen::table(rng);
+    let mut block = block_for(rng, &t);
+    let map = lose(rng, t.n);
+    if !rng.once_in(4) {
+        age(rng, &mut block, t.s, &map);
+    }
+    full_beside(rng, &t, &block, &map).map(|_| ())
+}
+
+/// One to three of these: a map byte over 1, and buffers of wrong length.
+fn full_refused_case(rng: &mut Rng) -> Result<(), String> {
+    let t = gen::table(rng);
+    let mut block = block_for(rng, &t);
+    let mut map = lose(rng, t.n);
+    let mut work = dirty_work(rng);
+    for _ in 0..rng.range(1, 3) {
+        match rng.below(5) {
+            0 => block.resize(gen::wrong_length(rng, t.n * t.s), 0xa5),
+            1 => map.resize(gen::wrong_length(rng, t.n), 2),
+            2 => work.resize(gen::wrong_length(rng, model::WORK_BUFFER), 5),
+            _ => {
+                if let Some(last) = map.len().checked_sub(1) {
+                    let p = rng.pick(&[0, last, last / 2]);
+                    map[p] = rng.pick(&[2, 3, 128, 255]);
+                }
+            }
+        }
+    }
+    full_repair_with(rng, &gen::words(&t), &block, &map, &work).map(|_| ())
+}
+
+/// Packets of one codeword, so many lost that peeling stalls: what is restored
+/// is the codeword's. Then with one byte of a received packet wrong.
+fn stalled_case(rng: &mut Rng) -> Result<(), String> {
+    let t = gen::half_rate(rng);
+    let codeword = gen::codeword(rng, &t);
+    let share = rng.range(40, 50);
+    let lost = rng.some_below(t.n, t.n * share / 100);
+    let map: Vec<u8> = (0..t.n).map(|p| lost.binary_search(&p).is_ok() as u8).collect();
+    let mut block = codeword.clone();
+    age(rng, &mut block, t.s, &map);
+    let (answer, after, map_after) = full_beside(rng, &t, &block, &map)?;
+    same("refusal", &answer.refusal, &0)?;
+    let open = open_places(rng, &t, &map);
+    for p in 0..t.n {
+        let expected = if open[p] { vec![0; t.s] } else { packet_of(&codeword, t.s, p).to_vec() };
+        same("still lost", &(map_after[p] == 1), &open[p])?;
+        holds("packet", packet_of(&after, t.s, p) == expected)?;
+    }
+
+    let received: Vec<usize> = (0..t.n).filter(|p| map[*p] == 0).collect();
+    block[rng.pick(&received) * t.s + byte_of(rng, t.s)] ^= rng.range(1, 255) as u8;
+    full_beside(rng, &t, &block, &map).map(|_| ())
+}
+
+/// The places where codewords differ that agree with the received packets:
+/// those where a random codeword that is zero at all received places isn't
+/// zero. Its packets are long, so that none is zero by chance.
+fn open_places(rng: &mut Rng, t: &Table, map: &[u8]) -> Vec<bool> {
+    let received = (0..t.n).filter(|p| map[*p] == 0).map(|p| vec![p]);
+    let checks = received.chain(t.checks.iter().cloned()).collect();
+    let t = Table { n: t.n, s: 16, checks };
+    let word = gen::codeword(rng, &t);
+    word.chunks(t.s).map(|packet| packet.iter().any(|b| *b != 0)).collect()
+}
+
+/// The library does what all codewords say that agree.
+fn as_codewords_say(
+    rng: &mut Rng,
+    t: &Table,
+    codewords: &[usize],
+    block: &[u8],
+    map: &[u8],
+) -> Result<(), String> {
+    let lost = places_lost(map);
+    let (answer, after, map_after) = full_repair(rng, &gen::words(t), block, map)?;
+    let decided = model::decided_packets(t, codewords, &lost, block);
+    let none_agrees = decided.is_none();
+    let packets = decided.unwrap_or(vec![None; t.n]);
+    let mut restored = 0;
+    for p in 0..t.n {
+        let (expected, byte) = match &packets[p] {
+            _ if map[p] == 0 => (packet_of(block, t.s, p).to_vec(), 0),
+            Some(packet) => (packet.clone(), 2),
+            None => (vec![0; t.s], 1),
+        };
+        same("packet", &packet_of(&after, t.s, p).to_vec(), &expected)?;
+        same("map byte", &map_after[p], &byte)?;
+        restored += (byte == 2) as u32;
+    }
+    let expected = match none_agrees {
+        true => FullyRepaired::refused(8),
+        false => fully(restored, lost.len() as u32 - restored),
+    };
+    same("answer", &answer, &expected)
+}
+
+/// Small tables, some loss patterns.
+fn brute_full_case(rng: &mut Rng) -> Result<(), String> {
+    let mut t = gen::small_table(rng, 9, 8);
+    t.s = rng.range(1, 3);
+    let codewords = model::codewords(&t);
+    for _ in 0..6 {
+        let mut block = block_for(rng, &t);
+        let map = lose(rng, t.n);
+        age(rng, &mut block, t.s, &map);
+        as_codewords_say(rng, &t, &codewords, &block, &map)?;
+    }
+    Ok(())
+}
+
 fn random_case(rng: &mut Rng, number: u64) -> Result<(), String> {
-    match number % 18 {
+    match number % 22 {
         0..=6 => repair_case(rng),
         7..=9 => verify_case(rng),
         10..=12 => damaged_case(rng),
         13 => packet_case(rng),
         14 | 15 => brute_case(rng),
         16 => byte_case(rng),
-        _ => brute_byte_case(rng),
+        17 => brute_byte_case(rng),
+        18 => full_case(rng),
+        19 => full_refused_case(rng),
+        20 => stalled_case(rng),
+        _ => brute_full_case(rng),
     }
 }
 
@@ -413,42 +640,68 @@ fn refusal_of_all(table: &[u16], n: usize, s: usize, refusal: u32) -> Result<(),
     refused_by_both(table, &block, &vec![1; n], refusal)
 }
 
+/// Table A, the same with a fourth check, table B, and P2's block.
+const A: &[u16] = &[2, 7, 1, 3, 4, 4, 4, 12, 0, 2, 4, 6, 1, 2, 5, 6, 3, 4, 5, 6];
+const A4: &[u16] =
+    &[2, 7, 1, 4, 4, 4, 4, 4, 16, 0, 2, 4, 6, 1, 2, 5, 6, 3, 4, 5, 6, 0, 1, 4, 5];
+const B: &[u16] = &[2, 4, 1, 3, 3, 3, 3, 9, 0, 1, 2, 0, 1, 3, 0, 2, 3];
+const P2: [u8; 7] = [0x01, 0x02, 0x04, 0x0e, 0x08, 0x0b, 0x0d];
+
+/// Tables of the vectors with their blocks.
+const VECTORS: [(&[u16], &[u8]); 4] = [
+    (&[2, 4, 1, 3, 3, 2, 4, 9, 0, 1, 2, 2, 3, 0, 1, 2, 3], &[1, 1, 0, 0]),
+    (
+        &[2, 5, 1, 4, 4, 4, 4, 3, 15, 0, 1, 2, 4, 0, 2, 3, 4, 0, 1, 2, 3, 1, 3, 4],
+        &[1, 0, 1, 0, 0],
+    ),
+    (
+        &[
+            2, 6, 1, 5, 5, 4, 5, 4, 5, 23, 0, 1, 3, 4, 5, 0, 1, 4, 5, 0, 1, 2, 3, 5, 0, 1, 2, 3, 1,
+            2, 3, 4, 5,
+        ],
+        &[1, 0, 1, 0, 1, 0],
+    ),
+    (
+        &[
+            2, 6, 1, 6, 5, 5, 4, 5, 4, 2, 25, 0, 1, 2, 3, 5, 1, 2, 3, 4, 5, 0, 1, 3, 5, 0, 2, 3, 4,
+            5, 1, 2, 4, 5, 2, 3,
+        ],
+        &[1, 1, 0, 0, 1, 0],
+    ),
+];
+
 fn fixed_cases(run: &mut Run) {
-    let a: Vec<u16> = vec![2, 7, 1, 3, 4, 4, 4, 12, 0, 2, 4, 6, 1, 2, 5, 6, 3, 4, 5, 6];
-    let a4: Vec<u16> =
-        vec![2, 7, 1, 4, 4, 4, 4, 4, 16, 0, 2, 4, 6, 1, 2, 5, 6, 3, 4, 5, 6, 0, 1, 4, 5];
-    let b: Vec<u16> = vec![2, 4, 1, 3, 3, 3, 3, 9, 0, 1, 2, 0, 1, 3, 0, 2, 3];
-    let p2 = [0x01, 0x02, 0x04, 0x0e, 0x08, 0x0b, 0x0d];
+    let (a, a4, b, p2) = (A, A4, B, P2);
     let old = |lost: &[usize]| {
         let mut block = p2;
         lost.iter().for_each(|p| block[*p] = 0xee);
         block
     };
 
-    run.fixed("P2, verified", verified(&a, &p2, CODEWORD));
-    run.fixed("P3, verified", verified(&b, &[0, 0xa5, 0xa5, 0xa5], CODEWORD));
-    run.fixed("P4", repaired(&a, &old(&[3, 5, 6]), &[3, 5, 6], ok(3, 0, 9), &p2));
+    run.fixed("P2, verified", verified(a, &p2, CODEWORD));
+    run.fixed("P3, verified", verified(b, &[0, 0xa5, 0xa5, 0xa5], CODEWORD));
+    run.fixed("P4", repaired(a, &old(&[3, 5, 6]), &[3, 5, 6], ok(3, 0, 9), &p2));
     let zeroed = |lost: &[usize]| {
         let mut block = p2;
         lost.iter().for_each(|p| block[*p] = 0);
         block
     };
     let lost = [2, 4, 5];
-    run.fixed("P5", repaired(&a, &old(&lost), &lost, ok(0, 3, 0), &zeroed(&lost)));
+    run.fixed("P5", repaired(a, &old(&lost), &lost, ok(0, 3, 0), &zeroed(&lost)));
     let lost = [2, 4, 6];
-    run.fixed("P6", repaired(&a, &old(&lost), &lost, ok(0, 3, 0), &zeroed(&lost)));
-    run.fixed("P7", repaired(&a4, &old(&lost), &lost, ok(3, 0, 9), &p2));
+    run.fixed("P6", repaired(a, &old(&lost), &lost, ok(0, 3, 0), &zeroed(&lost)));
+    run.fixed("P7", repaired(a4, &old(&lost), &lost, ok(3, 0, 9), &p2));
     let mut wrong = p2;
     wrong[0] = 0x11;
-    run.fixed("P8", repaired(&a, &wrong, &[], contradicts(0, 0), &wrong));
-    run.fixed("P8, verified", verified(&a, &wrong, fails(0, 0)));
+    run.fixed("P8", repaired(a, &wrong, &[], contradicts(0, 0), &wrong));
+    run.fixed("P8, verified", verified(a, &wrong, fails(0, 0)));
     // Refusal 8 after restoring: every lost place becomes zero.
     wrong[3] = 0xee;
     wrong[5] = 0xee;
     let mut after = wrong;
     after[3] = 0;
     after[5] = 0;
-    run.fixed("P8, two lost", repaired(&a, &wrong, &[3, 5], contradicts(0, 0), &after));
+    run.fixed("P8, two lost", repaired(a, &wrong, &[3, 5], contradicts(0, 0), &after));
     let single: Vec<u16> = vec![2, 1, 1, 1, 1, 1, 0];
     run.fixed("P9, verified", verified(&single, &[0], CODEWORD));
     run.fixed("P9, not zero", verified(&single, &[1], fails(0, 0)));
@@ -463,28 +716,7 @@ fn fixed_cases(run: &mut Run) {
     run.fixed("lowest check anew", repaired(&anew, &[7, 8, 0], &[0, 1], ok(2, 0, 2), &[0, 0, 0]));
 
     // Blocks of the vectors are codewords; one byte off they aren't.
-    let vectors: [(&[u16], &[u8]); 4] = [
-        (&[2, 4, 1, 3, 3, 2, 4, 9, 0, 1, 2, 2, 3, 0, 1, 2, 3], &[1, 1, 0, 0]),
-        (
-            &[2, 5, 1, 4, 4, 4, 4, 3, 15, 0, 1, 2, 4, 0, 2, 3, 4, 0, 1, 2, 3, 1, 3, 4],
-            &[1, 0, 1, 0, 0],
-        ),
-        (
-            &[
-                2, 6, 1, 5, 5, 4, 5, 4, 5, 23, 0, 1, 3, 4, 5, 0, 1, 4, 5, 0, 1, 2, 3, 5, 0, 1, 2, 3,
-                1, 2, 3, 4, 5,
-            ],
-            &[1, 0, 1, 0, 1, 0],
-        ),
-        (
-            &[
-                2, 6, 1, 6, 5, 5, 4, 5, 4, 2, 25, 0, 1, 2, 3, 5, 1, 2, 3, 4, 5, 0, 1, 3, 5, 0, 2, 3,
-                4, 5, 1, 2, 4, 5, 2, 3,
-            ],
-            &[1, 1, 0, 0, 1, 0],
-        ),
-    ];
-    for (i, (table, block)) in vectors.iter().enumerate() {
+    for (i, (table, block)) in VECTORS.iter().enumerate() {
         run.fixed(&format!("vector {i}"), verified(table, block, CODEWORD));
         let mut off = block.to_vec();
         off[0] ^= 0x40;
@@ -763,12 +995,299 @@ fn untold_cases(run: &mut Run) {
     run.fixed("untold with 7, some lost", refused(&table, &block, &[1, 0, 255], 7));
 }
 
+// ------------------------------------------------- fixed cases, full repair
+
+fn map_of(n: usize, lost: &[usize]) -> Vec<u8> {
+    (0..n).map(|p| lost.contains(&p) as u8).collect()
+}
+
+/// Old bytes lie at lost places, and the work holds anything. Afterwards the
+/// block is this one, and the map says 1 where a place is still lost, 2 where it
+/// is restored.
+fn fully_repaired(
+    table: &[u16],
+    block: &[u8],
+    lost: &[usize],
+    answer: FullyRepaired,
+    still_lost: &[usize],
+    block_after: &[u8],
+) -> Result<(), String> {
+    let mut rng = Rng::new(0, 0);
+    let (n, s) = (table[1] as usize, table[2] as usize);
+    let (got, after, map) =
+        full_repair(&mut rng, table, &aged(block, s, lost), &map_of(n, lost))?;
+    same("answer", &got, &answer)?;
+    let twice = map_of(n, lost).into_iter().map(|b| 2 * b);
+    let expected = twice.zip(map_of(n, still_lost)).map(|(two, one)| two - one);
+    same("map", &map, &expected.collect())?;
+    holds("block", after == block_after)
+}
+
+/// All that is lost comes back.
+fn comes_back(table: &[u16], codeword: &[u8], lost: &[usize]) -> Result<(), String> {
+    fully_repaired(table, codeword, lost, fully(lost.len() as u32, 0), &[], codeword)
+}
+
+/// None of what is lost comes back.
+fn stays_lost(table: &[u16], block: &[u8], lost: &[usize]) -> Result<(), String> {
+    let after = zeroed(block, table[2] as usize, lost);
+    fully_repaired(table, block, lost, fully(0, lost.len() as u32), lost, &after)
+}
+
+/// Refusal 8 with check and byte 0; the map is kept, lost places become zero.
+fn none_agrees(table: &[u16], block: &[u8], lost: &[usize]) -> Result<(), String> {
+    let after = zeroed(block, table[2] as usize, lost);
+    fully_repaired(table, block, lost, FullyRepaired::refused(8), lost, &after)
+}
+
+/// The same, and repair doesn't see it.
+fn unseen(table: &[u16], block: &[u8], lost: &[usize]) -> Result<(), String> {
+    none_agrees(table, block, lost)?;
+    let mut rng = Rng::new(0, 0);
+    let (old, _, _) = repair(&mut rng, table, block, &map_of(table[1] as usize, lost))?;
+    same("repair", &old.refusal, &0)
+}
+
+fn zeroed(block: &[u8], s: usize, lost: &[usize]) -> Vec<u8> {
+    let mut block = block.to_vec();
+    lost.iter().for_each(|p| block[p * s..(p + 1) * s].fill(0));
+    block
+}
+
+fn full_cases(run: &mut Run) {
+    let restored = [0x01, 0x02, 0x04, 0x0e, 0x08, 0x0b, 0x0d];
+    run.fixed("C-14", fully_repaired(A, &P2, &[2, 4, 6], fully(3, 0), &[], &restored));
+    let left = [0x01, 0x02, 0, 0x0e, 0, 0, 0x0d];
+    let lost = [2, 4, 5];
+    run.fixed("C-14, open", fully_repaired(A, &P2, &lost, fully(0, 3), &lost, &left));
+    for fill in [0, 1, u64::MAX] {
+        let mut rng = Rng::new(0, 0);
+        let (map, work) = (map_of(7, &[2, 4, 6]), vec![fill; model::WORK_BUFFER]);
+        let result = full_repair_with(&mut rng, A, &aged(&P2, 1, &[2, 4, 6]), &map, &work)
+            .and_then(|(_, after, _)| holds("block", after == restored));
+        run.fixed(&format!("C-14, work of {fill}"), result);
+    }
+    run.fixed("full repair, P4", comes_back(A, &P2, &[3, 5, 6]));
+    run.fixed("full repair, P7", comes_back(A4, &P2, &[2, 4, 6]));
+    run.fixed("full repair, P7, open", stays_lost(A4, &P2, &[2, 4, 5]));
+    run.fixed("full repair, nothing lost", comes_back(A, &P2, &[]));
+    run.fixed("full repair, all lost", stays_lost(A, &P2, &[0, 1, 2, 3, 4, 5, 6]));
+    let wrong = [0x11, 0x02, 0x04, 0x0e, 0x08, 0x0b, 0x0d];
+    run.fixed("full repair, P8", none_agrees(A, &wrong, &[]));
+    run.fixed("full repair, P8, two lost", none_agrees(A, &wrong, &[3, 5]));
+    run.fixed("full repair, P8, place 0 lost", comes_back(A, &P2, &[0]));
+
+    // Each check has two lost places or more. Of 6 and 7 only the sum is known;
+    // 0, 1 and 2 are decided, apart from these or by their sum.
+    let apart = [vec![0, 1, 3], vec![1, 2, 4], vec![0, 1, 2, 5], vec![6, 7, 8]];
+    let by_sum = [vec![0, 1, 6, 7], vec![1, 2, 6, 7], vec![0, 1, 2, 5], vec![6, 7, 8]];
+    for (checks, block) in [
+        (apart, [0x01, 0x02, 0x04, 0x03, 0x06, 0x07, 0x08, 0x10, 0x18]),
+        (by_sum, [0x1f, 0x07, 0x1f, 0x55, 0x66, 0x07, 0x08, 0x10, 0x18]),
+    ] {
+        let table = model::table_words(9, 1, &checks);
+        let after = zeroed(&block, 1, &[6, 7]);
+        let result =
+            fully_repaired(&table, &block, &[0, 1, 2, 6, 7], fully(3, 2), &[6, 7], &after);
+        run.fixed("some decided, two open", result);
+    }
+
+    // Tables with few checks or none.
+    let single: &[u16] = &[2, 1, 1, 1, 1, 1, 0];
+    run.fixed("full repair, P9, lost", comes_back(single, &[0], &[0]));
+    run.fixed("full repair, P9, contradicts", none_agrees(single, &[9], &[]));
+    let no_checks: &[u16] = &[2, 3, 1, 0, 0];
+    run.fixed("full repair, P10", stays_lost(no_checks, &[1, 2, 3], &[1]));
+    run.fixed("full repair, P10, all lost", stays_lost(no_checks, &[1, 2, 3], &[0, 1, 2]));
+    run.fixed("full repair, P10, nothing lost", comes_back(no_checks, &[1, 2, 3], &[]));
+    let empty = model::table_words(3, 1, &vec![vec![]; 512]);
+    run.fixed("full repair, empty checks", stays_lost(&empty, &[1, 2, 3], &[0, 2]));
+    // 0 and 1 are alike twice over, and so are 2 and 3.
+    let twice = [vec![0, 1], vec![0, 1], vec![2, 3], vec![0, 1, 2, 3]];
+    let twice = model::table_words(4, 1, &twice);
+    run.fixed("redundant checks, all lost", stays_lost(&twice, &[5, 5, 6, 6], &[0, 1, 2, 3]));
+    run.fixed("redundant checks, one of each lost", comes_back(&twice, &[5, 5, 6, 6], &[1, 2]));
+    run.fixed("redundant checks, contradiction", none_agrees(&twice, &[5, 4, 6, 6], &[3]));
+    // All lost, and all decided to be zero.
+    let zero = model::table_words(3, 1, &[vec![0, 1], vec![1, 2], vec![0, 1, 2]]);
+    run.fixed("all lost, all decided", comes_back(&zero, &[0, 0, 0], &[0, 1, 2]));
+}
+
+fn contradiction_cases(run: &mut Run) {
+    // Two checks alike on lost places, with other sums of received ones.
+    let alike =
+        |s: usize| model::table_words(6, s, &[vec![0, 1, 2], vec![0, 1, 3], vec![4, 5]]);
+    run.fixed("two sums of one pair", unseen(&alike(1), &[0, 0, 1, 2, 7, 7], &[0, 1]));
+    run.fixed("two sums, one place restored", unseen(&alike(1), &[0, 0, 1, 2, 7, 7], &[0, 1, 5]));
+    run.fixed("one sum of one pair", stays_lost(&alike(1), &[0, 0, 1, 1, 7, 7], &[0, 1]));
+    // Three checks that sum to nothing on lost places.
+    let round = model::table_words(6, 1, &[vec![0, 1, 3], vec![1, 2, 4], vec![0, 2, 5]]);
+    run.fixed("three sums", unseen(&round, &[0, 0, 0, 1, 2, 4], &[0, 1, 2]));
+    run.fixed("three sums that agree", stays_lost(&round, &[0, 0, 0, 1, 2, 3], &[0, 1, 2]));
+    // Decided by elimination, but another check of the same places says otherwise.
+    let over = [vec![0, 2, 4, 6], vec![1, 2, 5, 6], vec![3, 4, 5, 6], vec![2, 4, 6]];
+    let over = model::table_words(7, 1, &over);
+    run.fixed("one check too many", unseen(&over, &P2, &[2, 4, 6]));
+
+    // At one bit of one byte only, in the last check only.
+    for (s, byte) in [(2, 1), (63, 62), (64, 63), (65, 64), (128, 127), (1024, 512), (1024, 1023)] {
+        let block = zeros_but(6, s, &[(2, byte, 0x80)]);
+        run.fixed(&format!("two sums, size {s}, byte {byte}"), unseen(&alike(s), &block, &[0, 1]));
+        let block = zeros_but(6, s, &[(4, byte, 1)]);
+        let late = none_agrees(&alike(s), &block, &[0, 1]);
+        run.fixed(&format!("the last check, size {s}, byte {byte}"), late);
+    }
+    let mut many = vec![vec![]; 510];
+    many.extend([vec![0, 1, 2], vec![0, 1, 3]]);
+    let many = model::table_words(4, 2, &many);
+    run.fixed("checks 510 and 511", unseen(&many, &[0, 0, 0, 0, 5, 6, 5, 7], &[0, 1]));
+}
+
+/// Table A with packets of many sizes: what peeling can't restore, decided and
+/// open, and a byte wrong.
+fn size_cases(run: &mut Run) {
+    let checks = model::look_over(A).unwrap().checks;
+    for s in [1, 2, 7, 8, 9, 63, 64, 65, 127, 128, 129, 1023, 1024] {
+        let mut rng = Rng::new(14, s as u64);
+        let t = Table { n: 7, s, checks: checks.clone() };
+        let (words, block) = (gen::words(&t), gen::codeword(&mut rng, &t));
+        run.fixed(&format!("full repair, size {s}"), comes_back(&words, &block, &[2, 4, 6]));
+        run.fixed(&format!("full repair, size {s}, open"), stays_lost(&words, &block, &[2, 4, 5]));
+        let mut wrong = block.clone();
+        wrong[s - 1] ^= 0x80;
+        run.fixed(&format!("full repair, size {s}, wrong"), none_agrees(&words, &wrong, &[2, 4]));
+    }
+}
+
+/// A table at the limits, with packets of one codeword.
+fn limit_cases(run: &mut Run) {
+    for (name, s, share) in [("regular", 1024, 45), ("staircase", 64, 47), ("heavy", 3, 40)] {
+        if harness::bare() && s == 1024 {
+            continue;
+        }
+        let mut rng = Rng::new(14, s as u64);
+        let checks = match name {
+            "regular" => gen::regular(&mut rng, 1024, 512, 3),
+            "staircase" => gen::staircase(&mut rng, 1024, 512, 3),
+            _ => (0..96).map(|_| rng.some_below(1024, 64)).collect(),
+        };
+        let t = Table { n: 1024, s, checks };
+        let block = gen::codeword(&mut rng, &t);
+        let map = map_of(t.n, &rng.some_below(t.n, t.n * share / 100));
+        let mut wrong = block.clone();
+        wrong[map.iter().position(|b| *b == 0).unwrap() * s + s - 1] ^= 1;
+        for (what, block) in [("a codeword", &block), ("a byte wrong", &wrong)] {
+            let result = full_beside(&mut rng, &t, block, &map);
+            run.fixed(&format!("{name}, size {s}, {what}"), result.map(|_| ()));
+        }
+    }
+}
+
+/// Every loss pattern of a table, against all codewords.
+fn every_pattern(table: &[u16], block: &[u8]) -> Result<(), String> {
+    let mut rng = Rng::new(14, 0);
+    let t = model::look_over(table).unwrap();
+    let codewords = model::codewords(&t);
+    // Bare buffers: a few.
+    let step = if harness::bare() { 11 } else { 1 };
+    for pattern in (0usize..1 << t.n).step_by(step) {
+        let map: Vec<u8> = (0..t.n).map(|p| (pattern >> p & 1) as u8).collect();
+        let mut block = block.to_vec();
+        age(&mut rng, &mut block, t.s, &map);
+        as_codewords_say(&mut rng, &t, &codewords, &block, &map)
+            .map_err(|what| format!("lost {:?}: {what}", places_lost(&map)))?;
+    }
+    Ok(())
+}
+
+fn pattern_cases(run: &mut Run) {
+    let mut tables: Vec<(Vec<u16>, Vec<u8>)> = vec![
+        (A.to_vec(), P2.to_vec()),
+        (A4.to_vec(), P2.to_vec()),
+        (B.to_vec(), vec![0, 0xa5, 0xa5, 0xa5]),
+    ];
+    tables.extend(VECTORS.map(|(table, block)| (table.to_vec(), block.to_vec())));
+    let two_b = gen::side_by_side(&vec![gen::table_b(); 2]);
+    tables.push((model::table_words(two_b.0, 1, &two_b.1), vec![0, 1, 1, 1, 0, 0, 0, 0]));
+    for (i, (table, block)) in tables.iter().enumerate() {
+        run.fixed(&format!("every pattern of table {i}"), every_pattern(table, block));
+        for p in 0..block.len() {
+            let mut wrong = block.clone();
+            wrong[p] ^= 0x10;
+            let result = every_pattern(table, &wrong);
+            run.fixed(&format!("every pattern of table {i}, place {p} wrong"), result);
+        }
+    }
+}
+
+fn fully_refused(
+    table: &[u16],
+    block: &[u8],
+    map: &[u8],
+    work_len: usize,
+    refusal: u32,
+) -> Result<(), String> {
+    let mut rng = Rng::new(0, 0);
+    let work: Vec<u64> = (0..work_len).map(|_| rng.next()).collect();
+    let (answer, _, _) = full_repair_with(&mut rng, table, block, map, &work)?;
+    same("full repair", &answer, &FullyRepaired::refused(refusal))
+}
+
+/// Each cause, alone and with the next one. Place 0 and place 1 contradict.
+fn full_refusal_cases(run: &mut Run) {
+    let good: &[u16] = &[2, 3, 1, 2, 1, 1, 2, 0, 1];
+    let right = model::WORK_BUFFER;
+    let mut order = |name: &str, table: &[u16], block: usize, map: &[u8], work: usize, refusal| {
+        let result = fully_refused(table, &vec![1; block], map, work, refusal);
+        run.fixed(&format!("full repair, {name}"), result);
+    };
+    order("empty table", &[], 3, &[0; 3], right, 1);
+    order("1", &good[..4], 3, &[0; 3], right, 1);
+    order("1 before 2", &[3, 0, 0, 600], 0, &[], 0, 1);
+    order("2", &[3, 3, 1, 2, 1, 1, 2, 0, 1], 3, &[0; 3], right, 2);
+    order("2 before 3", &[2, 0, 1, 1, 65], 0, &[], 0, 2);
+    order("3", &good[..8], 3, &[0; 3], right, 3);
+    order("3 before 4", &[2, 2, 1, 1, 3, 2, 0, 9], 0, &[], 0, 3);
+    order("4", &[2, 3, 1, 2, 1, 1, 2, 0, 3], 3, &[0; 3], right, 4);
+    order("4 before 5", &[2, 3, 1, 2, 1, 1, 2, 0, 3], 1, &[0], 0, 4);
+    for (block, map, work) in [
+        (2, 3, right),
+        (4, 3, right),
+        (0, 3, right),
+        (3, 2, right),
+        (3, 4, right),
+        (3, 0, right),
+        (3, 3, right - 1),
+        (3, 3, right + 1),
+        (3, 3, 0),
+        (3, 3, 1),
+        (3, 3, 2 * right),
+    ] {
+        let name = |what: &str| format!("{what}, lengths {block} {map} {work}");
+        order(&name("5"), good, block, &vec![0; map], work, 5);
+        order(&name("5, some lost"), good, block, &vec![1; map], work, 5);
+        order(&name("5 before 7"), good, block, &vec![2; map], work, 5);
+    }
+    for byte in [2, 3, 128, 255] {
+        order(&format!("7 for {byte}"), good, 3, &[1, 1, byte], right, 7);
+        order(&format!("7 before 8 for {byte}"), good, 3, &[byte, 0, 0], right, 7);
+    }
+    order("8", good, 3, &[0, 0, 1], right, 8);
+    order("8, one of two", good, 3, &[1, 0, 1], right, 8);
+}
+
 fn main() {
-    let mut run = Run::from_arguments(6000);
+    let mut run = Run::from_arguments(7300);
     fixed_cases(&mut run);
     depth_cases(&mut run);
     told_cases(&mut run);
     untold_cases(&mut run);
+    full_cases(&mut run);
+    contradiction_cases(&mut run);
+    size_cases(&mut run);
+    limit_cases(&mut run);
+    pattern_cases(&mut run);
+    full_refusal_cases(&mut run);
     run.random(random_case);
     run.end()
 }

@@ -322,6 +322,30 @@ pub fn table(rng: &mut Rng) -> Table {
     t
 }
 
+/// About half as many checks as places, so that peeling stalls where elimination
+/// still decides: regular, staircase, or of any weights.
+pub fn half_rate(rng: &mut Rng) -> Table {
+    let n = match rng.below(12) {
+        0 => 1024,
+        1 => rng.range(200, 1023),
+        _ => rng.range(8, 160),
+    };
+    let m = n / 2;
+    let mut checks = match rng.below(3) {
+        0 => regular(rng, n, m, 3),
+        1 => staircase(rng, n, m, 3),
+        _ => (0..m)
+            .map(|_| {
+                let weight = if rng.once_in(16) { 64 } else { rng.range(2, 10) };
+                rng.some_below(n, weight)
+            })
+            .collect(),
+    };
+    vary(rng, n, &mut checks);
+    let s = rng.pick(&[1, 2, 3, 8, 17, 63, 64, 65, 127, 128]);
+    Table { n, s: s.min(40_000 / n), checks: within_limits(checks) }
+}
+
 /// A table for brute force.
 pub fn small_table(rng: &mut Rng, most_places: usize, most_checks: usize) -> Table {
     let n = rng.range(1, most_places);
@@ -357,15 +381,15 @@ pub fn codeword(rng: &mut Rng, t: &Table) -> Vec<u8> {
     }
     let mut block = rng.bytes(t.n * t.s);
     // A row has no pivot of an earlier row, so the last is solved first.
+    let mut packet = vec![0; t.s];
     for (pivot, row) in rows.iter().rev() {
-        for b in 0..t.s {
-            block[pivot * t.s + b] = 0;
-        }
-        for p in (0..t.n).filter(|p| p != pivot && row.has(*p)) {
-            for b in 0..t.s {
-                block[pivot * t.s + b] ^= block[p * t.s + b];
+        packet.fill(0);
+        for p in row.ascending().filter(|p| p != pivot) {
+            for (a, b) in packet.iter_mut().zip(&block[p * t.s..]) {
+                *a ^= b;
             }
         }
+        block[pivot * t.s..][..t.s].copy_from_slice(&packet);
     }
     block
 }

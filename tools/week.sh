@@ -3,7 +3,7 @@
 # packets lost on the way, repaired, verified, and put together again. Ends with status 0 if the file comes back byte for byte.
 #
 #   tools/week.sh            builds the programs first
-#   tools/week.sh DIR        takes staircase_file, planlist, encode_file, repair_file and verify_file from DIR
+#   tools/week.sh DIR        takes staircase_file, planlist, encode_file, repair_file, full_repair_file and verify_file from DIR
 
 set -eu
 root=$(cd "$(dirname "$0")/.." && pwd)
@@ -13,7 +13,7 @@ else
     bin=$root/target/bin
     mkdir -p "$root/target"
     # a line for each crate as it is done; the whole log only where something fails
-    { cd "$root" && rt check staircase_file planlist encode_file repair_file verify_file 2>&1; echo $? >"$root/target/week.status"; } |
+    { cd "$root" && rt check staircase_file planlist encode_file repair_file full_repair_file verify_file 2>&1; echo $? >"$root/target/week.status"; } |
         tee "$root/target/week.log" | grep '^rt: ' || true
     [ "$(cat "$root/target/week.status")" = 0 ] || {
         cat "$root/target/week.log"
@@ -35,6 +35,12 @@ said() {
 # numbers of a byte each, from standard input, as bytes
 bytes() {
     printf "$(awk '{ for (i = 1; i <= NF; i++) printf "\\%03o", $i }')"
+}
+
+# lose BLOCK FIRST COUNT: so many packets in a row are zero, and the map marks them
+lose() {
+    dd if=/dev/zero of="$1" bs=$size seek=$2 count=$3 conv=notrunc 2>/dev/null
+    awk -v first=$2 -v count=$3 'BEGIN { for (p = 0; p < 64; p++) print (p >= first && p < first + count) }' | bytes >map
 }
 
 # refuses WORDS ARGUMENT..: staircase_file must say the words on standard error, and neither print nor write anything
@@ -79,9 +85,8 @@ for part in source.*; do
     said "encode_file $part" 'additions *' "$("$bin/encode_file" table "$part" "$block")"
     said "verify_file $block" codeword "$("$bin/verify_file" table "$block")"
 
-    # lost: ten packets in a row, elsewhere in each block; the map marks them
-    dd if=/dev/zero of="$block" bs=$size seek=$start count=10 conv=notrunc 2>/dev/null
-    awk -v start=$start 'BEGIN { for (p = 0; p < 64; p++) print (p >= start && p < start + 10) }' | bytes >map
+    # lost: ten packets in a row, elsewhere in each block
+    lose "$block" $start 10
     said "verify_file $block" 'check * fails at byte *' "$("$bin/verify_file" table "$block")"
 
     counts=$("$bin/repair_file" table "$block" map)
@@ -98,6 +103,16 @@ done
 
 cmp received corrections
 
+# Twenty packets in a row, 10 to 29: repair stalls at 17 of them, and full repair restores all.
+cp block.aa stalled
+lose stalled 10 20
+cp stalled full
+cp map full_map
+said 'repair_file, stalled' 'restored 3 lost 17 *' "$("$bin/repair_file" table stalled map)"
+said 'full_repair_file' 'restored 20 lost 0' "$("$bin/full_repair_file" table full full_map)"
+cmp full block.aa
+echo 'stalled: packets 10 to 29 lost, 3 restored by repair, 20 by full repair'
+
 # A wrong byte, 37 of the last packet, which lies in the last check alone: verification and refusal 8 tell both. No place is marked
 # lost, so that the block keeps what it holds.
 printf '\377' | dd of=block.aa bs=1 seek=$((63 * size + 37)) conv=notrunc 2>/dev/null
@@ -108,5 +123,8 @@ said 'repair_file, damaged' '' "$("$bin/repair_file" table damaged map 2>errors)
 said 'repair_file, damaged' 'refused 8: check 23 fails at byte 37' "$(cat errors)"
 cmp damaged block.aa
 echo "damaged: $(cat errors)"
+said 'full_repair_file, damaged' '' "$("$bin/full_repair_file" table damaged map 2>errors)"
+said 'full_repair_file, damaged' 'refused 8: no codeword agrees with the received packets' "$(cat errors)"
+cmp damaged block.aa
 
 echo "received: the same $(wc -c <received) bytes"

@@ -14,7 +14,7 @@ use borrow.Author.Tests.{not-false}
 use Rattle.lists.specs.Tests.{eqb-true, eqb-self, byBool}
 use Rattle.gf2.specs.Columns.{isZero-sound, column-lt, pair, pair-column}
 use Rattle.lists.specs.Lists.{bxor, below, Distinct, rev, has, filter, All, All.nil, All.cons}
-use Rattle.lists.specs.ListLaws.{all-in, getD-zeros, getD-has, length-rev}
+use Rattle.lists.specs.ListLaws.{all-in, all-index, getD-zeros, getD-has, length-rev}
 use Rattle.gf2.specs.Span.{span-zero, isSum-complete}
 use Rattle.gf2.specs.Unique.{mask-unique}
 use Rattle.gf2.specs.Rank.{Zero, hom-o}
@@ -71,10 +71,6 @@ rev-snoc (y ∷ l) x = ap (λ r. r ++ (y ∷ [])) (rev-snoc l x)
 rev-rev : {X : Type 0} (l : List X) → rev (rev l) ≡ l
 rev-rev [] = refl
 rev-rev (x ∷ l) = rev-snoc (rev l) x ∙ ap (λ r. x ∷ r) (rev-rev l)
-
-all-at : {P : ℕ → Type 0} (l : List ℕ) → ((i : ℕ) → i < length l → P (getD l i 0)) → All P l
-all-at [] h = nil
-all-at (x ∷ l) h = cons (h 0 (omega arith)) (all-at l (λ i k. h (suc i) (omega arith)))
 
 -- ---- a mask as a list of digits
 pair-dot : (g m x : ℕ) → x < 2 ^ g → pair (maskBits g m) x ≡ dot m x
@@ -169,7 +165,7 @@ module _ (n : ℕ) (cs : List (List ℕ)) (d : All Distinct cs) (low : All (λ c
           (length-bits gap (getD M j 0) ∙ sym (length-map EE (restricted FF) ∙ rows-number))
           (all-in (λ q. length (inverse EE FF q) ≡ gap) f f-in (lens n cs d low) ∙ sym (length-map EE (restricted FF) ∙ rows-number))
           (sym (lin-comb XorGroup XorGroup (valOn-lin XorGroup pow FF) m EE)
-          ∙ sum-ext-in XorGroup (all-at FF (λ i h. ap (λ (b : Bool). cond b (2 ^ getD FF i 0) 0) (at-place i h)))
+          ∙ sum-ext-in XorGroup (all-index FF (λ i h. ap (λ (b : Bool). cond b (2 ^ getD FF i 0) 0) (at-place i h)))
           ∙ lin-comb XorGroup XorGroup (valOn-lin XorGroup pow FF) k EE)
 
     pub fits : Fitted n (ts n cs d low) (az n cs d low) gap L M

@@ -8,16 +8,11 @@ use lib.ListN.{length, getD, take, drop}
 use lib.Seq.{getD-take, drop-cons, length-take-le}
 use Rattle.gf2.specs.Gf2.{column}
 use Rattle.gf2.specs.GreedyLaws.{all-choose}
-use Rattle.lists.specs.ListLaws.{all-rev, below-of, all-filter}
-use Rattle.lists.specs.Lists.{All, All.nil, All.cons}
+use Rattle.lists.specs.ListLaws.{all-rev, all-at, below-of, all-filter}
+use Rattle.lists.specs.Lists.{All}
 use Rattle.rule.specs.Buffers.{maskBits, Fitted}
 use Rattle.rule.specs.Rule.{Solved, clearAndAdd, slotsNamed, fittingSteps, fittedPlaces, reduced}
 use Rattle.emit.specs.Emit.{fittingRows, Below}
-
-all-at : {P : ℕ → Type 0} {l : List ℕ} → All P l → (i : ℕ) → i < length l → P (getD l i 0)
-all-at nil i h = absurd (omega arith)
-all-at (cons p a) zero h = p
-all-at (cons p a) (suc i) h = all-at a i (omega arith)
 
 fitted-all : (n : ℕ) (ts : List Solved) (az : List (List ℕ)) → All (λ p. p < n) (fittedPlaces n ts az)
 fitted-all n ts az = all-rev (all-choose (column (reduced ts az)) [] (all-filter _ (below-of n (λ p h. h))))
@@ -27,7 +22,7 @@ fitted-low {n} {T} {Z} {g} {fitted} f =
     let l = length-take-le g fitted (f .room .0) in
     record {
       room = f .room .0;
-      each = λ i h. rw (← getD-take g fitted i 0 h, f .places) (all-at (fitted-all n T Z) i (let e = ap length (f .places) in omega arith));
+      each = λ i h. rw (← getD-take g fitted i 0 h, f .places) (all-at 0 (fitted-all n T Z) i (let e = ap length (f .places) in omega arith));
     }
 
 -- the rows are those of the inverse

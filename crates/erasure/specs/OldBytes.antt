@@ -18,7 +18,7 @@ packet-alike true z x y h = refl
 packet-alike false z x y h = h refl
 
 -- once lost places are zero, the blocks are the same
-zero-alike : (s : ℕ) (map : List ℕ) (b c : List (List ℕ)) → length b ≡ length c
+pub zero-alike : (s : ℕ) (map : List ℕ) (b c : List (List ℕ)) → length b ≡ length c
     → ((p : ℕ) → p < length b → isLost map p ≡ false → getD b p [] ≡ getD c p []) → zeroLost s map b ≡ zeroLost s map c
 zero-alike s [] [] [] l h = refl
 zero-alike s [] [] (y ∷ c) l h = absurd (omega arith)

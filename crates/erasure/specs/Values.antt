@@ -24,7 +24,7 @@ use Rattle.gf2.specs.Places.{sum-apart}
 use Rattle.erasure.specs.Stopping.{ready-all, first-lost}
 
 -- ---- a check with no lost place, or with one
-none-passes : (f : ℕ → Bool) (c : List ℕ) → length (filter f c) ≡ 0 → All (λ p. f p ≡ false) c
+pub none-passes : (f : ℕ → Bool) (c : List ℕ) → length (filter f c) ≡ 0 → All (λ p. f p ≡ false) c
 none-passes f [] l = nil
 none-passes f (x ∷ c) l = byBool (f x)
     (λ t. absurd (omega (arith, rw (t, filter) at l)))
@@ -53,7 +53,7 @@ not-self : (p q : ℕ) → not (has p (q ∷ [])) ≡ true → eqb p q ≡ false
 not-self p q h = byBool (eqb p q) (λ e. absurd (false≢true (rw e at h))) (λ e. e)
 
 -- ---- sums over places where two blocks agree
-sum-agree : (s : ℕ) (b e : List (List ℕ)) {c : List ℕ} → All (λ p. getD b p [] ≡ getD e p []) c → packetSum s b c ≡ packetSum s e c
+pub sum-agree : (s : ℕ) (b e : List (List ℕ)) {c : List ℕ} → All (λ p. getD b p [] ≡ getD e p []) c → packetSum s b c ≡ packetSum s e c
 sum-agree s b e nil = refl
 sum-agree s b e (cons h a) = ap₂ (add XorGroup) h (sum-agree s b e a)
 

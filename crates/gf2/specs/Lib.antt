@@ -8,10 +8,17 @@ pub mod Independent
 pub mod IndependentOrder
 pub mod Linear
 pub mod MaskLaws
+pub mod OneRowMore
+pub mod PairElimination
+pub mod Pairs
 pub mod Places
 pub mod Rank
 pub mod RowValue
+pub mod Separate
+pub mod Settling
+pub mod Solving
 pub mod Span
+pub mod Systems
 pub mod Unique
 pub mod Vectors
 pub mod Xor

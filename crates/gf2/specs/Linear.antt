@@ -8,7 +8,7 @@ use lib.ListN.{length}
 use Rattle.gf2.specs.Gf2.{Group2, XorGroup, sumOver, comb}
 use Rattle.gf2.specs.Group.{cancel, eq-zero}
 use Rattle.gf2.specs.Independent.{Indep, Indep.empty, Indep.free}
-use Rattle.gf2.specs.Span.{madd, comb-add}
+use Rattle.gf2.specs.Span.{madd, comb-add, Span, Within, Within.none, Within.more}
 use Rattle.lists.specs.Lists.{All, All.nil, All.cons}
 
 -- f of a sum is the sum of both f
@@ -32,12 +32,36 @@ module _ {A B : Type 0} (G : Group2 A) (K : Group2 B) {f : A → B} (h : Lin G K
   lin-sum g [] = lin-o
   lin-sum g (x ∷ l) = h .adds (g x) (sumOver G g l) ∙ ap (λ y. K ._⊕_ (f (g x)) y) (lin-sum g l)
 
--- a sum of members that all go to zero
+  -- a sum of members that all go to zero
+  pub lin-none : {R : List A} → All (λ r. f r ≡ K .o) R → (m : List Bool) → f (comb G m R) ≡ K .o
+  lin-none nil m = lin-o
+  lin-none (cons p a) [] = lin-o
+  lin-none (cons {x = r} {l = R} p a) (true ∷ m) = h .adds r (comb G m R) ∙ ap₂ (K ._⊕_) p (lin-none a m) ∙ K .zl (K .o)
+  lin-none (cons p a) (false ∷ m) = lin-none a m
+
+  pub lin-span : {R : List A} → All (λ r. f r ≡ K .o) R → {x : A} → Span G R x → f x ≡ K .o
+  lin-span a q = ap f (sym (q .sums)) ∙ lin-none a (q .mask)
+
+  -- of members that stand for others
+  module _ {X : Type 0} (g : X → A) where
+    pub lin-image : (m : List Bool) (l : List X) → f (comb G m (map g l)) ≡ comb K m (map (λ x. f (g x)) l)
+    lin-image m [] = lin-o
+    lin-image [] (x ∷ l) = lin-o
+    lin-image (true ∷ m) (x ∷ l) = h .adds (g x) (comb G m (map g l)) ∙ ap (λ y. K ._⊕_ (f (g x)) y) (lin-image m l)
+    lin-image (false ∷ m) (x ∷ l) = lin-image m l
+
+    -- a sum goes to a sum
+    pub span-image : (l : List X) {y : A} → Span G (map g l) y → Span K (map (λ x. f (g x)) l) (f y)
+    span-image l q = record { mask = q .mask; sums = sym (lin-image (q .mask) l) ∙ ap f (q .sums) }
+
+  -- all sums go to sums
+  pub within-image : {X Y : Type 0} (g : X → A) (k : Y → A) (l : List X) (r : List Y) → Within G (map g l) (map k r) → Within K (map (λ x. f (g x)) l) (map (λ y. f (k y)) r)
+  within-image g k l [] w = none
+  within-image g k l (y ∷ r) (more p w) = more (span-image g l p) (within-image g k l r w)
+
+-- a sum of numbers that all go to zero
 pub lin-zero : {A : Type 0} (G : Group2 A) {f : ℕ → A} → Lin XorGroup G f → {R : List ℕ} → All (λ r. f r ≡ G .o) R → (m : List Bool) → f (comb XorGroup m R) ≡ G .o
-lin-zero G h nil m = lin-o XorGroup G h
-lin-zero G h (cons p a) [] = lin-o XorGroup G h
-lin-zero G h (cons {x = r} {l = R} p a) (true ∷ m) = h .adds r (comb XorGroup m R) ∙ ap₂ (G ._⊕_) p (lin-zero G h a m) ∙ G .zl (G .o)
-lin-zero G h (cons p a) (false ∷ m) = lin-zero G h a m
+lin-zero G h a m = lin-none XorGroup G h a m
 
 module _ {A B : Type 0} (G : Group2 A) (K : Group2 B) where
   -- ---- a sum of independent rows says which rows: so it can be carried over to other rows

@@ -137,10 +137,14 @@ highest-over (suc n) f p q h a b = byBool (f n)
     (λ k. let z : q ≡ n = eqb-true q n k in rw z e)
     (λ k. let z = eqb-false q n k in highest-over n f p q (rw (e, highest) at h) a (omega arith)))
 
+-- from all members to that of a number
+pub all-at : {X : Type 0} {P : X → Type 0} (d : X) {l : List X} → All P l → (i : ℕ) → i < length l → P (getD l i d)
+all-at d nil i h = absurd (omega arith)
+all-at d (cons p a) zero h = p
+all-at d (cons p a) (suc i) h = all-at d a i (omega arith)
+
 pub all-getD : {P : List ℕ → Type 0} {st : List (List ℕ)} → All P st → (i : ℕ) → i < length st → P (getD st i [])
-all-getD nil i h = absurd (omega arith)
-all-getD (cons p a) zero h = p
-all-getD (cons p a) (suc i) h = all-getD a i (omega arith)
+all-getD a i h = all-at [] a i h
 
 pub getD-zeros : (s j : ℕ) → _≡_ {A = ℕ} (getD (replicate s 0) j 0) 0
 getD-zeros zero j = refl
@@ -361,3 +365,8 @@ has-above q (cons {x = p} h a) = rw (eqb-gt q p h) (has-above q a)
 pub has-empty : (l : List ℕ) → length l ≡ 0 → (p : ℕ) → has p l ≡ false
 has-empty [] h p = refl
 has-empty (x ∷ l) h p = absurd (omega arith)
+
+-- members that two functions take to the same
+pub map-same : {X Y : Type 0} (f g : X → Y) {l : List X} → All (λ x. f x ≡ g x) l → map f l ≡ map g l
+map-same f g nil = refl
+map-same f g (cons h a) = ap₂ _∷_ h (map-same f g a)

@@ -1,7 +1,7 @@
 -- Laws of the numbers in order (`from`): how many, which, in two parts, and what a filter leaves of them.
 use mathlib.Core.Path.{_≡_, refl, sym, ap, ap₂, _∙_}
 use mathlib.Core.Bool.{Bool, true, false}
-use mathlib.Core.List.{[], _∷_, _++_}
+use mathlib.Core.List.{[], _∷_, _++_, map}
 use Prim.Native.Nat.{ℕ, zero, suc, _+_, _-_, _<_, _≤_}
 use native.Mathlib.Numerals.{add-one}
 use native.Mathlib.Omega.{arith}
@@ -71,3 +71,13 @@ pub filter-has : (f : ℕ → Bool) (n p : ℕ) → p < n → has p (filter f (f
 filter-has f n p h = byBool (f p)
     (λ e. has-kept f p (from 0 n) e (from-has 0 n p (omega arith) (omega arith)) ∙ sym e)
     (λ e. has-filter f p (from 0 n) e ∙ sym e)
+
+-- what f makes of them
+pub map-from-at : {A : Type 0} (f : ℕ → A) (d : A) (c j : ℕ) → j < c → getD (map f (from 0 c)) j d ≡ f j
+unfolding from
+map-from-at {A} f d c j h = go 0 c j h ∙ ap f {x = 0 + j} {y = j} (omega arith)
+  where
+    go : (i c j : ℕ) → j < c → getD (map f (from i c)) j d ≡ f (i + j)
+    go i zero j h = absurd (omega arith)
+    go i (suc c) zero h = ap f {x = i} {y = i + 0} (omega arith)
+    go i (suc c) (suc j) h = go (suc i) c j (omega arith) ∙ ap f {x = suc i + j} {y = i + suc j} (omega arith)

@@ -9,6 +9,6 @@ pub fn plan_of(table: &[u16], plan: &mut [u32]) -> Planned
     ensures answer { λ r. ⌜ planningAnswerOf r ≡ planningAnswer (now (table .entry)) (now (plan .entry)) lentWork ⌝ }
     ensures plan { λ _. ⌜ now (plan .exit) ≡ planningPlanAfter (now (table .entry)) (now (plan .entry)) lentWork ⌝ }
 {
-    let mut work = [0u64; planner::WORK_WORDS];
+    let mut work = [0u64; table::WORK_WORDS];
     planner::plan(table, plan, &mut work)
 }

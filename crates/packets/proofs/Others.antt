@@ -1,15 +1,12 @@
 -- The sum over the other places of a check.
-use mathlib.Core.Path.{_≡_, refl, sym, ap, ap₂, _∙_}
-use mathlib.Core.Bool.{Bool, false, not, cond, true≢false}
+use mathlib.Core.Path.{_≡_, refl, ap, _∙_}
+use mathlib.Core.Bool.{Bool, not, cond}
 use mathlib.Core.List.{List, [], _∷_, _++_, append-nil}
 use Prim.Native.Nat.{ℕ, _≤_}
 use native.Mathlib.Omega.{arith}
-use borrow.Author.Tests.{eq-eqb, ne-eqb}
-use lib.Dec.{eqb}
-use lib.ListN.{length, set, take, drop}
-use lib.Seq.{getD-set-other}
-use Rattle.lists.specs.Tests.{eqb-self, or-false-l, or-false-r, byBool}
-use Rattle.gf2.specs.Gf2.{XorGroup, add}
+use borrow.Author.Tests.{ne-eqb}
+use lib.ListN.{length, take, drop}
+use Rattle.lists.specs.Tests.{eqb-self, byBool}
 use Rattle.lists.specs.ListLaws.{all-filter}
 use Rattle.lists.specs.Lists.{has, filter, minus}
 use Rattle.table.specs.Checks.{CheckIn}
@@ -29,13 +26,6 @@ minus-same c p = filter-snoc (λ q. not (has q (p ∷ []))) c p ∙ rw (eqb-self
 
 pub minus-other : (c : List ℕ) (p q : ℕ) → (q ≡ p → ⊥) → minus (c ++ (q ∷ [])) (p ∷ []) ≡ minus c (p ∷ []) ++ (q ∷ [])
 minus-other c p q h = filter-snoc (λ r. not (has r (p ∷ []))) c q ∙ rw (ne-eqb q p h)
-
--- a packet that isn't summed may be any
-pub sum-elsewhere : (s : ℕ) (ps : List (List ℕ)) (p : ℕ) (v : List ℕ) (d : List ℕ) → has p d ≡ false → packetSum s (set ps p v) d ≡ packetSum s ps d
-sum-elsewhere s ps p v [] h = refl
-sum-elsewhere s ps p v (q ∷ d) h = ap₂ (add XorGroup)
-    (getD-set-other ps p q v [] (λ e. absurd (true≢false (sym (eq-eqb p q (sym e)) ∙ or-false-l (eqb p q) (has p d) h))))
-    (sum-elsewhere s ps p v d (or-false-r (eqb p q) (has p d) h))
 
 module _ (t : List ℕ) (at weight : ℕ) (b : List ℕ) (n s p : ℕ) (ok : CheckIn t at weight b n s) where
   abbrev ps : List (List ℕ)

@@ -64,7 +64,7 @@ pub fn add_from(b: &mut [u8], to: usize, src: &[u8], from: usize, s: usize)
     mix(b, to, &src[from..end]);
 }
 
-// The bytes of a check's packets at places other than p, from off on, as many as acc has, are added into acc.
+// The bytes of the packets at a list's places other than skip, from off on, as many as acc has, are added into acc.
 fn gather_others(
     acc: &mut [u8],
     t: &[u16],
@@ -73,7 +73,7 @@ fn gather_others(
     block: &[u8],
     n: usize,
     s: usize,
-    p: usize,
+    skip: usize,
     off: usize,
 )
     requires { ⌜ CheckIn (now t) at weight (now block) n s
@@ -81,21 +81,21 @@ fn gather_others(
     ensures { λ _. ⌜
         now (acc .exit)
         ≡ addVectors XorGroup (now (acc .entry))
-        (take (length (now (acc .entry))) (drop off (othersSum (now (t .entry)) at weight (now (block .entry)) n s p)))
+        (take (length (now (acc .entry))) (drop off (othersSum (now (t .entry)) at weight (now (block .entry)) n s skip)))
         ⌝ }
 {
     let k = acc.len();
     let mut m = 0;
     while m < weight {
         let q = wide(t[at + m]);
-        if q != p {
+        if q != skip {
             add_from(acc, 0, block, q * s + off, k);
         }
         m += 1;
     }
 }
 
-// 64 bytes of the packet at place p, from off on, become those of the sum of the others.
+// 64 bytes of the packet at place p, from off on, become those of the sum at the places other than skip.
 fn restore_chunk(
     t: &[u16],
     at: usize,
@@ -103,6 +103,7 @@ fn restore_chunk(
     block: &mut [u8],
     n: usize,
     s: usize,
+    skip: usize,
     p: usize,
     off: usize,
 )
@@ -110,11 +111,11 @@ fn restore_chunk(
         × ((p < n) × (off + 64 ≤ s)) ⌝ }
     ensures { λ _. ⌜
         now (block .exit)
-        ≡ written (now (block .entry)) (p * s + off) (take 64 (drop off (othersSum (now (t .entry)) at weight (now (block .entry)) n s p)))
+        ≡ written (now (block .entry)) (p * s + off) (take 64 (drop off (othersSum (now (t .entry)) at weight (now (block .entry)) n s skip)))
         ⌝ }
 {
     let mut acc = [0u8; 64];
-    gather_others(&mut acc, t, at, weight, block, n, s, p, off);
+    gather_others(&mut acc, t, at, weight, block, n, s, skip, off);
     store(block, p * s + off, &acc);
 }
 
@@ -126,6 +127,7 @@ fn restore_rest(
     block: &mut [u8],
     n: usize,
     s: usize,
+    skip: usize,
     p: usize,
     off: usize,
 )
@@ -133,28 +135,37 @@ fn restore_rest(
         × ((p < n) × ((off ≤ s) × (s < off + 64))) ⌝ }
     ensures { λ _. ⌜
         now (block .exit)
-        ≡ written (now (block .entry)) (p * s + off) (drop off (othersSum (now (t .entry)) at weight (now (block .entry)) n s p))
+        ≡ written (now (block .entry)) (p * s + off) (drop off (othersSum (now (t .entry)) at weight (now (block .entry)) n s skip))
         ⌝ }
 {
     let mut acc = [0u8; 64];
     let k = s - off;
-    gather_others(&mut acc[..k], t, at, weight, block, n, s, p, off);
+    gather_others(&mut acc[..k], t, at, weight, block, n, s, skip, off);
     store(block, p * s + off, &acc[..k]);
 }
 
-// The packet at place p becomes the sum of the packets of the check's other places.
-pub fn restore(t: &[u16], at: usize, weight: usize, block: &mut [u8], n: usize, s: usize, p: usize)
+// The packet at place p becomes the sum of the packets at a list's places other than skip: at the check's others, where skip is p.
+pub fn restore(
+    t: &[u16],
+    at: usize,
+    weight: usize,
+    block: &mut [u8],
+    n: usize,
+    s: usize,
+    skip: usize,
+    p: usize,
+)
     requires { ⌜ CheckIn (now t) at weight (now block) n s
         × (p < n) ⌝ }
     ensures { λ _. ⌜
         now (block .exit)
-        ≡ joined (set (packets s n (now (block .entry))) p (othersSum (now (t .entry)) at weight (now (block .entry)) n s p))
+        ≡ joined (set (packets s n (now (block .entry))) p (othersSum (now (t .entry)) at weight (now (block .entry)) n s skip))
         ⌝ }
 {
     let mut i = 0;
     while 64 <= s - i {
-        restore_chunk(t, at, weight, block, n, s, p, i);
+        restore_chunk(t, at, weight, block, n, s, skip, p, i);
         i += 64;
     }
-    restore_rest(t, at, weight, block, n, s, p, i);
+    restore_rest(t, at, weight, block, n, s, skip, p, i);
 }

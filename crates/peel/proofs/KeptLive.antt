@@ -10,7 +10,7 @@ use lib.Dec.{eqb}
 use borrow.Author.Tests.{ne-eqb}
 use Rattle.lists.specs.Tests.{eqb-true, eqb-false, eqb-self, byBool}
 use Rattle.gf2.specs.Gf2.{isZero, choose, XorGroup, rowOf, isSum}
-use Rattle.lists.specs.ListLaws.{getD-zeros, all-map}
+use Rattle.lists.specs.ListLaws.{all-at, getD-zeros, all-map}
 use Rattle.lists.specs.Lists.{has, All, All.nil, All.cons, count, from}
 use Rattle.lists.specs.Numbers.{from-all}
 use Rattle.table.specs.Checks.{check, offset}
@@ -35,11 +35,6 @@ chosen-length f L i (suc c) = byBool (isSum XorGroup isZero L (f i))
     (λ e. let h = chosen-length f L (suc i) c in rw (e, choose) (omega arith))
     (λ e. let h = chosen-length f (f i ∷ L) (suc i) c in rw (e, choose) (omega arith))
 
-all-at : {P : ℕ → Type 0} {l : List ℕ} → All P l → (i : ℕ) → i < length l → P (getD l i 0)
-all-at nil i h = absurd (omega arith)
-all-at (cons p a) zero h = p
-all-at (cons p a) (suc i) h = all-at a i (omega arith)
-
 has-over : (i : ℕ) {l : List ℕ} → All (λ j. i < j) l → has i l ≡ false
 has-over i nil = refl
 has-over i (cons {x = j} h a) = rw (ne-eqb i j (λ (e : i ≡ j). omega arith)) (has-over i a)
@@ -55,7 +50,7 @@ kept-all t m = chosen-all (λ j. rowOf (check t m j)) [] (all-map (λ j r. let b
   lt j b = omega arith
 
 pub kept-low : (t : List ℕ) (m i : ℕ) → i < length (keptOf t m) → getD (keptOf t m) i 0 < m
-kept-low t m i h = all-at (kept-all t m) i h
+kept-low t m i h = all-at 0 (kept-all t m) i h
 
 -- ---- flags at just these numbers
 lives-chosen : (f : ℕ → ℕ) (live L : List ℕ) (i c : ℕ) → ((j : ℕ) → i ≤ j → getD live j 0 ≡ cond (has j (choose XorGroup isZero f L (from i c))) 1 0)

@@ -6,16 +6,13 @@ use lib.Dec.{eqb, ltb}
 use lib.ListN.{length, replicate}
 use Rattle.table.specs.FirstCause.{firstCause, wrongLength}
 use Rattle.table.specs.Table.{tableCauses}
+pub use Rattle.table.specs.Table.{workWords}
 use Rattle.plan.specs.Step.{addSteps}
 use Rattle.plan.specs.Layout.{mostAside}
 pub use Rattle.plan.specs.Layout.{leastPlan}
 use Rattle.rule.specs.PlanOf.{withNumbers}
 unfoldable pub use Rattle.rule.specs.PlanOf.{planOf, numbersOf}
 use Rattle.planner.specs.declared.Planned.{Planned}
-
--- "work exactly 8,192 64-bit words"
-abbrev pub workWords : ℕ
-workWords = 8192
 
 -- 5: a plan buffer too short, or work of wrong length
 abbrev pub wrongLengths : ℕ → ℕ → Bool

@@ -1,6 +1,7 @@
 // The planner.
 use peel::Choice;
 use table::MOST_CHECKS;
+use table::WORK_WORDS;
 use table::wide;
 ghost use mathlib.Core.Path.{_≡_};
 ghost use Prim.Native.Nat.{_≤_};
@@ -15,9 +16,6 @@ ghost use Rattle.planner.specs.Planning.{planningAnswer, planningPlanAft
 
 // the least length of the plan's buffer
 pub const LEAST_PLAN: usize = 15360;
-
-// the length of the work buffer
-pub const WORK_WORDS: usize = 8192;
 
 // the bits of a row of the inverse
 const MASK_WIDTH: usize = 32;

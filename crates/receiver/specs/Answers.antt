@@ -1,7 +1,9 @@
 -- The answers of the library for C, as the definitions' records and values.
 use mathlib.Core.Bool.{Bool, true, false}
 use Prim.Native.Nat.{ℕ}
+use Rattle.full.specs.Full.{FullAnswer}
 use Rattle.repair.specs.Repair.{RepairAnswer}
+use Rattle.receiver.specs.declared.FullRepair.{FullRepair}
 use Rattle.receiver.specs.declared.Repair.{Repair}
 
 -- C has numbers: 1 or 0 for whether
@@ -11,3 +13,6 @@ oneIf false = 0
 
 abbrev pub repaired : Repair → RepairAnswer
 repaired r = record { refusal = r .refusal; restored = r .restored; lost = r .lost; additions = r .additions; check = r .check; byte = r .byte }
+
+abbrev pub fullyRepaired : FullRepair → FullAnswer
+fullyRepaired r = record { refusal = r .refusal; restored = r .restored; lost = r .lost; check = r .check; byte = r .byte }

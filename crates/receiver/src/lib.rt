@@ -1,12 +1,13 @@
-// The receiver's library for C: the packet call, verification and repair.
+// The receiver's library for C: the packet call, verification, repair and full repair.
 ghost use mathlib.Core.Path.{_≡_};
 ghost use Prim.Native.Nat.{_≤_};
 ghost use lib.ListN.{length};
 ghost use Rattle.table.specs.PacketCall.{packetRefusal, partStart, partLength};
 ghost use Rattle.verify.specs.Verify.{verifyAnswer};
 ghost use Rattle.repair.specs.Repair.{repairAnswer, repairBlockAfter, repairMapAfter};
+ghost use Rattle.full.specs.Full.{fullAnswer, fullBlockAfter, fullMapAfter, fullWorkAfter};
 ghost use Rattle.faults.specs.Faults.{checkOf, byteOf};
-ghost use Rattle.receiver.specs.Answers.{oneIf, repaired};
+ghost use Rattle.receiver.specs.Answers.{oneIf, repaired, fullyRepaired};
 use verify::Verified;
 
 // Where in the block a packet lies: 0 and 0 on refusal.
@@ -115,5 +116,37 @@ pub extern "C" fn bs_repair(table: &[u16], block: &mut [u8], map: &mut [u8]) -> 
         additions: r.additions,
         check: r.check,
         byte: r.byte,
+    }
+}
+
+// What full repair reports: the refusal, 0 for none, and the counts; check and byte are 0.
+#[repr(C)]
+pub struct FullRepair {
+    pub refusal: u32,
+    pub restored: u32,
+    pub lost: u32,
+    pub check: u32,
+    pub byte: u32,
+}
+
+#[no_mangle]
+pub extern "C" fn bs_full_repair(
+    table: &[u16],
+    block: &mut [u8],
+    map: &mut [u8],
+    work: &mut [u64],
+) -> FullRepair
+    ensures report { λ r. ⌜ fullyRepaired r ≡ fullAnswer (now (table .entry)) (now (block .entry)) (now (map .entry)) (now (work .entry)) ⌝ }
+    ensures block { λ _. ⌜ now (block .exit) ≡ fullBlockAfter (now (table .entry)) (now (block .entry)) (now (map .entry)) (now (work .entry)) ⌝ }
+    ensures map { λ _. ⌜ now (map .exit) ≡ fullMapAfter (now (table .entry)) (now (block .entry)) (now (map .entry)) (now (work .entry)) ⌝ }
+    ensures work { λ _. ⌜ now (work .exit) ≡ fullWorkAfter (now (table .entry)) (now (block .entry)) (now (map .entry)) (now (work .entry)) ⌝ }
+{
+    let f = full::full_repair(table, block, map, work);
+    FullRepair {
+        refusal: f.refusal,
+        restored: f.restored,
+        lost: f.lost,
+        check: f.check,
+        byte: f.byte,
     }
 }

@@ -52,7 +52,7 @@ module _ (t b map : List ℕ) where
       turned false = refl
 
   -- the other way: no cause up to 7
-  fits : NoneHolds ((wrongLengths t b map, 5) ∷ (byteOver map, 7) ∷ []) → refusal t ≡ 0 → Fitting t b map
+  pub fits : NoneHolds ((wrongLengths t b map, 5) ∷ (byteOver map, 7) ∷ []) → refusal t ≡ 0 → Fitting t b map
   fits (cons w (cons o n)) ok = record {
     table = ok;
     block = eqb-true (length b) (places t * size t) (not-false (eqb (length b) (places t * size t)) (or-false-l (wrongLength (length b) (places t * size t)) _ w));

@@ -73,13 +73,13 @@ pub record Contradicted (t b map : List ℕ) : Type 0 where
   pub first : FirstFault (noneLost (outcome t b map .map)) (size t) (outcome t b map .block) (checks t) (reported t b map)
 
 -- ---- the tests
-not-lost : (map : List ℕ) (p : ℕ) → getD map p 0 ≡ 0 → isLost map p ≡ false
+pub not-lost : (map : List ℕ) (p : ℕ) → getD map p 0 ≡ 0 → isLost map p ≡ false
 not-lost map p e = ap (λ x. eqb x 1) e
 
-is-lost : (map : List ℕ) (p : ℕ) → getD map p 0 ≡ 1 → isLost map p ≡ true
+pub is-lost : (map : List ℕ) (p : ℕ) → getD map p 0 ≡ 1 → isLost map p ≡ true
 is-lost map p e = ap (λ x. eqb x 1) e
 
-lost-byte : {map : List ℕ} → All (λ x. x ≤ 1) map → (p : ℕ) → isLost map p ≡ false → getD map p 0 ≡ 0
+pub lost-byte : {map : List ℕ} → All (λ x. x ≤ 1) map → (p : ℕ) → isLost map p ≡ false → getD map p 0 ≡ 0
 lost-byte {map} a p e = let k = byte-at a p in let z = eqb-false (getD map p 0) 1 e in omega arith
 
 module _ (t b map : List ℕ) (ok : repairRefusal t b map ≡ 0) where

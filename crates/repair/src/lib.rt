@@ -18,7 +18,7 @@ pub struct Repaired {
 }
 
 // a map byte over 1
-fn over_one(map: &[u8]) -> bool
+pub fn over_one(map: &[u8]) -> bool
     ensures { λ r. ⌜ r ≡ anyOf (ltb 1) (now (map .entry)) ⌝ }
 {
     let mut p = 0;

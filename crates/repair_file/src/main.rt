@@ -10,13 +10,7 @@ const MOST_BLOCK: usize = 32768;
 const CONTRADICT: u32 = 8;
 
 fn print_counts(answer: Repaired) {
-    text::print_count(
-        libc::STDOUT_FILENO,
-        b"restored ",
-        answer.restored as u64,
-        b"",
-    );
-    text::print_count(libc::STDOUT_FILENO, b" lost ", answer.lost as u64, b"");
+    text::print_restored(answer.restored, answer.lost, b"");
     text::print_count(
         libc::STDOUT_FILENO,
         b" additions ",

@@ -1,51 +1,24 @@
 -- What the core tells and leaves, from what its parts leave.
-use mathlib.Core.Path.{_≡_, sym, ap, ap₂, _∙_, subst}
+use mathlib.Core.Path.{_≡_, sym, ap, ap₂, _∙_}
 use mathlib.Core.Bool.{true, false}
-use mathlib.Core.List.{List, []}
+use mathlib.Core.List.{List}
 use mathlib.Core.Option.{none, some}
-use Prim.Native.Nat.{ℕ, _+_, _-_, _*_, _<_, _≤_}
-use native.Mathlib.Omega.{arith}
-use lib.ListN.{length, getD, take, drop}
-use lib.Seq.{ext-getD}
-use Rattle.lists.specs.Tests.{byBool}
-use Rattle.lists.specs.Buffers.{written-bytes, written-whole, part-length, getD-part}
+use Prim.Native.Nat.{ℕ, _-_, _*_, _≤_}
+use lib.ListN.{length}
 use Rattle.table.specs.PacketLaws.{packets-length, joined-packets}
 use Rattle.table.specs.Packets.{packets, joined}
-use Rattle.lists.specs.Lists.{written}
 use Rattle.table.specs.Table.{places, size, checks}
 use Rattle.table.specs.Accepted.{Accepted}
+use Rattle.erasure.specs.OldBytes.{zero-alike}
 use Rattle.erasure.specs.OutcomeLaws.{start-length, start-sized, outcome-length, outcome-sized, tally-fewer}
-use Rattle.erasure.specs.Restoring.{zeroLost, restoring, contradiction, tally, outcome, contradicting, isLost}
+use Rattle.erasure.specs.Restoring.{zeroLost, restoring, contradiction, tally, outcome, contradicting}
 use Rattle.restore.specs.Mending.{Tells, Mends}
 use Rattle.faults.specs.FaultLaws.{no-fault, some-fault}
 use Rattle.faults.specs.Faults.{noFault, checkOf, byteOf}
 use Rattle.erasure.specs.Turns.{Restored, stateOf}
-use Rattle.erasure.specs.Values.{received-kept, zeroLost-length, zeroLost-kept, zeroLost-zero}
+use Rattle.erasure.specs.Values.{received-kept}
 use Rattle.restore.specs.declared.Judged.{Judged}
 use Rattle.restore.specs.declared.Mended.{Mended}
-
--- ---- zeroing again gives the start again
-zero-same : (s : ℕ) (lost : List ℕ) (a b : List (List ℕ)) → length a ≡ length b → ((p : ℕ) → isLost lost p ≡ false → getD a p [] ≡ getD b p []) → zeroLost s lost a ≡ zeroLost s lost b
-zero-same s lost a b long same = ext-getD [] _ _ (zeroLost-length s lost a ∙ long ∙ sym (zeroLost-length s lost b)) (λ p h. byBool (isLost lost p)
-    (λ e. let k : p < length a = subst (λ x. p < x) (zeroLost-length s lost a) h in
-    zeroLost-zero s lost a p k e ∙ sym (zeroLost-zero s lost b p (subst (λ x. p < x) long k) e))
-    (λ e. zeroLost-kept s lost a p e ∙ same p e ∙ sym (zeroLost-kept s lost b p e)))
-
--- ---- a map that is saved and put back
-pub saved-room : (z l sv : List ℕ) (n : ℕ) → n ≤ length z → length l ≡ n → sv ≡ written z 0 (take n (drop 0 l)) → n ≤ length sv
-saved-room z l sv n room ll e =
-    let w = written-bytes z 0 (take n (drop 0 l)) n (part-length l 0 n (omega arith)) (omega arith) in
-    subst (λ x. n ≤ length x) (sym e) (omega (arith, w .len))
-
-pub put-back : (z l l₂ sv l₃ : List ℕ) (n : ℕ) → n ≤ length z → length l ≡ n → length l₂ ≡ n → sv ≡ written z 0 (take n (drop 0 l)) → l₃ ≡ written l₂ 0 (take n (drop 0 sv)) → l₃ ≡ l
-put-back z l l₂ sv l₃ n room ll l2 e g =
-    let long : length (take n (drop 0 l)) ≡ n = part-length l 0 n (omega arith) in
-    let w = written-bytes z 0 (take n (drop 0 l)) n long (omega arith) in
-    let size = saved-room z l sv n room ll e in
-    let part : length (take n (drop 0 sv)) ≡ n = part-length sv 0 n (omega arith) in
-    g ∙ written-whole l₂ (take n (drop 0 sv)) (part ∙ sym l2) ∙ ext-getD 0 (take n (drop 0 sv)) l (part ∙ sym ll)
-    (λ i h. let k : i < n = subst (λ x. i < x) part h in
-    getD-part sv 0 n i k ∙ ap (λ x. getD x (0 + i) 0) e ∙ w .inside i k ∙ getD-part l 0 n i k ∙ ap (λ (x : ℕ). getD l x 0) (omega arith))
 
 -- ---- the core
 module _ (t : List ℕ) (m n s : ℕ) (k : Accepted t m n s) (b l : List ℕ) (lb : length b ≡ n * s) (ll : length l ≡ n) (b₁ : List ℕ) (zeroed : b₁ ≡ joined (zeroLost s l (packets s n b)))
@@ -110,8 +83,8 @@ module _ (t : List ℕ) (m n s : ℕ) (k : Accepted t m n s) (b l : List ℕ) (l
         ∙ ap₂ (λ x y. some (record { check = x; byte = y })) (sym (looked .check-is ∙ ap checkOf look-then)) (sym (looked .byte-is ∙ ap byteOf look-then)) in
         let again : zeroLost s l₃ (packets s n b₂) ≡ zeroLost (size t) l (packets (size t) (places t) b) =
         ap₂ (λ x y. zeroLost x y (packets s n b₂)) (k .size-is) back ∙ ap (zeroLost (size t) l) packets-after
-        ∙ zero-same (size t) l (outcome t b l .block) (packets (size t) (places t) b) (outcome-length t b l (k .accepted) fits ∙ sym (packets-length (size t) (places t) b))
-        (received-kept (places t) (size t) (checks t) (packets (size t) (places t) b) l) in
+        ∙ zero-alike (size t) l (outcome t b l .block) (packets (size t) (places t) b) (outcome-length t b l (k .accepted) fits ∙ sym (packets-length (size t) (places t) b))
+        (λ p h e. received-kept (places t) (size t) (checks t) (packets (size t) (places t) b) l p e) in
         record {
           report = rw (bad, e1, e2, e3, e4, e5, e6);
           block-is = rw bad (g ∙ ap joined again);

@@ -68,10 +68,10 @@ module _ {w owner e : List ℕ} {k n x l : ℕ} (o : Owners w owner k) (d : Lowe
   abbrev own : List ℕ
   own = set owner (l - 1) (k + 1)
 
-  own-here : getD own (l - 1) 0 ≡ k + 1
+  pub own-here : getD own (l - 1) 0 ≡ k + 1
   own-here = getD-set-same owner (l - 1) (k + 1) 0 (omega arith)
 
-  own-other : (p : ℕ) → (p ≡ l - 1 → ⊥) → getD own p 0 ≡ getD owner p 0
+  pub own-other : (p : ℕ) → (p ≡ l - 1 → ⊥) → getD own p 0 ≡ getD owner p 0
   own-other p h = getD-set-other owner (l - 1) p (k + 1) 0 h
 
   pub own-most : (b : ℕ) → k < b → ((p : ℕ) → getD owner p 0 ≤ b) → (p : ℕ) → getD own p 0 ≤ b

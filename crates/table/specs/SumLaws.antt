@@ -9,7 +9,8 @@ use lib.Dec.{eqb·suc-zero}
 use lib.ListN.{length, getD, take, drop, replicate}
 use lib.Seq.{take-take}
 use Rattle.gf2.specs.Gf2.{XorGroup, add}
-use Rattle.lists.specs.Lists.{sameList, All, All.nil, All.cons}
+use Rattle.lists.specs.ListLaws.{all-index}
+use Rattle.lists.specs.Lists.{sameList, All}
 use Rattle.gf2.specs.Vectors.{add-assoc, add-comm}
 use Rattle.lists.specs.Buffers.{part-length, getD-part}
 use Rattle.table.specs.Checks.{CheckIn, Places}
@@ -126,11 +127,6 @@ pub sum-snoc : (s : ℕ) (b : List (List ℕ)) (c : List ℕ) (q : ℕ) → pack
 sum-snoc s b [] q = add-comm XorGroup (getD b q []) (replicate s 0)
 sum-snoc s b (p ∷ c) q = ap (add XorGroup (getD b p [])) (sum-snoc s b c q) ∙ sym (add-assoc XorGroup (getD b p []) (packetSum s b c) (getD b q []))
 
--- every place of a list
-all-at : (P : ℕ → Type 0) (l : List ℕ) → ((i : ℕ) → i < length l → P (getD l i 0)) → All P l
-all-at P [] h = nil
-all-at P (x ∷ l) h = cons (h 0 (omega arith)) (all-at P l (λ i g. h (suc i) (omega arith)))
-
 -- an accepted check
 pub places-in : (t : List ℕ) (at weight : ℕ) (b : List ℕ) (n s : ℕ) → Places t at weight n → length b ≡ n * s → CheckIn t at weight b n s
 places-in t at weight b n s p l = record { room = p .room; below = p .below; bytes = l }
@@ -138,7 +134,7 @@ places-in t at weight b n s p l = record { room = p .room; below = p .below; byt
 module _ (t : List ℕ) (at weight : ℕ) (b : List ℕ) (n s : ℕ) (ok : CheckIn t at weight b n s) where
   -- the check's places are below n
   pub check-below : All (λ p. p < n) (take weight (drop at t))
-  check-below = all-at (λ p. p < n) (take weight (drop at t)) (λ i h.
+  check-below = all-index (take weight (drop at t)) (λ i h.
       let l = part-length t at weight (ok .room) in
       let g : i < weight = omega arith in
       rw (getD-part t at weight i g) (ok .below i g))

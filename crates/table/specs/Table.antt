@@ -23,6 +23,10 @@ mostWeight = 64
 abbrev pub mostOnes : ℕ
 mostOnes = 6144
 
+-- the work buffer of planning and of full repair, "work exactly 8,192 64-bit words": a bit for each place of each check
+abbrev pub workWords : ℕ
+workWords = 8192
+
 -- ---- the layout
 -- n
 abbrev pub places : List ℕ → ℕ

@@ -27,6 +27,9 @@ pub const MOST_ONES: usize = 6144;
 // the most words: 5 + 512 + 6,144
 pub const MOST_WORDS: usize = 6661;
 
+// the words of a work buffer: 512 checks of 1,024 bits
+pub const WORK_WORDS: usize = 8192;
+
 pub fn wide(x: u16) -> usize
     ensures { λ r. ⌜ r ≡ x ⌝ }
 {

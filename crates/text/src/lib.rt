@@ -56,6 +56,14 @@ pub fn print_count(fd: i32, word: &[u8], x: u64, end: &[u8])
     io::write_all(fd, &line[..at]);
 }
 
+// Prints how many places are restored and how many are still lost, and what ends or goes on.
+pub fn print_restored(restored: u32, lost: u32, end: &[u8])
+    requires { ⌜ length (now end) ≤ 38 ⌝ }
+{
+    print_count(libc::STDOUT_FILENO, b"restored ", restored as u64, b"");
+    print_count(libc::STDOUT_FILENO, b" lost ", lost as u64, end);
+}
+
 // Says on standard error that a call refused, and its number.
 pub fn say_refused(number: u32) {
     print_count(libc::STDERR_FILENO, b"refused ", number as u64, b"\n");

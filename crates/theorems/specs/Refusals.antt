@@ -13,6 +13,7 @@ use Rattle.plan.specs.Layout.{planCauses, planRefusal}
 use Rattle.planner.specs.Planning.{planningCauses, planningRefusalAt, planningAnswer, planningAnswerAt, planningRefusal}
 use Rattle.encoder.specs.Encoding.{encodeCauses, encodeRefusalAt, encodeAnswer, encodeAnswerAt, encodeRefusal}
 use Rattle.repair.specs.Repair.{repairCauses, repairRefusal, handedOn, repairAnswer, repairAnswerAt}
+use Rattle.full.specs.Full.{fullCauses, fullRefusal, fullAnswer, fullAnswerAt, fullMapAfter}
 use Rattle.erasure.specs.Restoring.{State, outcome, contradicting}
 use Rattle.faults.specs.Faults.{Fault}
 use Rattle.verify.specs.Verify.{verifyCauses, verifyRefusal, verifyAnswer, verifyAnswerAt}
@@ -48,6 +49,15 @@ repair-refusals t b map = subst (λ r. RefusedBy r (repairCauses t b map)) (sym 
     told : (r : ℕ) (m : State) (f : Option Fault) → repairAnswerAt r m f .refusal ≡ r
     told zero m f = refl
     told (suc r) m f = refl
+
+-- 1 to 5, 7, 8, as full repair reports it
+pub full-refusals : (t b map work : List ℕ) → RefusedBy (fullAnswer t b map work .refusal) (fullCauses t b map work)
+unfolding fullRefusal
+full-refusals t b map work = subst (λ r. RefusedBy r (fullCauses t b map work)) (sym (told (fullRefusal t b map work) (fullMapAfter t b map work))) (refused-by (fullCauses t b map work) refl)
+  where
+    told : (r : ℕ) (after : List ℕ) → fullAnswerAt r after .refusal ≡ r
+    told zero after = refl
+    told (suc r) after = refl
 
 -- 1 to 6, as the planner answers it
 pub planning-refusals : (t planBuffer work : List ℕ) → RefusedBy (planningAnswer t planBuffer work .refusal) (planningCauses t (length planBuffer) (length work))

@@ -6,11 +6,13 @@ use mathlib.Core.List.{List, [], _∷_, _++_, map}
 use Prim.Native.Nat.{ℕ, _+_, _-_, _*_}
 use lib.ListN.{length, replicate}
 use Rattle.faults.specs.Faults.{checkOf, byteOf}
+use Rattle.lists.specs.Lists.{from}
 use Rattle.plan.specs.Layout.{mostSteps}
 use Rattle.plan.specs.Step.{addSteps}
 use Rattle.planner.specs.Planning.{planOf, numbersOf, planningRefusalAt, leastPlan, workWords}
 use Rattle.encoder.specs.Encoding.{encodeRefusalAt, encodeAnswer, encodeBlockAfter}
 use Rattle.repair.specs.Repair.{repairRefusal, repairAnswer, repairBlockAfter, repairMapAfter}
+use Rattle.full.specs.Full.{fullRefusal, fullAnswer, fullBlockAfter, fullMapAfter}
 use Rattle.table.specs.Packets.{lowestNonzero}
 use Rattle.verify.specs.Verify.{verifyRefusal, verifyAnswer}
 
@@ -69,6 +71,11 @@ abbrev pub mended : List ℕ → List ℕ → List ℕ → List (List ℕ)
 mended t b map = let r = repairAnswer t b map in
     (r .refusal ∷ r .restored ∷ r .lost ∷ r .additions ∷ []) ∷ (r .check ∷ r .byte ∷ []) ∷ repairBlockAfter t b map ∷ repairMapAfter t b map ∷ []
 
+-- full repair, with work of the right length: refusal, restored and still lost, the check and its byte, the block and the map
+abbrev pub fullyMended : List ℕ → List ℕ → List ℕ → List (List ℕ)
+fullyMended t b map = let work : List ℕ = replicate workWords 0 in let r = fullAnswer t b map work in
+    (r .refusal ∷ r .restored ∷ r .lost ∷ []) ∷ (r .check ∷ r .byte ∷ []) ∷ fullBlockAfter t b map work ∷ fullMapAfter t b map work ∷ []
+
 -- verification: refusal, 1 for a codeword and 0 for none, the check and its byte
 abbrev pub verified : List ℕ → List ℕ → List (List ℕ)
 verified t b = let r = verifyAnswer t b in
@@ -110,8 +117,14 @@ starred =
     -- C-12: packets of 100 bytes, two of which sum to 05 at byte 70 and 03 at byte 80: verification and refusal 8 by check 1 at byte 70
     ∷ record { given = verified table100 (sumAt 70 80); wanted = (0 ∷ 0 ∷ []) ∷ (1 ∷ 70 ∷ []) ∷ [] }
     ∷ record { given = mended table100 (sumAt 70 80) (0 ∷ 0 ∷ 0 ∷ []); wanted = (8 ∷ 0 ∷ 0 ∷ 0 ∷ []) ∷ (1 ∷ 70 ∷ []) ∷ sumAt 70 80 ∷ (0 ∷ 0 ∷ 0 ∷ []) ∷ [] }
+    -- C-14: lost 2, 4, 6 of P2's block "comes back as 04 08 0d"
+    ∷ record { given = fullyMended tableA (0x01 ∷ 0x02 ∷ 0xff ∷ 0x0e ∷ 0xff ∷ 0x0b ∷ 0xff ∷ []) (0 ∷ 0 ∷ 1 ∷ 0 ∷ 1 ∷ 0 ∷ 1 ∷ []); wanted = (0 ∷ 3 ∷ 0 ∷ []) ∷ (0 ∷ 0 ∷ []) ∷ (0x01 ∷ 0x02 ∷ 0x04 ∷ 0x0e ∷ 0x08 ∷ 0x0b ∷ 0x0d ∷ []) ∷ (0 ∷ 0 ∷ 2 ∷ 0 ∷ 2 ∷ 0 ∷ 2 ∷ []) ∷ [] }
+    -- C-14: "lost 2, 4, 5 stays lost"
+    ∷ record { given = fullyMended tableA (0x01 ∷ 0x02 ∷ 0xff ∷ 0x0e ∷ 0xff ∷ 0xff ∷ 0x0d ∷ []) (0 ∷ 0 ∷ 1 ∷ 0 ∷ 1 ∷ 1 ∷ 0 ∷ []); wanted = (0 ∷ 0 ∷ 3 ∷ []) ∷ (0 ∷ 0 ∷ []) ∷ (0x01 ∷ 0x02 ∷ 0x00 ∷ 0x0e ∷ 0x00 ∷ 0x00 ∷ 0x0d ∷ []) ∷ (0 ∷ 0 ∷ 1 ∷ 0 ∷ 1 ∷ 1 ∷ 0 ∷ []) ∷ [] }
+    -- C-14: P8's block: refusal 8, check and byte 0
+    ∷ record { given = fullyMended tableA (0x11 ∷ 0x02 ∷ 0x04 ∷ 0x0e ∷ 0x08 ∷ 0x0b ∷ 0x0d ∷ []) (0 ∷ 0 ∷ 0 ∷ 0 ∷ 0 ∷ 0 ∷ 0 ∷ []); wanted = (8 ∷ 0 ∷ 0 ∷ []) ∷ (0 ∷ 0 ∷ []) ∷ (0x11 ∷ 0x02 ∷ 0x04 ∷ 0x0e ∷ 0x08 ∷ 0x0b ∷ 0x0d ∷ []) ∷ (0 ∷ 0 ∷ 0 ∷ 0 ∷ 0 ∷ 0 ∷ 0 ∷ []) ∷ [] }
     ∷ []
 
 pub starred-cases : map (λ c. c .given) starred ≡ map (λ c. c .wanted) starred
-unfolding planningRefusalAt encodeRefusalAt repairRefusal verifyRefusal lowestNonzero planOf numbersOf
+unfolding planningRefusalAt encodeRefusalAt repairRefusal fullRefusal verifyRefusal lowestNonzero planOf numbersOf from
 starred-cases = refl

@@ -50,7 +50,7 @@ fn restore_one(
         ⌝ }
 {
     let p = first_lost(t, at, weight, map);
-    packets::restore(t, at, weight, block, n, s, p);
+    packets::restore(t, at, weight, block, n, s, p, p);
     map[p] = 2;
     p
 }

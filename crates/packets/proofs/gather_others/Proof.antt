@@ -14,10 +14,10 @@ use Rattle.packets.proofs.gather_others.Statement.{statement}
 use Rattle.packets.proofs.gather_others.Tie as tie
 
 abbrev Inv-loop : tie.InvT-loop
-Inv-loop acc₀ t at weight block n s p off k m₀ acc m = (m ≤ weight) × Gathered s (packets s n block) off (minus (take m (drop at t)) (p ∷ [])) acc₀ acc
+Inv-loop acc₀ t at weight block n s skip off k m₀ acc m = (m ≤ weight) × Gathered s (packets s n block) off (minus (take m (drop at t)) (skip ∷ [])) acc₀ acc
 
 abbrev μ-loop : tie.MeasureT-loop
-μ-loop acc₀ t at weight block n s p off k m₀ acc m = weight - m
+μ-loop acc₀ t at weight block n s skip off k m₀ acc m = weight - m
 
 loop-holds : tie.Need-loop-holds Inv-loop μ-loop
 loop-holds c = (omega arith, gathered-none _ _ _ _ (c .before .before .before .pre .1))

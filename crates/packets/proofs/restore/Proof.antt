@@ -12,10 +12,10 @@ use Rattle.packets.proofs.restore.Statement.{statement}
 use Rattle.packets.proofs.restore.Tie as tie
 
 abbrev Inv-loop : tie.InvT-loop
-Inv-loop t at weight block₀ n s p i₀ block i = (i ≤ s) × ((length block ≡ length block₀) × ((ok : CheckIn t at weight block₀ n s) (in-n : p < n) → Patched block₀ (p * s) i (bytesOf t at weight block₀ n s p ok in-n) block))
+Inv-loop t at weight block₀ n s skip p i₀ block i = (i ≤ s) × ((length block ≡ length block₀) × ((ok : CheckIn t at weight block₀ n s) (in-n : p < n) → Patched block₀ (p * s) i (bytesOf t at weight block₀ n s skip ok p in-n) block))
 
 abbrev μ-loop : tie.MeasureT-loop
-μ-loop t at weight block₀ n s p i₀ block i = s - i
+μ-loop t at weight block₀ n s skip p i₀ block i = s - i
 
 loop-holds : tie.Need-loop-holds Inv-loop μ-loop
 loop-holds c = (omega arith, (refl, λ ok in-n. none _ _ _))
@@ -36,7 +36,7 @@ loop-again : tie.Need-loop-again Inv-loop μ-loop
 loop-again c =
     let l = c .before .before .before .before .before .loop in
     let r = c .before .before .restore-chunk in
-    (omega arith, (r .kept .1 .1 .1 .0 ∙ l .inv .1 .0, λ ok in-n. piece-more _ _ _ _ _ _ _ ok in-n (l .i) 64 _ _ (omega arith) (l .inv .1 .1 ok in-n) (r .ensures)))
+    (omega arith, (r .kept .1 .1 .1 .0 ∙ l .inv .1 .0, λ ok in-n. piece-more _ _ _ _ _ _ _ ok _ in-n (l .i) 64 _ _ (omega arith) (l .inv .1 .1 ok in-n) (r .ensures)))
 
 restore-rest-requires : tie.Need-restore-rest-requires Inv-loop μ-loop
 restore-rest-requires c κs = let a = c .before .before .before .before .before in (same-check _ _ _ _ _ _ _ (c .before .before .loop .inv .1 .0) (a .pre .0), (a .pre .1, (omega arith, omega arith)))
@@ -48,7 +48,7 @@ returns : tie.Need-returns Inv-loop μ-loop
 returns c =
     let a = c .before .before .before .before .before .before .before .before in
     let l = c .before .before .before .before .before .loop in
-    all-written _ _ _ _ _ _ _ (a .pre .0) (a .pre .1) (l .i) _ _ (l .inv .0) (l .inv .1 .1 (a .pre .0) (a .pre .1)) (c .before .before .restore-rest .ensures)
+    all-written _ _ _ _ _ _ _ (a .pre .0) _ (a .pre .1) (l .i) _ _ (l .inv .0) (l .inv .1 .1 (a .pre .0) (a .pre .1)) (c .before .before .restore-rest .ensures)
 
 pub restore-spec : {M : Type 1} → statement M
 restore-spec =

@@ -4,7 +4,8 @@ use mathlib.Core.Path.{ap₂, _∙_}
 use native.Mathlib.Omega.{arith}
 use borrow.Author.Needs.{needs}
 use Rattle.table.specs.Accepted.{by-number, few-places, few-checks}
-use Rattle.restore.proofs.Settling.{saved-room, put-back, fewer, settled, unsettled}
+use Rattle.restore.proofs.Settling.{fewer, settled, unsettled}
+use Rattle.restore.specs.SavedLaws.{saved-room, put-back}
 use Rattle.restore.proofs.restore_packets.Statement.{statement}
 use Rattle.restore.proofs.restore_packets.Tie as tie
 

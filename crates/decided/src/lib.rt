@@ -1,0 +1,1 @@
+// What the received packets decide: definitions and laws alone.

@@ -1,0 +1,5 @@
+pub mod Parting
+pub mod Taking
+pub mod Turning
+pub mod Settling
+pub mod Solving
