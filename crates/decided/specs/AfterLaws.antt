@@ -1,13 +1,12 @@
 -- Packets and marks afterwards, place by place.
-use mathlib.Core.Path.{_≡_, _∙_}
+use mathlib.Core.Path.{_≡_}
 use mathlib.Core.Bool.{true, false}
 use mathlib.Core.List.{List, []}
 use Prim.Native.Nat.{ℕ, _<_}
-use lib.ListN.{length, getD, replicate, length-map}
+use lib.ListN.{getD, replicate}
 use Rattle.decided.specs.Decided.{decided, value, packetAfter, markAfter, solvedBlock, solvedMap}
 use Rattle.erasure.specs.Restoring.{isLost}
-use Rattle.lists.specs.Lists.{from}
-use Rattle.lists.specs.Numbers.{from-length, map-from-at}
+use Rattle.lists.specs.Numbers.{map-from-at}
 
 module _ (s : ℕ) (cs b : List (List ℕ)) (lost : List ℕ) (p : ℕ) where
   -- decided
@@ -37,15 +36,9 @@ module _ (cs : List (List ℕ)) (lost : List ℕ) (p : ℕ) where
 
 -- ---- block and map
 module _ (n s : ℕ) (cs b : List (List ℕ)) (lost : List ℕ) where
-  pub solved-length : length (solvedBlock n s cs b lost) ≡ n
-  solved-length = length-map (from 0 n) (packetAfter s cs b lost) ∙ from-length 0 n
-
   pub solved-at : (p : ℕ) → p < n → getD (solvedBlock n s cs b lost) p [] ≡ packetAfter s cs b lost p
   solved-at p h = map-from-at (packetAfter s cs b lost) [] n p h
 
 module _ (n : ℕ) (cs : List (List ℕ)) (lost : List ℕ) where
-  pub marks-length : length (solvedMap n cs lost) ≡ n
-  marks-length = length-map (from 0 n) (markAfter cs lost) ∙ from-length 0 n
-
   pub marks-at : (p : ℕ) → p < n → getD (solvedMap n cs lost) p 0 ≡ markAfter cs lost p
   marks-at p h = map-from-at (markAfter cs lost) 0 n p h

@@ -2,7 +2,7 @@
 use mathlib.Core.Path.{_≡_}
 use mathlib.Core.Bool.{true, false}
 use mathlib.Core.List.{List, []}
-use Prim.Native.Nat.{ℕ, zero, suc, _<_, _≤_}
+use Prim.Native.Nat.{ℕ, _<_, _≤_}
 use native.Mathlib.Omega.{arith}
 use lib.Bits.{xor-lt}
 use lib.ListN.{getD}
@@ -10,22 +10,16 @@ use Rattle.decided.specs.Decided.{decided, clashes}
 use Rattle.decided.specs.DecidedLaws.{agreedWord, agreed-word, agreed-within, one-decided}
 use Rattle.decided.specs.Words.{Word, Block}
 use Rattle.erasure.specs.Restoring.{isLost}
-use Rattle.lists.specs.Lists.{All, All.nil, All.cons}
+use Rattle.lists.specs.ListLaws.{all-read}
+use Rattle.lists.specs.Lists.{All, All.nil}
 use Rattle.table.specs.PacketLaws.{view}
 
 -- every byte of every packet below 256
 abbrev pub Bytes : List (List ℕ) → Type 0
 Bytes b = All (λ x. All (λ v. v < 256) x) b
 
-byte-in : {x : List ℕ} → All (λ v. v < 256) x → (j : ℕ) → getD x j 0 < 256
-byte-in nil j = omega arith
-byte-in (cons h a) zero = h
-byte-in (cons h a) (suc j) = byte-in a j
-
 view-in : {b : List (List ℕ)} → Bytes b → (p j : ℕ) → view b j p < 256
-view-in nil p j = omega arith
-view-in (cons h a) zero j = byte-in h j
-view-in (cons h a) (suc p) j = view-in a p j
+view-in a p j = all-read 0 (all-read [] a nil p) (omega arith) j
 
 module _ (n s : ℕ) (cs b : List (List ℕ)) (ok : Block n s cs b) (bytes : Bytes b) (lost : List ℕ) (calm : clashes s cs b lost ≡ false) where
   -- nothing clashes: a codeword of bytes agrees

@@ -3,21 +3,22 @@ use mathlib.Core.Path.{_≡_, sym, ap, _∙_, subst}
 use mathlib.Core.Bool.{true, false}
 use mathlib.Core.List.{List}
 use Prim.Native.Nat.{ℕ, zero, suc, _*_, _<_}
-use lib.ListN.{length, replicate, take, drop}
-use Rattle.decided.specs.AfterLaws.{solved-length, solved-at}
+use lib.ListN.{length, replicate}
+use Rattle.decided.specs.AfterLaws.{solved-at}
 use Rattle.decided.specs.AfterWords.{solved-sized, word-after, sums-after}
 use Rattle.decided.specs.Decided.{decided, value, clashes, packetAfter, solvedBlock, solvedMap}
 use Rattle.decided.specs.DecidedBytes.{bytes-exist, bytes-exact}
 use Rattle.decided.specs.DecidedLaws.{clash-no-word, decided-value}
+use Rattle.decided.specs.Packed.{listOf-length}
 use Rattle.decided.specs.PeeledLaws.{given, given-block}
 use Rattle.decided.specs.Words.{Word}
 use Rattle.erasure.specs.OutcomeLaws.{part-joined, tally-lost, none-lost}
 use Rattle.erasure.specs.Restoring.{isLost, lostPlaces, tally}
-use Rattle.lists.specs.ListLaws.{all-append, all-map}
+use Rattle.lists.specs.ListLaws.{all-append, all-take, all-drop, all-map}
 use Rattle.lists.specs.Lists.{All, All.nil, All.cons}
 use Rattle.table.specs.Codewords.{IsCodeword}
 use Rattle.table.specs.PacketCall.{partAt}
-use Rattle.table.specs.PacketLaws.{packets-length, packets-sized, joined-packets, joined-length, packet-at}
+use Rattle.table.specs.PacketLaws.{packets-length, packets-sized, packets-of, joined-length, packet-at}
 use Rattle.table.specs.Packets.{Packets, packets, joined, packetSum}
 use Rattle.table.specs.Table.{places, size, checks, refusal}
 use Rattle.table.specs.TableLaws.{accepted}
@@ -27,14 +28,9 @@ abbrev pub AgreeThere : List ℕ → List ℕ → List ℕ → List ℕ → Type
 AgreeThere t b map w = (p : ℕ) → p < places t → isLost map p ≡ false → partAt (size t) p b ≡ partAt (size t) p w
 
 -- ---- bytes of a block and of its packets
-all-part : {P : ℕ → Type 0} (s : ℕ) {b : List ℕ} → All P b → All P (take s b) × All P (drop s b)
-all-part zero a = (nil, a)
-all-part (suc s) nil = (nil, nil)
-all-part (suc s) (cons h a) = let r = all-part s a in (cons h (r .0), r .1)
-
 packets-all : {P : ℕ → Type 0} (s n : ℕ) {b : List ℕ} → All P b → All (λ x. All P x) (packets s n b)
 packets-all s zero a = nil
-packets-all s (suc n) a = let r = all-part s a in cons (r .0) (packets-all s n (r .1))
+packets-all s (suc n) a = cons (all-take s a) (packets-all s n (all-drop s a))
 
 joined-all : {P : ℕ → Type 0} {ps : List (List ℕ)} → All (λ x. All P x) ps → All P (joined ps)
 joined-all nil = nil
@@ -54,7 +50,7 @@ module _ (t b map : List ℕ) (ok : refusal t ≡ 0) (fits : length b ≡ places
   of-word w d = (
     record {
       size-fits = joined-length (size t) (d .sized) ∙ ap (λ k. k * size t) (d .long);
-      sums = subst (λ ps. All (λ c. packetSum (size t) ps c ≡ replicate (size t) 0) (checks t)) (sym (ap (λ k. packets (size t) k (joined w)) (sym (d .long)) ∙ joined-packets (size t) (d .sized))) (d .zeros);
+      sums = subst (λ ps. All (λ c. packetSum (size t) ps c ≡ replicate (size t) 0) (checks t)) (sym (packets-of (size t) (places t) (d .long) (d .sized))) (d .zeros);
     },
     λ p h e. sym (part-joined (size t) (places t) w (d .long) (d .sized) p h ∙ d .agree p h e ∙ packet-at (size t) (places t) b p h),
   )
@@ -96,26 +92,26 @@ module _ (t b map : List ℕ) (ok : refusal t ≡ 0) (fits : length b ≡ places
 
   -- its packet at a place
   pub after-part : (p : ℕ) → p < places t → partAt (size t) p after ≡ packetAfter (size t) (checks t) (given t b map ok fits) map p
-  after-part p h = part-joined (size t) (places t) _ (solved-length (places t) (size t) (checks t) (given t b map ok fits) map) after-sized p h
+  after-part p h = part-joined (size t) (places t) _ (listOf-length (places t) (packetAfter (size t) (checks t) (given t b map ok fits) map)) after-sized p h
       ∙ solved-at (places t) (size t) (checks t) (given t b map ok fits) map p h
 
   -- every place that isn't lost then has the packet of each codeword that agrees
   pub after-right : (w : List ℕ) → IsCodeword t w → AgreeThere t b map w → (p : ℕ) → p < places t → isLost (solvedMap (places t) (checks t) map) p ≡ false → partAt (size t) p after ≡ partAt (size t) p w
-  after-right w c a p h e = part-joined (size t) (places t) _ (solved-length (places t) (size t) (checks t) (given t b map ok fits) map) after-sized p h
+  after-right w c a p h e = part-joined (size t) (places t) _ (listOf-length (places t) (packetAfter (size t) (checks t) (given t b map ok fits) map)) after-sized p h
       ∙ word-after (places t) (size t) (checks t) (given t b map ok fits) (given-block t b map ok fits) map (packets (size t) (places t) w) (to-word w c a) p h e
       ∙ packet-at (size t) (places t) w p h
 
   -- every check without a lost place sums to zero
   pub after-sums : clashes (size t) (checks t) (given t b map ok fits) map ≡ false
       → All (λ c. length (lostPlaces (solvedMap (places t) (checks t) map) c) ≡ 0 → packetSum (size t) (packets (size t) (places t) after) c ≡ replicate (size t) 0) (checks t)
-  after-sums calm = let l = solved-length (places t) (size t) (checks t) (given t b map ok fits) map in
+  after-sums calm = let l = listOf-length (places t) (packetAfter (size t) (checks t) (given t b map ok fits) map) in
       subst (λ ps. All (λ c. length (lostPlaces (solvedMap (places t) (checks t) map) c) ≡ 0 → packetSum (size t) ps c ≡ replicate (size t) 0) (checks t))
-      (sym (ap (λ k. packets (size t) k after) (sym l) ∙ joined-packets (size t) after-sized))
+      (sym (packets-of (size t) (places t) l after-sized))
       (sums-after (places t) (size t) (checks t) (given t b map ok fits) (given-block t b map ok fits) map calm)
 
   -- where nothing stays lost, it is a codeword
   pub after-whole : clashes (size t) (checks t) (given t b map ok fits) map ≡ false → tally 1 (solvedMap (places t) (checks t) map) ≡ 0 → IsCodeword t after
-  after-whole calm z = let l = solved-length (places t) (size t) (checks t) (given t b map ok fits) map in record {
+  after-whole calm z = let l = listOf-length (places t) (packetAfter (size t) (checks t) (given t b map ok fits) map) in record {
     size-fits = joined-length (size t) after-sized ∙ ap (λ k. k * size t) l;
     sums = all-map (λ c k. k (none-lost (solvedMap (places t) (checks t) map) c (sym (tally-lost (solvedMap (places t) (checks t) map)) ∙ z))) (after-sums calm);
   }

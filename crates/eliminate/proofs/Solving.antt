@@ -22,9 +22,10 @@ use Rattle.bits.specs.Row.{row}
 use Rattle.rows.specs.Leads.{leads, Owners}
 use Rattle.rows.specs.LeadsLaws.{leads-none, leads-at, named, owners-lead}
 use Rattle.decided.specs.Decided.{decided, value, clashes, packetAfter, markAfter, solvedBlock, solvedMap}
-use Rattle.decided.specs.AfterLaws.{after-decided, after-lost, after-received, mark-decided, mark-lost, mark-received, solved-length, solved-at, marks-length, marks-at}
+use Rattle.decided.specs.AfterLaws.{after-decided, after-lost, after-received, mark-decided, mark-lost, mark-received, solved-at, marks-at}
 use Rattle.decided.specs.AfterWords.{value-length}
 use Rattle.decided.specs.EliminatedPairs.{ByteGroup, pairOf, echelon-calm, lead-decided, lead-value, free-lost}
+use Rattle.decided.specs.Packed.{listOf-length}
 use Rattle.decided.specs.Words.{Block}
 use Rattle.eliminate.specs.Eliminating.{sumsAt, without, vanishes, ZeroLost, Led, Eliminated, SettledAll, Solves}
 use Rattle.eliminate.proofs.Settling.{settled-gone, settled-left}
@@ -128,12 +129,12 @@ module _ {t : List ℕ} {n s : ℕ} {b lost w owner b₁ b′ lost′ : List ℕ
   -- ---- all places
   pub block-solved : b′ ≡ joined (solvedBlock n s cs ps lost)
   block-solved = sym (packets-joined s n b′ (d .bytes)) ∙ ap joined (ext-getD [] (packets s n b′) (solvedBlock n s cs ps lost)
-      (packets-length s n b′ ∙ sym (solved-length n s cs ps lost))
+      (packets-length s n b′ ∙ sym (listOf-length n (packetAfter s cs ps lost)))
       (λ p u. let h : p < n = subst (λ k. p < k) (packets-length s n b′) u in packet-is p h ∙ sym (solved-at n s cs ps lost p h)))
 
   pub map-solved : lost′ ≡ solvedMap n cs lost
   map-solved = ext-getD 0 lost′ (solvedMap n cs lost)
-      (d .marks ∙ sym (marks-length n cs lost))
+      (d .marks ∙ sym (listOf-length n (markAfter cs lost)))
       (λ p u. let h : p < n = subst (λ k. p < k) (d .marks) u in mark-is p h ∙ sym (marks-at n cs lost p h))
 
   pub solved : Solves t n s b lost true b′ lost′

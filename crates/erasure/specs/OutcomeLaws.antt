@@ -9,7 +9,7 @@ use lib.ListN.{length, getD, replicate, length-replicate}
 use Rattle.lists.specs.Tests.{eqb-comm, byOpt, byBool}
 use Rattle.lists.specs.Lists.{filter, All.nil, All.cons}
 use Rattle.table.specs.PacketCall.{partAt}
-use Rattle.table.specs.PacketLaws.{packets-length, packets-sized, joined-packets, packet-at}
+use Rattle.table.specs.PacketLaws.{packets-length, packets-sized, packets-of, packet-at}
 use Rattle.table.specs.Packets.{Packets, packets, joined}
 use Rattle.table.specs.Table.{places, size, checks, refusal}
 use Rattle.table.specs.TableLaws.{accepted}
@@ -74,4 +74,4 @@ none-lost lost (p ∷ c) h = rw (no-lost lost h p) (none-lost lost c h)
 
 -- the packet of a place among packets in a row
 pub part-joined : (s n : ℕ) (ps : List (List ℕ)) → length ps ≡ n → Packets s ps → (p : ℕ) → p < n → partAt s p (joined ps) ≡ getD ps p []
-part-joined s n ps l w p h = sym (packet-at s n (joined ps) p h) ∙ ap (λ q. getD q p []) (ap (λ k. packets s k (joined ps)) (sym l) ∙ joined-packets s w)
+part-joined s n ps l w p h = sym (packet-at s n (joined ps) p h) ∙ ap (λ q. getD q p []) (packets-of s n l w)

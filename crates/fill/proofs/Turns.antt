@@ -9,7 +9,7 @@ use borrow.Author.Tests.{not-true}
 use lib.Dec.{eqb}
 use lib.ListN.{length, getD, set, take, drop, length-set}
 use lib.Seq.{getD-set-same, getD-set-other, getD-take, take-set-lt, length-take-le}
-use Rattle.lists.specs.ListLaws.{all-map}
+use Rattle.lists.specs.ListLaws.{all-map, all-drop}
 use Rattle.lists.specs.Lists.{has, anyOf, All, All.nil, All.cons}
 use Rattle.lists.specs.Tests.{byBool, eqb-true, eqb-false}
 use Rattle.draws.specs.DrawingLaws.{drawn-low, until-gives}
@@ -72,11 +72,6 @@ pub ends-is : {o o′ : Option State} (ok : Bool) (P : State → Type 0) → o �
 ends-is ok P e p = subst (λ x. Ends x ok P) (sym e) p
 
 -- ---- lists
-all-drop : {X : Type 0} {P : X → Type 0} (n : ℕ) {l : List X} → All P l → All P (drop n l)
-all-drop zero a = a
-all-drop (suc n) nil = nil
-all-drop (suc n) (cons h a) = all-drop n a
-
 any-same : {X : Type 0} (f g : X → Bool) {l : List X} → All (λ x. f x ≡ g x) l → anyOf f l ≡ anyOf g l
 any-same f g nil = refl
 any-same f g (cons h a) = ap₂ (λ x y. x || y) h (any-same f g a)

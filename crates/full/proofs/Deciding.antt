@@ -20,7 +20,7 @@ use Rattle.lists.specs.Tests.{not-same}
 use Rattle.restore.specs.Mending.{Mends}
 use Rattle.restore.specs.declared.Mended.{Mended}
 use Rattle.table.specs.Accepted.{Accepted}
-use Rattle.table.specs.PacketLaws.{joined-packets}
+use Rattle.table.specs.PacketLaws.{packets-of}
 use Rattle.table.specs.Packets.{packets, joined}
 use Rattle.table.specs.Table.{places, size, checks}
 
@@ -41,7 +41,7 @@ module _ (t : List ℕ) (m n s : ℕ) (k : Accepted t m n s) (b l : List ℕ) (l
 
     packets-then : packets (size t) (places t) b₂ ≡ outcome t b l .block
     packets-then = ap (packets (size t) (places t)) (done .block-is ∙ ap (λ v. blockIf v t b l) agree)
-        ∙ ap (λ x. packets (size t) x (joined (outcome t b l .block))) (sym (outcome-length t b l (k .accepted) fits)) ∙ joined-packets (size t) (outcome-sized t b l (k .accepted) fits)
+        ∙ packets-of (size t) (places t) (outcome-length t b l (k .accepted) fits) (outcome-sized t b l (k .accepted) fits)
 
     packets-there : packets s n b₂ ≡ outcome t b l .block
     packets-there = ap₂ (λ x y. packets x y b₂) (k .size-is) (k .places-are) ∙ packets-then
@@ -89,7 +89,7 @@ module _ (t : List ℕ) (m n s : ℕ) (k : Accepted t m n s) (b l : List ℕ) (l
   contradicted fails r e =
       let fail : agreeing t b l ≡ false = sym agreed ∙ fails in
       let left : packets (size t) (places t) b₂ ≡ zeroLost (size t) l (packets (size t) (places t) b) = ap (packets (size t) (places t)) (done .block-is ∙ ap (λ v. blockIf v t b l) fail)
-      ∙ ap (λ x. packets (size t) x (joined (zeroLost (size t) l (packets (size t) (places t) b)))) (sym (start-length t b l (k .accepted) fits)) ∙ joined-packets (size t) (start-sized t b l (k .accepted) fits) in
+      ∙ packets-of (size t) (places t) (start-length t b l (k .accepted) fits) (start-sized t b l (k .accepted) fits) in
       record {
         agrees = e ∙ ap not (sym (contradicted-clashes t b l (k .accepted) fits fail));
         block-is = λ y. absurd (true≢false (sym y ∙ e));

@@ -2,10 +2,9 @@
 use mathlib.Core.Path.{_≡_, refl, sym, ap, ap₂, _∙_}
 use mathlib.Core.Bool.{Bool, true, false}
 use mathlib.Core.List.{List, [], _∷_, map}
-use Prim.Native.Nat.{ℕ}
 use native.Mathlib.Omega.{arith}
 use lib.ListN.{length}
-use Rattle.gf2.specs.Gf2.{Group2, XorGroup, sumOver, comb}
+use Rattle.gf2.specs.Gf2.{Group2, sumOver, comb}
 use Rattle.gf2.specs.Group.{cancel, eq-zero}
 use Rattle.gf2.specs.Independent.{Indep, Indep.empty, Indep.free}
 use Rattle.gf2.specs.Span.{madd, comb-add, Span, Within, Within.none, Within.more}
@@ -58,10 +57,6 @@ module _ {A B : Type 0} (G : Group2 A) (K : Group2 B) {f : A → B} (h : Lin G K
   pub within-image : {X Y : Type 0} (g : X → A) (k : Y → A) (l : List X) (r : List Y) → Within G (map g l) (map k r) → Within K (map (λ x. f (g x)) l) (map (λ y. f (k y)) r)
   within-image g k l [] w = none
   within-image g k l (y ∷ r) (more p w) = more (span-image g l p) (within-image g k l r w)
-
--- a sum of numbers that all go to zero
-pub lin-zero : {A : Type 0} (G : Group2 A) {f : ℕ → A} → Lin XorGroup G f → {R : List ℕ} → All (λ r. f r ≡ G .o) R → (m : List Bool) → f (comb XorGroup m R) ≡ G .o
-lin-zero G h a m = lin-none XorGroup G h a m
 
 module _ {A B : Type 0} (G : Group2 A) (K : Group2 B) where
   -- ---- a sum of independent rows says which rows: so it can be carried over to other rows

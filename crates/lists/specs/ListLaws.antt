@@ -1,12 +1,11 @@
 -- Laws of lists: what holds of all members, membership, being without repeats, the highest that passes; through reversing, joining, filtering and taking.
 use mathlib.Core.List.{List, [], _∷_, map, _++_}
 use mathlib.Core.Path.{_≡_, refl, sym, ap, subst, ap₂, _∙_}
-use Prim.Native.Nat.{ℕ, zero, suc, _<_, _-_, _≤_}
+use Prim.Native.Nat.{ℕ, zero, suc, _<_, _≤_}
 use native.Mathlib.Omega.{arith}
 use lib.Dec.{eqb}
-use lib.ListN.{length, getD, set, replicate, take, length-append}
+use lib.ListN.{length, getD, set, replicate, take, drop, length-append}
 use mathlib.Core.Bool.{Bool, true, false, false≢true, cond, true≢false, _||_, _&&_}
-use mathlib.Core.Logic.{_≢_}
 use mathlib.Core.Option.{Option, none, some}
 use Rattle.lists.specs.Lists.{All, All.nil, All.cons, below, bxor, has, par, filter, highest, Distinct, Distinct.dnil, Distinct.dnew, rev, sameList}
 use Rattle.lists.specs.Tests.{eqb-true, eqb-false, byBool, or-false-l, or-false-r, eqb-self, eqb-comm, eqb-lt, eqb-gt, or-assoc, or-l, or-r}
@@ -146,6 +145,12 @@ all-at d (cons p a) (suc i) h = all-at d a i (omega arith)
 pub all-getD : {P : List ℕ → Type 0} {st : List (List ℕ)} → All P st → (i : ℕ) → i < length st → P (getD st i [])
 all-getD a i h = all-at [] a i h
 
+-- to that of any number, where it holds of what is read outside
+pub all-read : {X : Type 0} {P : X → Type 0} (d : X) {l : List X} → All P l → P d → (i : ℕ) → P (getD l i d)
+all-read d nil o i = o
+all-read d (cons p a) o zero = p
+all-read d (cons p a) o (suc i) = all-read d a o i
+
 pub getD-zeros : (s j : ℕ) → _≡_ {A = ℕ} (getD (replicate s 0) j 0) 0
 getD-zeros zero j = refl
 getD-zeros (suc s) zero = refl
@@ -195,11 +200,16 @@ pub all-unmap : {X Y : Type 0} {Q : Y → Type 0} (f : X → Y) (xs : List X) �
 all-unmap f [] a = nil
 all-unmap f (x ∷ xs) (cons h a) = cons h (all-unmap f xs a)
 
--- a property of the first n
-pub all-take : {P : List ℕ → Type 0} (n : ℕ) {l : List (List ℕ)} → All P l → All P (take n l)
+-- a property of the first n, and of the others
+pub all-take : {X : Type 0} {P : X → Type 0} (n : ℕ) {l : List X} → All P l → All P (take n l)
 all-take zero a = nil
 all-take (suc n) nil = nil
 all-take (suc n) (cons p a) = cons p (all-take n a)
+
+pub all-drop : {X : Type 0} {P : X → Type 0} (n : ℕ) {l : List X} → All P l → All P (drop n l)
+all-drop zero a = a
+all-drop (suc n) nil = nil
+all-drop (suc n) (cons p a) = all-drop n a
 
 -- from every number of the list to all members
 pub all-index : {P : ℕ → Type 0} (l : List ℕ) → ((k : ℕ) → k < length l → P (getD l k 0)) → All P l

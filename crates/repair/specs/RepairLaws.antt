@@ -4,13 +4,14 @@ use mathlib.Core.Bool.{Bool, true, false, cond, not}
 use mathlib.Core.List.{List, [], _∷_, _++_}
 use mathlib.Core.Logic.{_≢_}
 use mathlib.Core.Option.{Option, none}
-use Prim.Native.Nat.{ℕ, zero, suc, _*_, _≤_}
+use Prim.Native.Nat.{ℕ, _*_, _≤_}
 use native.Mathlib.Omega.{arith}
 use borrow.Author.Tests.{eq-eqb, ne-eqb, ltb-false, not-true, not-false}
 use lib.Dec.{eqb, ltb}
 use lib.ListN.{length, getD}
 use Rattle.erasure.specs.Restoring.{zeroLost, outcome, agreeing}
 use Rattle.faults.specs.Faults.{Fault}
+use Rattle.lists.specs.ListLaws.{all-read}
 use Rattle.lists.specs.Lists.{anyOf, All, All.nil, All.cons}
 use Rattle.lists.specs.Tests.{eqb-true, or-false-l, or-false-r}
 use Rattle.repair.specs.Repair.{wrongLengths, byteOver, contradicts, repairCauses, repairRefusal, handedOn, repairBlockAfter, repairMapAfter, Fitting}
@@ -86,9 +87,7 @@ bytes-all [] h = nil
 bytes-all (x ∷ l) h = cons (ltb-false 1 x (or-false-l (ltb 1 x) (anyOf (ltb 1) l) h)) (bytes-all l (or-false-r (ltb 1 x) (anyOf (ltb 1) l) h))
 
 pub byte-at : {map : List ℕ} → All (λ x. x ≤ 1) map → (p : ℕ) → getD map p 0 ≤ 1
-byte-at nil p = omega arith
-byte-at (cons h a) zero = h
-byte-at (cons h a) (suc p) = byte-at a p
+byte-at a p = all-read 0 a (omega arith) p
 
 -- ---- block and map by the refusal
 pub block-accepted : (t b map : List ℕ) → repairRefusal t b map ≡ 0 → repairBlockAfter t b map ≡ joined (outcome t b map .block)

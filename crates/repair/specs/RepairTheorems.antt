@@ -27,7 +27,7 @@ use Rattle.repair.specs.Repair.{repairRefusal, handedOn, refusedWith, re
 use Rattle.repair.specs.RepairLaws.{fitting-refusal, accepted-fits, contradicted-fits, none-handed, bytes-all, byte-at, block-accepted, block-contradicted, map-accepted, map-refused}
 use Rattle.table.specs.Codewords.{IsCodeword}
 use Rattle.table.specs.PacketCall.{partAt}
-use Rattle.table.specs.PacketLaws.{packets-length, packets-sized, joined-packets, joined-length, packet-at}
+use Rattle.table.specs.PacketLaws.{packets-length, packets-sized, packets-of, joined-length, packet-at}
 use Rattle.table.specs.Packets.{Packets, packets, joined, packetSum}
 use Rattle.table.specs.Table.{places, size, checks}
 use Rattle.table.specs.TableLaws.{accepted}
@@ -93,8 +93,7 @@ module _ (t b map : List ℕ) (ok : repairRefusal t b map ≡ 0) where
   part-is p h = ap (partAt (size t) p) (block-accepted t b map ok) ∙ part-joined (size t) (places t) (outcome t b map .block) (outcome-length t b map (fits .table) (fits .block)) (outcome-sized t b map (fits .table) (fits .block)) p h
 
   packets-are : packets (size t) (places t) (repairBlockAfter t b map) ≡ outcome t b map .block
-  packets-are = ap (packets (size t) (places t)) (block-accepted t b map ok) ∙ ap (λ k. packets (size t) k (joined (outcome t b map .block))) (sym (outcome-length t b map (fits .table) (fits .block)))
-      ∙ joined-packets (size t) (outcome-sized t b map (fits .table) (fits .block))
+  packets-are = ap (packets (size t) (places t)) (block-accepted t b map ok) ∙ packets-of (size t) (places t) (outcome-length t b map (fits .table) (fits .block)) (outcome-sized t b map (fits .table) (fits .block))
 
   -- the same of the outcome
   mark-kept : (p : ℕ) → getD map p 0 ≡ 0 → getD (outcome t b map .map) p 0 ≡ 0

@@ -5,7 +5,7 @@ use mathlib.Core.List.{List}
 use mathlib.Core.Option.{none, some}
 use Prim.Native.Nat.{ℕ, _-_, _*_, _≤_}
 use lib.ListN.{length}
-use Rattle.table.specs.PacketLaws.{packets-length, joined-packets}
+use Rattle.table.specs.PacketLaws.{packets-length, packets-of}
 use Rattle.table.specs.Packets.{packets, joined}
 use Rattle.table.specs.Table.{places, size, checks}
 use Rattle.table.specs.Accepted.{Accepted}
@@ -31,8 +31,7 @@ module _ (t : List ℕ) (m n s : ℕ) (k : Accepted t m n s) (b l : List ℕ) (l
   zeroed-then = zeroed ∙ ap₂ (λ x y. joined (zeroLost y l (packets y x b))) (k .places-are) (k .size-is)
 
   packets-then : packets (size t) (places t) b₁ ≡ zeroLost (size t) l (packets (size t) (places t) b)
-  packets-then = ap (packets (size t) (places t)) zeroed-then ∙ ap (λ x. packets (size t) x (joined (zeroLost (size t) l (packets (size t) (places t) b)))) (sym (start-length t b l (k .accepted) fits))
-      ∙ joined-packets (size t) (start-sized t b l (k .accepted) fits)
+  packets-then = ap (packets (size t) (places t)) zeroed-then ∙ packets-of (size t) (places t) (start-length t b l (k .accepted) fits) (start-sized t b l (k .accepted) fits)
 
   state-then : restoring n s (checks t) (stateOf s n b₁ l 0) ≡ outcome t b l
   state-then = ap₂ (λ x y. restoring x y (checks t) (stateOf y x b₁ l 0)) (k .places-are) (k .size-is)
@@ -47,7 +46,7 @@ module _ (t : List ℕ) (m n s : ℕ) (k : Accepted t m n s) (b l : List ℕ) (l
 
   packets-after : packets s n b₂ ≡ outcome t b l .block
   packets-after = ap₂ (λ x y. packets y x b₂) (k .places-are) (k .size-is) ∙ ap (packets (size t) (places t)) block-then
-      ∙ ap (λ x. packets (size t) x (joined (outcome t b l .block))) (sym (outcome-length t b l (k .accepted) fits)) ∙ joined-packets (size t) (outcome-sized t b l (k .accepted) fits)
+      ∙ packets-of (size t) (places t) (outcome-length t b l (k .accepted) fits) (outcome-sized t b l (k .accepted) fits)
 
   look-then : contradiction s (checks t) (stateOf s n b₂ l₂ 0) ≡ contradicting t b l
   look-then = ap₂ (λ ps x. contradiction s (checks t) (record { block = ps; map = x; adds = 0 })) packets-after map-then

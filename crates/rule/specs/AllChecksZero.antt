@@ -11,7 +11,7 @@ use Rattle.lists.specs.Lists.{below, Distinct, rev, has, All, All.nil}
 use Rattle.lists.specs.ListLaws.{all-below, all-rev, all-unrev, all-self, none-has, filter-back, length-rev, distinct-rev, all-unmap, distinct-filter, distinct-below, all-has, below-of, all-zip, map-all, filter-in, all-in, all-map, all-of}
 use Rattle.gf2.specs.GreedyLaws.{choose-indep, choose-spans, all-choose, onto-all, onto-indep, distinct-choose}
 use Rattle.gf2.specs.Independent.{Indep, Indep.empty}
-use Rattle.gf2.specs.Linear.{lin-zero}
+use Rattle.gf2.specs.Linear.{lin-none}
 use Rattle.gf2.specs.MaskLaws.{mask-sums, mask-length}
 use Rattle.gf2.specs.RowValue.{val, val-row, val-lin, row-lt}
 use Rattle.lists.specs.Tests.{byBool}
@@ -137,5 +137,5 @@ module _ (n : ℕ) (cs : List (List ℕ)) (distinct : All Distinct cs) (low : Al
 
     -- the other checks are sums of those kept
     pub codeword : All (λ c. sumOver G end c ≡ G .o) cs
-    codeword = all-map (λ c r. sym (val-row G end n (r .1)) ∙ ap (val G end n) (sym (r .0 .sums)) ∙ lin-zero G (val-lin G end n) rows-zero (r .0 .mask))
+    codeword = all-map (λ c r. sym (val-row G end n (r .1)) ∙ ap (val G end n) (sym (r .0 .sums)) ∙ lin-none XorGroup G (val-lin G end n) rows-zero (r .0 .mask))
         (all-zip (choose-spans XorGroup isZero rowOf isZero-sound refl [] cs) low)

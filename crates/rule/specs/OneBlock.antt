@@ -12,7 +12,7 @@ use Rattle.lists.specs.Tests.{eqb-true, byBool}
 use Rattle.lists.specs.Lists.{below, Distinct, rev, has, minus, All, All.nil, All.cons}
 use Rattle.gf2.specs.GreedyLaws.{all-choose}
 use Rattle.gf2.specs.Group.{sumOver-add, zr, eq-zero}
-use Rattle.gf2.specs.Linear.{lin-zero}
+use Rattle.gf2.specs.Linear.{lin-none}
 use Rattle.lists.specs.ListLaws.{all-rev, all-unrev, all-self, none-has, has-none, all-replicate, has-kept, low-has, getD-has, has-append-none, all-take, all-index, all-zip, all-has, below-of, all-in, map-all, all-getD, getD-zeros, all-every, all-map}
 use Rattle.gf2.specs.Places.{sum-apart}
 use Rattle.gf2.specs.RowValue.{at, val, val-lin, val-pow, val-row, sum-ext-in}
@@ -104,7 +104,7 @@ module _ {A : Type 0} (G : Group2 A) (n : ℕ) (cs : List (List ℕ)) (d : All D
 
     -- so every fitted place is zero
     fitted-zero : All (λ f. x f ≡ o) FF
-    fitted-zero = all-map (λ f r. sym (val-pow G x n f (r .1 .0)) ∙ ap (val G x n) (sym (r .0)) ∙ lin-zero G (val-lin G x n) square-zero (inverse (E n cs d low) FF f))
+    fitted-zero = all-map (λ f r. sym (val-pow G x n f (r .1 .0)) ∙ ap (val G x n) (sym (r .0)) ∙ lin-none XorGroup G (val-lin G x n) square-zero (inverse (E n cs d low) FF f))
         (all-zip (good n cs d low) (free-good n cs d low))
 
     pub zero-block : (p : ℕ) → p < n → x p ≡ o

@@ -8,7 +8,7 @@ use native.Mathlib.Omega.{arith}
 use lib.ListN.{length-append, length-take, length-drop, List·getD-append, length, getD, set, take, drop, replicate}
 use lib.Seq.{take-suc, take-suc-set, take-set-le, take-set-lt, drop-set-lt, drop-set-add, getD-take, getD-drop, getD-append-seam, take-all, drop-drop}
 use Rattle.gf2.specs.Gf2.{XorGroup, add}
-use Rattle.lists.specs.ListLaws.{all-getD, all-set}
+use Rattle.lists.specs.ListLaws.{all-getD, all-set, all-take, all-drop}
 use Rattle.lists.specs.Buffers.{Patched, patched-same, part-length, getD-part, written-bytes, written-length}
 use Rattle.lists.specs.Tests.{side}
 use Rattle.table.specs.BufferLaws.{mixed-whole, place-fits, packet-part, set-written}
@@ -18,7 +18,6 @@ use Rattle.table.specs.Packets.{Packets, joined, mixed}
 use Rattle.lists.specs.Lists.{written}
 use Rattle.table.specs.SumLaws.{part-of-part, part-zeros}
 use Rattle.slots.specs.Slots.{Holds, Among, plusPart, PartAdded, PartsAdded}
-use Rattle.slots.specs.SlotLaws.{all-take, all-drop}
 
 -- ---- one slot written, in bytes and in slots
 module _ (n s : ℕ) (st : List (List ℕ)) (b c : List ℕ) (h : Holds n s st b c) where

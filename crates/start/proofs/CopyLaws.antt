@@ -17,7 +17,7 @@ use Rattle.lists.specs.Lists.{All.cons, has, written}
 use Rattle.lists.specs.Tests.{side, or-false-l, or-false-r}
 use Rattle.lists.specs.WroteLaws.{wrote-none, wrote-append}
 use Rattle.table.specs.BufferLaws.{place-fits, packet-part, set-copied}
-use Rattle.table.specs.PacketLaws.{packets-length, packets-sized, packets-joined, joined-length, joined-packets}
+use Rattle.table.specs.PacketLaws.{packets-length, packets-sized, packets-joined, joined-length, packets-of}
 use Rattle.table.specs.Packets.{Packets, packets, joined}
 use Rattle.plan.specs.declared.Step.{Step}
 use Rattle.plan.specs.Layout.{planPlaces, planGap, infoCount, infoIn, slots}
@@ -25,7 +25,7 @@ use Rattle.plan.specs.LayoutLaws.{Formed, info-length, info-below}
 use Rattle.plan.specs.Steps.{withPackets}
 use Rattle.start.specs.Kept.{OthersKept}
 use Rattle.start.specs.Start.{Together, withInformation, clearsFirst, slotsIn, ClearedFor, PreparedFor}
-use Rattle.start.specs.StartLaws.{set-alike, lengths-alike, with-length, cut-again, slots-length}
+use Rattle.start.specs.StartLaws.{set-alike, lengths-alike, with-length, slots-length}
 
 -- ---- packets at places
 -- into slots that agree at the other places
@@ -76,8 +76,7 @@ copied s n m b information e f p k h l =
     let there : k < length qs = (let z = packets-length s m information in omega arith) in
     ap (packets s n) (ap₂ (λ (y z : List ℕ). written y (p * s) (take s (drop (k * s) z))) (sym (packets-joined s n b e)) (sym (packets-joined s m information f))
     ∙ sym (set-copied s a d p k inside there))
-    ∙ ap (λ (j : ℕ). packets s j (joined x)) (sym long)
-    ∙ joined-packets s (all-set a p (getD qs k []) (all-getD d k there))
+    ∙ packets-of s n long (all-set a p (getD qs k []) (all-getD d k there))
 
 -- a run of packets, to places that follow each other
 module _ (s n m : ℕ) (b information : List ℕ) (lb : length b ≡ n * s) (li : length information ≡ m * s)
@@ -202,7 +201,7 @@ module _ (w : List ℕ) (s : ℕ) (b c : List ℕ) (lb : length b ≡ planPlaces
       same : slotsIn w s (withInformation w s information b) c ≡ withPackets (slotsIn w s b c) I ps
       same =
           ap (λ v. v ++ back)
-          (cut-again s (planPlaces w) (with-sized s front I ps (packets-sized s (planPlaces w) b lb) (packets-sized s (infoCount w) information li)) (with-length front I ps ∙ front-long))
+          (packets-of s (planPlaces w) (with-length front I ps ∙ front-long) (with-sized s front I ps (packets-sized s (planPlaces w) b lb) (packets-sized s (infoCount w) information li)))
           ∙ sym (with-append front back I ps (λ i l. let o = info-length w f in let m = info-below w f i (omega arith) in omega (arith, front-long)))
 
       start : (p : ℕ) → clearsFirst xs p ≡ false → has p I ≡ false → getD (slotsIn w s b c) p [] ≡ getD (replicate (slots w) z) p []

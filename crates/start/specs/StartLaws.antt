@@ -10,14 +10,14 @@ use lib.Dec.{eqb}
 use lib.ListN.{length, getD, set, replicate, length-set, length-append, length-replicate, List·getD-eq-default}
 use lib.Seq.{ext-getD, getD-set-same, getD-set-other, take-at, drop-at}
 use Rattle.gf2.specs.Gf2.{XorGroup, add}
+use Rattle.lists.specs.ListLaws.{all-append}
 use Rattle.lists.specs.Tests.{byBool, side}
-use Rattle.table.specs.PacketLaws.{packets-length, packets-sized, packets-joined, joined-packets}
-use Rattle.table.specs.Packets.{Packets, packets, joined}
+use Rattle.table.specs.PacketLaws.{packets-length, packets-sized, packets-joined}
+use Rattle.table.specs.Packets.{packets, joined}
 use Rattle.plan.specs.declared.Step.{Step}
 use Rattle.plan.specs.declared.Step.the-variants.{Clear, Add}
 use Rattle.plan.specs.Layout.{planPlaces, planGap, infoCount, infoIn, slots}
 use Rattle.plan.specs.Steps.{carryOutAll, withPackets}
-use Rattle.slots.specs.SlotLaws.{all-append}
 use Rattle.slots.specs.Slots.{Holds}
 use Rattle.start.specs.Start.{startOf, clearsFirst, slotsIn, PreparedFor}
 
@@ -62,10 +62,6 @@ with-length st (i ∷ I) [] = refl
 with-length st (i ∷ I) (p ∷ ps) = with-length (set st i p) I ps ∙ length-set st i p
 
 -- ---- the slots that block and scratch hold
--- packets joined and cut again
-pub cut-again : (s n : ℕ) {ps : List (List ℕ)} → Packets s ps → length ps ≡ n → packets s n (joined ps) ≡ ps
-cut-again s n {ps} a e = ap (λ (k : ℕ). packets s k (joined ps)) (sym e) ∙ joined-packets s a
-
 module _ (w : List ℕ) (s : ℕ) (b c : List ℕ) (lb : length b ≡ planPlaces w * s) (lc : length c ≡ planGap w * s) where
   abbrev front : List (List ℕ)
   front = packets s (planPlaces w) b

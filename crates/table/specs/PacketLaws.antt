@@ -1,7 +1,7 @@
 -- Laws of packets: a block as bytes in a row and as packets, and sums byte by byte.
 use mathlib.Core.Path.{_≡_, refl, sym, ap, ap₂, _∙_}
 use mathlib.Core.List.{List, [], _∷_, _++_, append-assoc}
-use Prim.Native.Nat.{ℕ, zero, suc, _+_, _*_, _-_, _<_}
+use Prim.Native.Nat.{ℕ, zero, suc, _+_, _*_, _<_}
 use native.Mathlib.Omega.{arith}
 use lib.Bits.{bitXor}
 use lib.ListN.{length-replicate, length, getD, set, take, drop, length-append, length-drop, take-append-drop}
@@ -37,6 +37,9 @@ packets-joined s (suc n) b l = ap (λ r. take s b ++ r) (packets-joined s n (dro
 pub joined-packets : (s : ℕ) {ps : List (List ℕ)} → Packets s ps → packets s (length ps) (joined ps) ≡ ps
 joined-packets s nil = refl
 joined-packets s (cons {x = p} {l = ps} e a) = ap₂ _∷_ (take-at p (joined ps) s e) (ap (packets s (length ps)) (drop-at p (joined ps) s e) ∙ joined-packets s a)
+
+pub packets-of : (s n : ℕ) {ps : List (List ℕ)} → length ps ≡ n → Packets s ps → packets s n (joined ps) ≡ ps
+packets-of s n {ps} l a = ap (λ k. packets s k (joined ps)) (sym l) ∙ joined-packets s a
 
 -- the packet of a place is the part of s bytes at place times s
 pub packet-at : (s n : ℕ) (b : List ℕ) (p : ℕ) → p < n → getD (packets s n b) p [] ≡ take s (drop (p * s) b)

@@ -10,7 +10,7 @@ use Rattle.lists.specs.ListLaws.{all-in, getD-has}
 use Rattle.table.specs.Table.{places, size, checks, refusal}
 use Rattle.table.specs.TableLaws.{Good, accepted}
 use Rattle.table.specs.Packets.{Packets, packets, joined, Codeword}
-use Rattle.table.specs.PacketLaws.{packets-length, packets-sized, packets-joined, joined-packets, joined-length, packet-at}
+use Rattle.table.specs.PacketLaws.{packets-length, packets-sized, packets-joined, packets-of, joined-length, packet-at}
 use Rattle.table.specs.PacketCall.{partAt}
 use Rattle.plan.specs.declared.Step.{Step}
 use Rattle.plan.specs.declared.Step.the-variants.{Clear, Add}
@@ -174,7 +174,7 @@ module _ (t : List ℕ) (ok : refusal t ≡ 0) where
       -- there and back
       back : packets s n (joined (block n s (checks t) ps)) ≡ block n s (checks t) ps
       unfolding planOf numbersOf
-      back = ap (λ m. packets s m (joined (block n s (checks t) ps))) (sym (made .long)) ∙ joined-packets s (made .sized)
+      back = packets-of s n (made .long) (made .sized)
 
       made-carries : Carries t (numbersOf t) information (joined (block n s (checks t) ps))
       unfolding planOf numbersOf
