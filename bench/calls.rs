@@ -349,6 +349,23 @@ mod receiver {
         }
     }
 
+    /// The library's repair.
+    fn repair(lent: &mut Lent, map: &mut [u8]) -> model::Repaired {
+        let bytes = lent.bytes();
+        let Lent { table, slots, .. } = lent;
+        let block = &mut slots[..bytes];
+        unsafe {
+            bs_repair(
+                table.as_ptr(),
+                table.len(),
+                block.as_mut_ptr(),
+                block.len(),
+                map.as_mut_ptr(),
+                map.len(),
+            )
+        }
+    }
+
     /// The map of a block of which so many of a hundred places are lost.
     fn received_map(lent: &Lent, share: usize) -> Vec<u8> {
         let n = lent.table[1] as usize;
@@ -436,19 +453,7 @@ mod receiver {
             self.map.copy_from_slice(&self.received);
         }
         fn library(&mut self) {
-            let bytes = self.lent.bytes();
-            let Lent { table, slots, .. } = &mut self.lent;
-            let block = &mut slots[..bytes];
-            let answer = unsafe {
-                bs_repair(
-                    table.as_ptr(),
-                    table.len(),
-                    block.as_mut_ptr(),
-                    block.len(),
-                    self.map.as_mut_ptr(),
-                    self.map.len(),
-                )
-            };
+            let answer = repair(&mut self.lent, &mut self.map);
             assert_eq!(answer, self.answer);
         }
         fn real(&mut self) {
@@ -516,19 +521,7 @@ mod receiver {
         }
         /// As many restored and lost, by peeling alone.
         fn old_repair(&mut self) {
-            let bytes = self.lent.bytes();
-            let Lent { table, slots, .. } = &mut self.lent;
-            let block = &mut slots[..bytes];
-            let answer = unsafe {
-                bs_repair(
-                    table.as_ptr(),
-                    table.len(),
-                    block.as_mut_ptr(),
-                    block.len(),
-                    self.map.as_mut_ptr(),
-                    self.map.len(),
-                )
-            };
+            let answer = repair(&mut self.lent, &mut self.map);
             assert_eq!(answer.restored, self.answer.restored);
             assert_eq!((answer.refusal, answer.lost, self.answer.lost), (0, 0, 0));
         }
