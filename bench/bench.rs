@@ -1,6 +1,6 @@
 //! Benchmarks of the libraries' calls, as ratios within one run. Built with
 //! --cfg uplink (plan, encode), --cfg receiver (repair, full repair, verify),
-//! --cfg tables (make), or some of them.
+//! --cfg tables (make, read, write), or some of them.
 //!
 //! A round is one call of each kind in turn: the library's, the pure
 //! exclusive-or of as many additions on hot packets, the same additions at
@@ -28,11 +28,27 @@ use std::time::{Duration, Instant};
 /// usual one.
 const MADE: [[usize; 4]; 2] = [[512, 1024, 10, 1], [800, 1000, 3, 12_345]];
 
+/// The tables that are read and written as text: the largest, six ones a column
+/// and twelve a row, and a staircase.
+fn texts() -> [(&'static str, Vec<u16>); 2] {
+    let row = |c: usize| {
+        let mut row: Vec<usize> =
+            (0..6).flat_map(|k| [(c + 85 * k) % 512, 512 + (c + 37 * k * k) % 512]).collect();
+        row.sort();
+        row
+    };
+    let checks: Vec<Vec<usize>> = (0..512).map(row).collect();
+    let largest = model::table_words(1024, 64, &checks);
+    assert_eq!(largest.len(), 5 + 512 + 6144);
+    [("largest", largest), ("staircase", table("staircase", 1024, 512, 64))]
+}
+
 // ---------------------------------------------------------------- measuring
 
 /// Microseconds, and the ratios to the pure exclusive-or on hot packets and
-/// over the real block, and to plain Rust. Plan, full repair and make have only
-/// the last; where peeling alone restores it is the ratio to repair.
+/// over the real block, and to plain Rust. Plan, full repair, make, read and
+/// write have only the last; where peeling alone restores it is the ratio to
+/// repair.
 struct Figures {
     time: f64,
     limits: Option<[Ratio; 2]>,
@@ -119,12 +135,14 @@ fn calls_of(kind: &str, table: &[u16]) -> Vec<(&'static str, Box<dyn Call>)> {
 
 /// The most that the ratios may be where n is 1,024 and the block is warm: to
 /// the pure exclusive-or at s 64 and at s 1,024, and to plain Rust. Full repair
-/// has its mark to plain elimination at s 1,024 only. Make has its mark for each
-/// table that is made.
+/// has its mark to plain elimination at s 1,024 only. Make, read and write have
+/// their mark for each table.
 fn marks_of(call: &str, kind: &str, s: usize) -> Option<(Option<[f64; 2]>, f64)> {
     match (call, kind) {
         ("plan", _) => Some((None, 1.3)),
         ("make", _) => Some((None, 3.0)),
+        ("read", _) => Some((None, 6.5)),
+        ("write", _) => Some((None, 2.5)),
         ("encode", "few") => Some((None, 0.8)),
         ("encode", "regular") => Some((Some([1.75, 1.35]), 0.75)),
         ("encode", _) => Some((Some([2.1, 1.6]), 0.85)),
@@ -217,6 +235,20 @@ fn main() {
         let made = measure(&mut calls::Staircase::new(set), 64, true, millis(2000));
         report.row(&format!("{name}, ones {ones}"), "make", "-", 64, &made);
         report.marks.extend(mark_lines("make", &name, 64, &made));
+    }
+    #[cfg(tables)]
+    for (kind, table) in texts() {
+        let name = format!("{kind} 1024 512");
+        eprintln!("{:4} s: text of {name}", start.elapsed().as_secs());
+        let calls: [(&str, Box<dyn Call>); 2] = [
+            ("read", Box::new(calls::AlistRead::new(&table))),
+            ("write", Box::new(calls::AlistWrite::new(&table))),
+        ];
+        for (call, mut with) in calls {
+            let figures = measure(&mut *with, 64, true, millis(2000));
+            report.row(&name, call, "-", 64, &figures);
+            report.marks.extend(mark_lines(call, kind, 64, &figures));
+        }
     }
     eprintln!("{:4} s: done", start.elapsed().as_secs());
     report.print();

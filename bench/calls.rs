@@ -13,7 +13,7 @@ pub use uplink::{Encode, Plan};
 pub use receiver::{FullRepair, Repair, Verify};
 
 #[cfg(tables)]
-pub use tables::Staircase;
+pub use tables::{AlistRead, AlistWrite, Staircase};
 
 use crate::gen::Rng;
 use crate::model;
@@ -610,6 +610,19 @@ mod tables {
             table: *mut u16,
             table_len: usize,
         ) -> model::Made;
+        fn bs_alist_read(
+            text: *const u8,
+            text_len: usize,
+            size: usize,
+            table: *mut u16,
+            table_len: usize,
+        ) -> model::Made;
+        fn bs_alist_write(
+            table: *const u16,
+            table_len: usize,
+            text: *mut u8,
+            text_len: usize,
+        ) -> model::Made;
     }
 
     /// No packets here: the making of one table.
@@ -654,6 +667,95 @@ mod tables {
             let [sources, packets, ones, seed] = black_box(self.set);
             let answer = plain::staircase(sources, packets, ones, seed, 64, &mut self.table);
             assert_eq!(answer, self.answer);
+        }
+        fn packets(&self) -> Vec<&[u8]> {
+            Vec::new()
+        }
+    }
+
+    /// The alist text of a table, read.
+    pub struct AlistRead {
+        text: Vec<u8>,
+        table: Vec<u16>,
+        answer: model::Made,
+    }
+
+    impl AlistRead {
+        /// Both readers give the same table, and keep the rest of the buffer.
+        pub fn new(table: &[u16]) -> Self {
+            let text = model::alist_text(&model::look_over(table).unwrap()).into_bytes();
+            let answer = model::Made { refusal: 0, length: table.len() as u32 };
+            let mut call = AlistRead { text, table: Vec::new(), answer };
+            let mut expected = table.to_vec();
+            expected.resize(model::TABLE_BUFFER, 7);
+            for by in [Self::library, Self::plain] {
+                call.table = vec![7; model::TABLE_BUFFER];
+                by(&mut call);
+                assert!(call.table == expected, "another table");
+            }
+            call
+        }
+    }
+
+    impl Call for AlistRead {
+        fn additions(&self) -> usize {
+            0
+        }
+        fn library(&mut self) {
+            let AlistRead { text, table, answer } = self;
+            let read = unsafe {
+                bs_alist_read(text.as_ptr(), text.len(), 64, table.as_mut_ptr(), table.len())
+            };
+            assert_eq!(read, *answer);
+        }
+        fn real(&mut self) {}
+        fn plain(&mut self) {
+            let read = plain::alist_read(black_box(&self.text), 64, &mut self.table);
+            assert_eq!(read, self.answer);
+        }
+        fn packets(&self) -> Vec<&[u8]> {
+            Vec::new()
+        }
+    }
+
+    /// The alist text of a table, written.
+    pub struct AlistWrite {
+        table: Vec<u16>,
+        text: Vec<u8>,
+        answer: model::Made,
+    }
+
+    impl AlistWrite {
+        /// Both writers give the same text, and keep the rest of the buffer.
+        pub fn new(table: &[u16]) -> Self {
+            let mut expected = model::alist_text(&model::look_over(table).unwrap()).into_bytes();
+            let answer = model::Made { refusal: 0, length: expected.len() as u32 };
+            expected.resize(expected.len() + 100, 7);
+            let mut call = AlistWrite { table: table.to_vec(), text: Vec::new(), answer };
+            for by in [Self::library, Self::plain] {
+                call.text = vec![7; expected.len()];
+                by(&mut call);
+                assert!(call.text == expected, "another text");
+            }
+            call
+        }
+    }
+
+    impl Call for AlistWrite {
+        fn additions(&self) -> usize {
+            0
+        }
+        fn library(&mut self) {
+            let AlistWrite { table, text, answer } = self;
+            let written = unsafe {
+                bs_alist_write(table.as_ptr(), table.len(), text.as_mut_ptr(), text.len())
+            };
+            assert_eq!(written, *answer);
+        }
+        fn real(&mut self) {}
+        fn plain(&mut self) {
+            let written = plain::alist_write(black_box(&self.table), &mut self.text);
+            assert_eq!(written, self.answer);
         }
         fn packets(&self) -> Vec<&[u8]> {
             Vec::new()

@@ -1,5 +1,5 @@
-//! Repair, full repair, verification, encoding and the staircase maker in plain
-//! Rust, for comparison.
+//! Repair, full repair, verification, encoding, the staircase maker and alist
+//! texts in plain Rust, for comparison.
 
 use crate::model::{Encoded, FullyRepaired, Made, Repaired, Verified};
 use crate::model::{MAX_CHECKS, MAX_GAP, MAX_ONES, MAX_PLACES, MAX_SIZE, MAX_STEPS, MAX_WEIGHT};
@@ -538,4 +538,158 @@ pub fn staircase(
         next += row.len();
     }
     Made { refusal: 0, length: next as u32 }
+}
+
+// ------------------------------------------------------------ alist texts
+
+/// The numbers of a text; none if something else stands in it.
+fn numbers(text: &[u8]) -> Option<Vec<u32>> {
+    let mut numbers = Vec::with_capacity(text.len() / 3);
+    let (mut value, mut digits) = (0, 0);
+    for byte in text {
+        match byte {
+            b'0'..=b'9' if digits < 6 => {
+                value = 10 * value + (byte - b'0') as u32;
+                digits += 1;
+            }
+            b' ' | b'\n' | b'\r' => {
+                if digits > 0 {
+                    numbers.push(value);
+                }
+                (value, digits) = (0, 0);
+            }
+            _ => return None,
+        }
+    }
+    if digits > 0 {
+        numbers.push(value);
+    }
+    Some(numbers)
+}
+
+/// Sorts the entries of each list. None if one is outside 1 to most or stands
+/// twice, if there is other padding than 0, or for a wrong greatest weight.
+fn sort_lists(lists: &mut [u32], weights: &[u32], greatest: usize, most: u32) -> Option<()> {
+    if weights.iter().copied().max().unwrap_or(0) as usize != greatest {
+        return None;
+    }
+    for (list, weight) in lists.chunks_mut(greatest.max(1)).zip(weights) {
+        let (entries, padding) = list.split_at_mut(*weight as usize);
+        entries.sort_unstable();
+        let ascending = entries.windows(2).all(|pair| pair[0] < pair[1]);
+        let in_range = entries.first() != Some(&0) && entries.last() <= Some(&most);
+        if !ascending || !in_range || padding.iter().any(|number| *number != 0) {
+            return None;
+        }
+    }
+    Some(())
+}
+
+/// Whether sorted lists of columns are those that the rows make.
+fn agree(columns: &[u32], weights: &[u32], a: usize, rows: &[u32], b: usize) -> bool {
+    let mut met = vec![0; weights.len()];
+    for (row, list) in (1..).zip(rows.chunks(b.max(1))) {
+        for column in list.iter().take_while(|column| **column > 0).map(|c| *c as usize - 1) {
+            let at = met[column];
+            if at == weights[column] || columns[column * a + at as usize] != row {
+                return false;
+            }
+            met[column] += 1;
+        }
+    }
+    met == weights
+}
+
+pub fn alist_read(text: &[u8], size: usize, table: &mut [u16]) -> Made {
+    let Some(mut numbers) = numbers(text) else { return Made::refused(12) };
+    if numbers.len() < 4 {
+        return Made::refused(12);
+    }
+    let (sizes, rest) = numbers.split_at_mut(4);
+    let [n, m, a, b] = [0, 1, 2, 3].map(|i| sizes[i] as usize);
+    if rest.len() != n + m + n * a + m * b {
+        return Made::refused(12);
+    }
+    let (weights, lists) = rest.split_at_mut(n + m);
+    let (column_weights, row_weights) = weights.split_at(n);
+    let (columns, rows) = lists.split_at_mut(n * a);
+    if sort_lists(columns, column_weights, a, m as u32).is_none()
+        || sort_lists(rows, row_weights, b, n as u32).is_none()
+    {
+        return Made::refused(12);
+    }
+    if !agree(columns, column_weights, a, rows, b) {
+        return Made::refused(13);
+    }
+    if n == 0 || n > MAX_PLACES || size == 0 || size > MAX_SIZE || m > MAX_CHECKS {
+        return Made::refused(2);
+    }
+    let ones = row_weights.iter().sum::<u32>() as usize;
+    if b > MAX_WEIGHT || ones > MAX_ONES {
+        return Made::refused(3);
+    }
+    if table.len() != 6_661 {
+        return Made::refused(5);
+    }
+    table[..4].copy_from_slice(&[2, n as u16, size as u16, m as u16]);
+    table[4 + m] = ones as u16;
+    for (word, weight) in table[4..].iter_mut().zip(row_weights) {
+        *word = *weight as u16;
+    }
+    let entries = rows.iter().filter(|column| **column > 0);
+    for (word, column) in table[5 + m..].iter_mut().zip(entries) {
+        *word = *column as u16 - 1;
+    }
+    Made { refusal: 0, length: (5 + m + ones) as u32 }
+}
+
+fn put_number(text: &mut Vec<u8>, number: usize) {
+    if number >= 10 {
+        put_number(text, number / 10);
+    }
+    text.push(b'0' + (number % 10) as u8);
+}
+
+/// Numbers with blanks between them, then a line feed.
+fn put_line(text: &mut Vec<u8>, numbers: impl Iterator<Item = usize>) {
+    for (i, number) in numbers.enumerate() {
+        if i > 0 {
+            text.push(b' ');
+        }
+        put_number(text, number);
+    }
+    text.push(b'\n');
+}
+
+pub fn alist_write(table: &[u16], text: &mut [u8]) -> Made {
+    let t = match look_over(table) {
+        Ok(t) => t,
+        Err(cause) => return Made::refused(cause),
+    };
+    let mut columns = vec![Vec::new(); t.n];
+    for c in 0..t.m {
+        for p in t.check(c) {
+            columns[*p as usize].push(c + 1);
+        }
+    }
+    let a = columns.iter().map(Vec::len).max().unwrap_or(0);
+    let b = (0..t.m).map(|c| t.check(c).len()).max().unwrap_or(0);
+    let mut written = Vec::new();
+    put_line(&mut written, [t.n, t.m].into_iter());
+    put_line(&mut written, [a, b].into_iter());
+    put_line(&mut written, columns.iter().map(Vec::len));
+    put_line(&mut written, (0..t.m).map(|c| t.check(c).len()));
+    let zeros = std::iter::repeat(0);
+    for list in &columns {
+        put_line(&mut written, list.iter().copied().chain(zeros.clone()).take(a));
+    }
+    for c in 0..t.m {
+        let places = t.check(c).iter().map(|p| *p as usize + 1);
+        put_line(&mut written, places.chain(zeros.clone()).take(b));
+    }
+    if text.len() < written.len() {
+        return Made::refused(5);
+    }
+    text[..written.len()].copy_from_slice(&written);
+    Made { refusal: 0, length: written.len() as u32 }
 }

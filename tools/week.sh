@@ -3,7 +3,8 @@
 # packets lost on the way, repaired, verified, and put together again. Ends with status 0 if the file comes back byte for byte.
 #
 #   tools/week.sh            builds the programs first
-#   tools/week.sh DIR        takes staircase_file, planlist, encode_file, repair_file, full_repair_file and verify_file from DIR
+#   tools/week.sh DIR        takes staircase_file, table_to_alist, alist_to_table, planlist, encode_file, repair_file, full_repair_file and
+#                            verify_file from DIR
 
 set -eu
 root=$(cd "$(dirname "$0")/.." && pwd)
@@ -13,7 +14,7 @@ else
     bin=$root/target/bin
     mkdir -p "$root/target"
     # a line for each crate as it is done; the whole log only where something fails
-    { cd "$root" && rt check staircase_file planlist encode_file repair_file full_repair_file verify_file 2>&1; echo $? >"$root/target/week.status"; } |
+    { cd "$root" && rt check staircase_file table_to_alist alist_to_table planlist encode_file repair_file full_repair_file verify_file 2>&1; echo $? >"$root/target/week.status"; } |
         tee "$root/target/week.log" | grep '^rt: ' || true
     [ "$(cat "$root/target/week.status")" = 0 ] || {
         cat "$root/target/week.log"
@@ -43,27 +44,40 @@ lose() {
     awk -v first=$2 -v count=$3 'BEGIN { for (p = 0; p < 64; p++) print (p >= first && p < first + count) }' | bytes >map
 }
 
-# refuses WORDS ARGUMENT..: staircase_file must say the words on standard error, and neither print nor write anything
+# refuses WORDS PROGRAM ARGUMENT..: the program must say the words on standard error, and neither print nor write anything
 refuses() {
     words=$1
-    shift
-    said "staircase_file $*" '' "$("$bin/staircase_file" "$@" none 2>errors)"
-    said "staircase_file $*" "$words" "$(cat errors)"
-    [ ! -e none ] || { echo "staircase_file $*: wrote a file"; exit 1; }
+    program=$2
+    shift 2
+    said "$program $*" '' "$("$bin/$program" "$@" none 2>errors)"
+    said "$program $*" "$words" "$(cat errors)"
+    [ ! -e none ] || { echo "$program $*: wrote a file"; exit 1; }
 }
 
 # A small table, number by number, low byte first; and arguments of which no table is made.
 said 'staircase_file' 'table of 28 numbers, 4 checks, 19 ones' "$("$bin/staircase_file" 4 8 3 1 1 small)"
 said 'the small table' '2 8 1 4 4 5 5 5 19 0 1 3 4 0 2 3 4 5 0 1 2 5 6 1 2 3 6 7' \
     "$(echo $(od -An -v -tu1 small | awk '{ for (i = 1; i < NF; i += 2) print $i + 256 * $(i + 1) }'))"
-refuses 'refused 11' 4 8 3 2147483647 1
-refuses 'refused 2' 4 8 3 1 1025
-refuses 'refused 3' 64 67 3 1 1
-refuses 'SEED is not a decimal number below 2^64' 4 8 3 -1 1
-refuses 'SIZE is not a decimal number below 2^64' 4 8 3 1 18446744073709551616
+refuses 'refused 11' staircase_file 4 8 3 2147483647 1
+refuses 'refused 2' staircase_file 4 8 3 1 1025
+refuses 'refused 3' staircase_file 64 67 3 1 1
+refuses 'SEED is not a decimal number below 2^64' staircase_file 4 8 3 -1 1
+refuses 'SIZE is not a decimal number below 2^64' staircase_file 4 8 3 1 18446744073709551616
 
 # The week's table: 40 sources among 64 packets of 64 bytes, three ones in a source column, seed 1.
 said 'staircase_file' 'table of 196 numbers, 24 checks, 167 ones' "$("$bin/staircase_file" 40 64 3 1 64 table)"
+
+# goes out as alist text and comes back the same; texts of which no table is made, and a file that is no table
+said 'table_to_alist' 'text of 1151 bytes' "$("$bin/table_to_alist" table text)"
+said 'alist_to_table' 'table of 196 numbers, 24 checks, 167 ones' "$("$bin/alist_to_table" text 64 again)"
+cmp again table
+echo "alist text: $(wc -c <text) bytes, read as the same table"
+tr ' ' '\t' <text >tabs
+refuses 'refused 12: *' alist_to_table tabs 64
+echo '2 1 1 1 1 0 1 1 0 2' >one_sided
+refuses 'refused 13: *' alist_to_table one_sided 64
+refuses 'refused 2: *' alist_to_table text 1025
+refuses 'refused 3: *' table_to_alist tabs
 
 # and a correction file of 9,000 bytes
 awk 'BEGIN { x = 1; for (i = 0; i < 9000; i++) { x = (x * 75 + 74) % 65537; print x % 256 } }' | bytes >corrections

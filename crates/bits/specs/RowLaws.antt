@@ -5,10 +5,14 @@ use Prim.Native.Nat.{ℕ, zero, suc, _+_, _*_, _-_, _/_, _%_, _^_, _<_}
 use native.Mathlib.Nat.{mod-lt, suc-mul, zero-mul}
 use native.Mathlib.Omega.{arith}
 use lib.Arith.{digits-lt}
+use lib.Bits.{bitXor}
+use lib.Dec.{eqb}
 use lib.ListN.{getD}
 use lib.Pow.{pow-pos, pow-add, shr-shr, high, low, field, mod-mod-pow}
+use Rattle.lists.specs.Lists.{bxor}
+use Rattle.lists.specs.Tests.{bxor-comm}
 use Rattle.gf2.specs.Gf2.{bit, odd}
-use Rattle.gf2.specs.Bit.{bit-is}
+use Rattle.gf2.specs.Bit.{bit-adds, bit-is, bit-pow}
 use Rattle.bits.specs.Row.{num, row, RowPut}
 
 -- ---- digits of a number cut in two
@@ -78,3 +82,7 @@ put-self w r = record { len = refl; here = refl; rest = λ j n. refl }
 
 pub put-is : {w : List ℕ} {r x y : ℕ} {e : List ℕ} → RowPut w r x e → x ≡ y → RowPut w r y e
 put-is p h = record { len = p .len; here = p .here ∙ h; rest = p .rest }
+
+-- place p of row r is flipped
+pub flip-bit : {w e : List ℕ} {r : ℕ} (p : ℕ) → RowPut w r (bitXor (row w r) (2 ^ p)) e → (q : ℕ) → bit q (row e r) ≡ bxor (eqb q p) (bit q (row w r))
+flip-bit {w} {e} {r} p f q = ap (bit q) (f .here) ∙ bit-adds q (row w r) (2 ^ p) ∙ ap (bxor (bit q (row w r))) (bit-pow q p) ∙ bxor-comm (bit q (row w r)) (eqb q p)

@@ -6,12 +6,12 @@ use Prim.Native.Nat.{ℕ, _+_, _-_, _<_, _≤_}
 use native.Mathlib.Omega.{arith}
 use lib.ListN.{length, getD, set, take, drop}
 use lib.Seq.{getD-set-same, getD-set-other}
+use Rattle.lists.specs.ListLaws.{filter-less}
 use Rattle.lists.specs.Tests.{side}
 use Rattle.lists.specs.Buffers.{part-length}
 use Rattle.table.specs.Checks.{offset, check}
 use Rattle.erasure.specs.Restoring.{lostPlaces, isLost}
 use Rattle.table.specs.Accepted.{Accepted, light, places-at}
-use Rattle.erasure.specs.LostLaws.{filter-less}
 
 -- check j as the code has it
 module _ (t : List ℕ) (m n s : ℕ) (k : Accepted t m n s) (j : ℕ) (h : j < m) (a w : ℕ) (at : a ≡ 5 + m + offset t j) (weight : w ≡ getD t (4 + j) 0) where

@@ -1,14 +1,13 @@
 -- The plan's sections from the buffers: the information places that the marks leave, and the four parts of the steps.
 use mathlib.Core.Path.{_≡_, refl, sym, ap, ap₂, _∙_}
-use mathlib.Core.Bool.{Bool, not}
+use mathlib.Core.Bool.{not}
 use mathlib.Core.List.{List, [], _∷_, _++_, map, append-nil}
 use Prim.Native.Nat.{ℕ, _+_, _<_, _≤_}
 use native.Mathlib.Omega.{arith}
 use lib.ListN.{length, take, replicate, length-replicate, length-map}
 use lib.Seq.{length-take-le}
-use Rattle.lists.specs.Lists.{below, rev, has, filter, minus}
-use Rattle.lists.specs.ListLaws.{length-below, length-rev}
-use Rattle.lists.specs.Tests.{byBool}
+use Rattle.lists.specs.Lists.{below, rev, has, minus}
+use Rattle.lists.specs.ListLaws.{filter-less, length-below, length-rev}
 use Rattle.table.specs.Accepted.{few-places}
 use Rattle.table.specs.Checks.{check}
 use Rattle.table.specs.Table.{mostPlaces, places, number}
@@ -23,12 +22,8 @@ use Rattle.compose.specs.Compose.{gapSteps, Phases}
 use Rattle.compose.proofs.Fitting.{fitting-is, fitted-low}
 
 -- ---- the information places
-filter-few : (f : ℕ → Bool) (l : List ℕ) → length (filter f l) ≤ length l
-filter-few f [] = omega arith
-filter-few f (x ∷ l) = let ih = filter-few f l in byBool (f x) (λ e. rw (e, filter) (omega arith)) (λ e. rw (e, filter) (omega arith))
-
 pub info-few : (n : ℕ) (X : List ℕ) → length (minus (rev (below n)) X) ≤ n
-info-few n X = let a = filter-few (λ p. not (has p X)) (rev (below n)) in let b = length-rev (below n) in let c = length-below n in omega arith
+info-few n X = let a = filter-less (λ p. not (has p X)) (rev (below n)) in let b = length-rev (below n) in let c = length-below n in omega arith
 
 module _ (n : ℕ) (us fs : List ℕ) (taken g : ℕ) (u : Below n us taken) (f : Below n fs g) (h : n ≤ mostPlaces) (m₁ m₂ : List ℕ)
     (e₁ : m₁ ≡ marking (replicate mostPlaces 0) (take g fs)) (e₂ : m₂ ≡ marking m₁ (take taken us)) where

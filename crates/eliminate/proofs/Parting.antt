@@ -3,11 +3,9 @@ use mathlib.Core.Path.{_≡_, sym, ap, _∙_, subst}
 use mathlib.Core.Bool.{true, false, not, cond}
 use mathlib.Core.List.{List, [], _∷_, _++_, append-nil}
 use Prim.Native.Nat.{ℕ, _+_, _^_, _<_}
-use native.Mathlib.Numerals.{add-one}
-use native.Mathlib.Omega.{arith}
 use lib.Bits.{bitXor, xor-zero-r}
-use lib.ListN.{length, getD, set, take, drop, length-drop}
-use lib.Seq.{take-suc, getD-drop}
+use lib.ListN.{length, getD, set, take, drop}
+use Rattle.lists.specs.Buffers.{part-snoc}
 use Rattle.lists.specs.ListLaws.{filter-append}
 use Rattle.gf2.specs.Gf2.{XorGroup, rowOf}
 use Rattle.gf2.specs.Group.{sumOver-append}
@@ -18,12 +16,6 @@ use Rattle.bits.specs.RowLaws.{put-put, put-is}
 use Rattle.decided.specs.Decided.{lostRow}
 use Rattle.eliminate.specs.Eliminating.{receivedPlaces}
 
--- one place more
-pub take-more : (t : List ℕ) (at i : ℕ) → at + i < length t → take (i + 1) (drop at t) ≡ take i (drop at t) ++ (getD t (at + i) 0 ∷ [])
-take-more t at i h =
-    let long : i < length (drop at t) = simp length-drop (omega arith) in
-    rw add-one (take-suc (drop at t) i 0 long ∙ ap (λ v. take i (drop at t) ++ (v ∷ [])) (getD-drop at t i 0))
-
 module _ (lost t : List ℕ) (at i p : ℕ) (h : at + i < length t) (e : p ≡ getD t (at + i) 0) where
   abbrev c : List ℕ
   c = take i (drop at t)
@@ -31,8 +23,9 @@ module _ (lost t : List ℕ) (at i p : ℕ) (h : at + i < length t) (e : p ≡ g
   abbrev d : List ℕ
   d = take (i + 1) (drop at t)
 
+  -- one place more
   more : d ≡ c ++ (p ∷ [])
-  more = take-more t at i h ∙ ap (λ v. c ++ (v ∷ [])) (sym e)
+  more = part-snoc t at i h ∙ ap (λ v. c ++ (v ∷ [])) (sym e)
 
   -- what the place adds to its part
   lost-more : lostPlaces lost d ≡ lostPlaces lost c ++ cond (isLost lost p) (p ∷ []) []

@@ -1,6 +1,6 @@
 -- The lost places of a check: place by place, and after one is restored.
 use mathlib.Core.Path.{_≡_, refl, sym, ap, _∙_, subst}
-use mathlib.Core.Bool.{Bool, true, false, cond, true≢false}
+use mathlib.Core.Bool.{true, false, cond, true≢false}
 use mathlib.Core.List.{List, [], _∷_}
 use mathlib.Core.Logic.{_≢_}
 use Prim.Native.Nat.{ℕ, suc, _+_, _-_, _<_, _≤_}
@@ -11,15 +11,10 @@ use lib.Dec.{eqb}
 use lib.ListN.{length, getD, set, take, drop}
 use lib.Seq.{drop-cons, getD-set-same, getD-set-other}
 use Rattle.lists.specs.Tests.{eqb-true, eqb-self, or-false-l, or-false-r, byBool}
-use Rattle.lists.specs.Lists.{Distinct, Distinct.dnil, Distinct.dnew, has, filter}
+use Rattle.lists.specs.Lists.{Distinct, Distinct.dnil, Distinct.dnew, has}
 use Rattle.table.specs.Checks.{Places}
 use Rattle.erasure.specs.Restoring.{lostPlaces, isLost}
 use Rattle.erasure.specs.RestoringLaws.{lost-inside}
-
--- no more pass than there are
-pub filter-less : (f : ℕ → Bool) (c : List ℕ) → length (filter f c) ≤ length c
-filter-less f [] = omega arith
-filter-less f (x ∷ c) = let h = filter-less f c in byBool (f x) (λ e. rw e (omega arith)) (λ e. rw e (omega arith))
 
 pub drop-next : (l : List ℕ) (i : ℕ) → i < length l → drop i l ≡ getD l i 0 ∷ drop (i + 1) l
 drop-next l i h = rw (add-one, drop-cons l i 0)

@@ -4,7 +4,8 @@ use mathlib.Core.List.{List, [], _∷_, _++_}
 use Prim.Native.Nat.{ℕ, _/_, _%_}
 use Prim.Native.String.{String}
 use Rattle.planner.specs.Planning.{planOf, planningRefusalAt}
-use Rattle.text.specs.Lines.{digitsWithin, bytes}
+use Rattle.numerals.specs.Numerals.{digitsWithin}
+use Rattle.text.specs.Lines.{bytes}
 use Rattle.listing.specs.Listing.{listing, tableText}
 
 -- a table's file: "low byte first"

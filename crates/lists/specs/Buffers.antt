@@ -1,11 +1,12 @@
 -- Laws of buffers: a part written, number by number.
 use mathlib.Core.Path.{_≡_, refl, sym, ap, _∙_}
-use mathlib.Core.List.{List, _++_, append-nil}
+use mathlib.Core.List.{List, [], _∷_, _++_, append-nil}
 use mathlib.Core.Logic.{_⊎_, ⊎-elim}
 use Prim.Native.Nat.{ℕ, _+_, _-_, _<_, _≤_}
+use native.Mathlib.Numerals.{add-one}
 use native.Mathlib.Omega.{arith}
 use lib.ListN.{length, getD, take, drop, length-append, length-take, length-drop, List·getD-append, drop-of-length-le}
-use lib.Seq.{getD-take, getD-drop, getD-append-add, ext-getD}
+use lib.Seq.{getD-take, getD-drop, getD-append-add, ext-getD, take-suc}
 use Rattle.lists.specs.Lists.{written}
 use Rattle.lists.specs.Tests.{side}
 
@@ -20,6 +21,12 @@ part-length b at s h = simp (length-take, length-drop) (omega arith)
 -- its bytes
 pub getD-part : (b : List ℕ) (at s i : ℕ) → i < s → getD (take s (drop at b)) i 0 ≡ getD b (at + i) 0
 getD-part b at s i h = getD-take s (drop at b) i 0 h ∙ getD-drop at b i 0
+
+-- one number more
+pub part-snoc : (t : List ℕ) (at i : ℕ) → at + i < length t → take (i + 1) (drop at t) ≡ take i (drop at t) ++ (getD t (at + i) 0 ∷ [])
+part-snoc t at i h =
+    let long : i < length (drop at t) = simp length-drop (omega arith) in
+    rw add-one (take-suc (drop at t) i 0 long ∙ ap (λ v. take i (drop at t) ++ (v ∷ [])) (getD-drop at t i 0))
 
 -- e is b with n bytes from at on that are f's
 pub record Patched (b : List ℕ) (at n : ℕ) (f : ℕ → ℕ) (e : List ℕ) : Type 0 where

@@ -5,10 +5,10 @@ use Prim.Native.Nat.{ℕ, zero, suc, _<_, _≤_}
 use native.Mathlib.Omega.{arith}
 use lib.Dec.{eqb}
 use lib.ListN.{length, getD, set, replicate, take, drop, length-append}
-use mathlib.Core.Bool.{Bool, true, false, false≢true, cond, true≢false, _||_, _&&_}
+use mathlib.Core.Bool.{Bool, true, false, false≢true, cond, true≢false, not, _||_, _&&_}
 use mathlib.Core.Option.{Option, none, some}
-use Rattle.lists.specs.Lists.{All, All.nil, All.cons, below, bxor, has, par, filter, highest, Distinct, Distinct.dnil, Distinct.dnew, rev, sameList}
-use Rattle.lists.specs.Tests.{eqb-true, eqb-false, byBool, or-false-l, or-false-r, eqb-self, eqb-comm, eqb-lt, eqb-gt, or-assoc, or-l, or-r}
+use Rattle.lists.specs.Lists.{All, All.nil, All.cons, allDiffer, allPass, anyOf, below, bxor, has, par, filter, highest, Distinct, Distinct.dnil, Distinct.dnew, rev, sameList}
+use Rattle.lists.specs.Tests.{eqb-true, eqb-false, byBool, or-false-l, or-false-r, eqb-self, eqb-comm, eqb-lt, eqb-gt, or-assoc, or-l, or-r, and-l, and-r}
 
 pub all-map : {X : Type 0} {P Q : X → Type 0} → ((x : X) → P x → Q x) → {l : List X} → All P l → All Q l
 all-map h nil = nil
@@ -88,6 +88,16 @@ all-every {I} {X} {P} (x ∷ l) h = cons (λ j. hd (h j)) (all-every l (λ j. tl
 
 pub par-has : (p : ℕ) (c : List ℕ) → par p c ≡ true → has p c ≡ true
 par-has p c h = byBool (has p c) (λ e. e) (λ e. absurd (true≢false (sym h ∙ has-par p c e)))
+
+-- of different numbers each stands there once
+pub differ-par : (l : List ℕ) → allDiffer l ≡ true → (p : ℕ) → par p l ≡ has p l
+differ-par [] d p = refl
+differ-par (x ∷ l) d p = let n = and-l (not (has x l)) (allDiffer l) d in let r = differ-par l (and-r (not (has x l)) (allDiffer l) d) p in byBool (eqb p x)
+    (λ e. let z : has p l ≡ false = ap (λ y. has y l) (eqb-true p x e) ∙ not-has n in rw e (ap (bxor true) (has-par p l z)))
+    (λ e. rw e r)
+  where
+    not-has : not (has x l) ≡ true → has x l ≡ false
+    not-has n = byBool (has x l) (λ t. absurd (true≢false (sym n ∙ ap not t))) (λ f. f)
 
 some-inj : {a b : ℕ} → _≡_ {A = Option ℕ} (some a) (some b) → a ≡ b
 some-inj e = cc
@@ -191,7 +201,7 @@ all-append nil b = b
 all-append (cons p a) b = cons p (all-append a b)
 
 -- of copies of one
-pub all-replicate : {P : List ℕ → Type 0} (k : ℕ) (x : List ℕ) → P x → All P (replicate k x)
+pub all-replicate : {X : Type 0} {P : X → Type 0} (k : ℕ) (x : X) → P x → All P (replicate k x)
 all-replicate zero x p = nil
 all-replicate (suc k) x p = cons p (all-replicate k x p)
 
@@ -363,6 +373,11 @@ pub filter-same : (f g : ℕ → Bool) {l : List ℕ} → All (λ x. f x ≡ g x
 filter-same f g nil = refl
 filter-same f g (cons {x = x} {l = l} e a) = ap₂ (λ b r. cond b (x ∷ r) r) e (filter-same f g a)
 
+-- no more pass than there are
+pub filter-less : (f : ℕ → Bool) (c : List ℕ) → length (filter f c) ≤ length c
+filter-less f [] = omega arith
+filter-less f (x ∷ c) = let h = filter-less f c in byBool (f x) (λ e. rw e (omega arith)) (λ e. rw e (omega arith))
+
 -- ---- a member of two parts; no member above all, or of none
 pub has-append : (p : ℕ) (l m : List ℕ) → has p (l ++ m) ≡ (has p l || has p m)
 has-append p [] m = refl
@@ -380,3 +395,26 @@ has-empty (x ∷ l) h p = absurd (omega arith)
 pub map-same : {X Y : Type 0} (f g : X → Y) {l : List X} → All (λ x. f x ≡ g x) l → map f l ≡ map g l
 map-same f g nil = refl
 map-same f g (cons h a) = ap₂ _∷_ h (map-same f g a)
+
+-- what stands at a number of a mapped list
+pub map-at : {X Y : Type 0} (f : X → Y) (l : List X) (j : ℕ) (e : X) (d : Y) → j < length l → getD (map f l) j d ≡ f (getD l j e)
+map-at f [] j e d h = absurd (omega arith)
+map-at f (x ∷ l) zero e d h = refl
+map-at f (x ∷ l) (suc j) e d h = map-at f l j e d (omega arith)
+
+-- ---- a test that every member passes, and one that none does
+pub all-pass : {X : Type 0} (f : X → Bool) {l : List X} → All (λ x. f x ≡ true) l → allPass f l ≡ true
+all-pass f nil = refl
+all-pass f (cons h a) = rw h (all-pass f a)
+
+pub pass-all : {X : Type 0} (f : X → Bool) (l : List X) → allPass f l ≡ true → All (λ x. f x ≡ true) l
+pass-all f [] h = nil
+pass-all f (x ∷ l) h = cons (and-l (f x) (allPass f l) h) (pass-all f l (and-r (f x) (allPass f l) h))
+
+pub any-none : {X : Type 0} (f : X → Bool) {l : List X} → All (λ x. f x ≡ false) l → anyOf f l ≡ false
+any-none f nil = refl
+any-none f (cons h a) = rw h (any-none f a)
+
+pub none-any : {X : Type 0} (f : X → Bool) (l : List X) → anyOf f l ≡ false → All (λ x. f x ≡ false) l
+none-any f [] h = nil
+none-any f (x ∷ l) h = cons (or-false-l (f x) (anyOf f l) h) (none-any f l (or-false-r (f x) (anyOf f l) h))

@@ -47,6 +47,11 @@ abbrev pub has : ℕ → List ℕ → Bool
 has p [] = false
 has p (q ∷ c) = eqb p q || has p c
 
+-- no number stands there twice
+abbrev pub allDiffer : List ℕ → Bool
+allDiffer [] = true
+allDiffer (x ∷ l) = not (has x l) && allDiffer l
+
 -- p stands there an odd number of times
 abbrev pub par : ℕ → List ℕ → Bool
 par p [] = false

@@ -2,13 +2,14 @@
 use mathlib.Core.Path.{_≡_, refl, sym, ap, ap₂, _∙_}
 use mathlib.Core.Bool.{Bool, true, false}
 use mathlib.Core.List.{[], _∷_, _++_, map}
+use mathlib.Core.Logic.{_↔_}
 use Prim.Native.Nat.{ℕ, zero, suc, _+_, _-_, _<_, _≤_}
 use native.Mathlib.Numerals.{add-one}
 use native.Mathlib.Omega.{arith}
 use lib.Dec.{eqb}
 use lib.ListN.{length, getD}
-use Rattle.lists.specs.Lists.{All, All.nil, All.cons, below, from, filter, has, rev}
-use Rattle.lists.specs.ListLaws.{all-map, has-filter, has-kept}
+use Rattle.lists.specs.Lists.{All, All.nil, All.cons, anyOf, below, from, filter, has, rev}
+use Rattle.lists.specs.ListLaws.{all-map, all-in, any-none, none-any, has-filter, has-kept}
 use Rattle.lists.specs.Tests.{byBool, eqb-false, eqb-lt, or-r}
 
 pub from-length : (i c : ℕ) → length (from i c) ≡ c
@@ -81,3 +82,10 @@ map-from-at {A} f d c j h = go 0 c j h ∙ ap f {x = 0 + j} {y = j} (omega arith
     go i zero j h = absurd (omega arith)
     go i (suc c) zero h = ap f {x = i} {y = i + 0} (omega arith)
     go i (suc c) (suc j) h = go (suc i) c j (omega arith) ∙ ap f {x = suc i + j} {y = i + suc j} (omega arith)
+
+-- none below n passes
+pub any-from : (f : ℕ → Bool) (n : ℕ) → (anyOf f (from 0 n) ≡ false) ↔ ((p : ℕ) → p < n → f p ≡ false)
+any-from f n = (
+  (λ e p h. all-in (λ x. f x ≡ false) p (from-has 0 n p (omega arith) (omega arith)) (none-any f (from 0 n) e)),
+  (λ g. any-none f (all-map (λ p h. let u = h .1 in g p (omega arith)) (from-all 0 n))),
+)

@@ -56,6 +56,11 @@ pub or-assoc : (a b c : Bool) → ((a || b) || c) ≡ (a || (b || c))
 or-assoc true b c = refl
 or-assoc false b c = refl
 
+-- the second of two fails
+pub and-false : (a b : Bool) → b ≡ false → (a && b) ≡ false
+and-false true b e = e
+and-false false b e = refl
+
 pub not-same : (a b : Bool) → not a ≡ not b → a ≡ b
 not-same true true e = refl
 not-same true false e = sym e
@@ -70,6 +75,13 @@ and-l false b e = absurd (false≢true e)
 pub and-r : (a b : Bool) → (a && b) ≡ true → b ≡ true
 and-r true b e = e
 and-r false b e = absurd (false≢true e)
+
+-- both pass; neither does
+pub and-both : (a b : Bool) → a ≡ true → b ≡ true → (a && b) ≡ true
+and-both a b e f = rw e f
+
+pub or-neither : (a b : Bool) → a ≡ false → b ≡ false → (a || b) ≡ false
+or-neither a b e f = rw e f
 
 pub byOpt : {A P : Type 0} (x : Option A) → ((a : A) → x ≡ some a → P) → (x ≡ none → P) → P
 byOpt (some a) f g = f a refl
@@ -90,6 +102,12 @@ bxor-comm false false = refl
 pub bxor-self : (a : Bool) → bxor a a ≡ false
 bxor-self true = refl
 bxor-self false = refl
+
+-- not exactly one: alike
+pub bxor-none : (a b : Bool) → bxor a b ≡ false → a ≡ b
+bxor-none true true e = refl
+bxor-none true false e = e
+bxor-none false b e = sym e
 
 -- one number is below the other or not
 pub side : (m n : ℕ) → (m < n) ⊎ (n ≤ m)

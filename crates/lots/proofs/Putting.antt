@@ -7,29 +7,24 @@ use lib.Bits.{bitXor}
 use lib.Dec.{eqb}
 use borrow.Author.Tests.{not-true, ne-eqb}
 use Rattle.lists.specs.Lists.{bxor}
-use Rattle.lists.specs.Tests.{byBool, bxor-comm, eqb-self, eqb-true, eqb-false}
-use Rattle.gf2.specs.Bit.{bit-adds, bit-pow}
+use Rattle.lists.specs.Tests.{byBool, eqb-self, eqb-true, eqb-false}
 use Rattle.gf2.specs.Gf2.{bit}
 use Rattle.bits.specs.Row.{row, RowPut}
-use Rattle.bits.specs.RowLaws.{row-other}
+use Rattle.bits.specs.RowLaws.{flip-bit, row-other}
 use Rattle.lots.specs.Grid.{free, Put}
 
 module _ (w : List ℕ) (r j : ℕ) (e : List ℕ) (p : RowPut w r (bitXor (row w r) (2 ^ j)) e) where
-  -- the places of row r
-  flipped-bit : (q : ℕ) → bit q (row e r) ≡ bxor (eqb q j) (bit q (row w r))
-  flipped-bit q = ap (bit q) (p .here) ∙ bit-adds q (row w r) (2 ^ j) ∙ ap (bxor (bit q (row w r))) (bit-pow q j) ∙ bxor-comm (bit q (row w r)) (eqb q j)
-
   -- another place is kept
   other : (i q : ℕ) → (i ≡ r → q ≡ j → ⊥) → free e q i ≡ free w q i
   other i q n = byBool (eqb i r)
       (λ t. let a = eqb-true i r t in let u = ne-eqb q j (n a) in
-      ap (free e q) a ∙ ap not (flipped-bit q ∙ ap (λ b. bxor b (bit q (row w r))) u) ∙ ap (free w q) (sym a))
+      ap (free e q) a ∙ ap not (flip-bit j p q ∙ ap (λ b. bxor b (bit q (row w r))) u) ∙ ap (free w q) (sym a))
       (λ t. ap (λ x. not (bit q x)) (row-other p i (eqb-false i r t)))
 
   pub flip-puts : free w j r ≡ true → Put w r j e
   flip-puts h = record {
     len = p .len;
-    here = ap not (flipped-bit j ∙ ap₂ bxor (eqb-self j) (not-true (bit j (row w r)) h));
+    here = ap not (flip-bit j p j ∙ ap₂ bxor (eqb-self j) (not-true (bit j (row w r)) h));
     rest = λ i q l n. other i q n;
   }
 

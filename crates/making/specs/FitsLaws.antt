@@ -1,13 +1,14 @@
 -- Checks that pass the makers' tests make a table that is accepted.
 use mathlib.Core.Path.{_≡_}
 use mathlib.Core.Bool.{true, false}
-use mathlib.Core.List.{List, [], _∷_}
+use mathlib.Core.List.{List}
 use Prim.Native.Nat.{ℕ, _≤_}
 use native.Mathlib.Omega.{arith}
 use borrow.Author.Tests.{ltb-false, eqb-false}
 use lib.Dec.{eqb, ltb}
 use lib.ListN.{length}
-use Rattle.lists.specs.Lists.{anyOf, All, All.nil, All.cons}
+use Rattle.lists.specs.ListLaws.{all-map, none-any}
+use Rattle.lists.specs.Lists.{anyOf, All}
 use Rattle.lists.specs.Tests.{or-false-l, or-false-r}
 use Rattle.table.specs.Table.{ones, rising, outside, beyond}
 use Rattle.making.specs.WrittenAccepted.{Fits}
@@ -19,8 +20,7 @@ some-of x e = let z = eqb-false x 0 e in omega arith
 
 -- no weight over the limit
 light-all : (cs : List (List ℕ)) → anyOf (λ c. ltb 64 (length c)) cs ≡ false → All (λ c. length c ≤ 64) cs
-light-all [] h = nil
-light-all (c ∷ cs) h = cons (ltb-false 64 (length c) (or-false-l (ltb 64 (length c)) _ h)) (light-all cs (or-false-r (ltb 64 (length c)) _ h))
+light-all cs h = all-map (λ c e. ltb-false 64 (length c) e) (none-any (λ c. ltb 64 (length c)) cs h)
 
 -- n, s and m within their limits
 pub record Inside (n s m : ℕ) : Type 0 where

@@ -1,7 +1,9 @@
+pub mod AcceptedWritten
 pub mod FitsLaws
 pub mod Making
 pub mod MakingLaws
 pub mod ReadBack
+pub mod Rows
 pub mod Sorted
 pub mod WrittenAccepted
 pub mod Written

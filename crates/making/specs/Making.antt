@@ -16,20 +16,20 @@ tableWords = 6661
 abbrev pub tooHeavy : List (List ℕ) → Bool
 tooHeavy cs = anyOf (λ c. ltb mostWeight (length c)) cs || ltb mostOnes (ones cs)
 
--- the refusal, 0 for none, and how many numbers the table has; 0 on refusal
+-- the refusal, 0 for none, and how many numbers the table has, or bytes the text; 0 on refusal
 pub record MakeAnswer : Type 0 where
   pub refusal : ℕ
   pub length : ℕ
 
--- the answer of a call that refuses with r or makes the table t
+-- the answer of a call that refuses with r or makes the table, or the text, t
 abbrev pub makeAnswerAt : ℕ → List ℕ → MakeAnswer
 makeAnswerAt zero t = record { refusal = 0; length = length t }
 makeAnswerAt (suc r) t = record { refusal = suc r; length = 0 }
 
--- "only the table's length is written": the table buffer b after the call; on refusal as it was
-abbrev pub makeTableAfter : ℕ → List ℕ → List ℕ → List ℕ
-makeTableAfter zero t b = written b 0 t
-makeTableAfter (suc r) t b = b
+-- "only the table's length is written": the buffer b after the call; on refusal as it was
+abbrev pub makeBufferAfter : ℕ → List ℕ → List ℕ → List ℕ
+makeBufferAfter zero t b = written b 0 t
+makeBufferAfter (suc r) t b = b
 
 -- what the code answers
 abbrev pub makeAnswerOf : Made → MakeAnswer

@@ -9,13 +9,23 @@ ghost use Rattle.table.specs.LookOver.{weighed};
 ghost use Rattle.table.specs.Table.{ones as onesOf};
 ghost use Rattle.bits.specs.Row.{row, placesIn, rowsIn};
 ghost use Rattle.bits.specs.WordPlaces.{placesOf};
-ghost use Rattle.making.specs.Making.{tableWords};
+ghost use Rattle.making.specs.Making.{tableWords, makeAnswerOf};
 ghost use Rattle.making.specs.Written.{flat, tableOf};
 
-// the refusal, 0 for none, and how many numbers the table has
+// the refusal, 0 for none, and how many numbers the table has, or bytes the text
 pub struct Made {
     pub refusal: u32,
     pub length: u32,
+}
+
+// a refusal: nothing is written
+pub fn refused(number: u32) -> Made
+    ensures { λ r. ⌜ makeAnswerOf r ≡ record { refusal = number; length = 0 } ⌝ }
+{
+    Made {
+        refusal: number,
+        length: 0,
+    }
 }
 
 // the ones of the first m rows; 65,536, which no table has, if a row has more than 64

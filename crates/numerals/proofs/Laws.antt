@@ -5,12 +5,12 @@ use mathlib.Core.List.{List, [], _∷_}
 use Prim.Native.Nat.{ℕ, suc, _+_, _-_, _*_, _≤_, _<_}
 use native.Mathlib.Numerals.{add-one}
 use native.Mathlib.Omega.{arith}
-use borrow.Author.Tests.{le-leb, lt-leb, leb-true, eq-eqb, ne-eqb}
+use borrow.Author.Tests.{le-leb, lt-leb, eq-eqb, ne-eqb}
 use lib.Dec.{eqb, leb}
 use lib.ListN.{length, getD, drop, drop-of-length-le}
 use lib.Seq.{drop-cons}
 use Rattle.lists.specs.Lists.{allPass}
-use Rattle.lists.specs.Tests.{and-l, and-r}
+use Rattle.lists.specs.Tests.{and-false}
 use Rattle.numerals.specs.declared.Number.the-variants.{Nothing, Is}
 use Rattle.numerals.specs.Numerals.{mostNumber, isDigit, valueAfter, isNumber, numberOf}
 
@@ -20,9 +20,6 @@ too-low b h = rw (lt-leb 48 b h) refl
 
 pub not-low : (b : ℕ) → 48 ≤ b → leb b 57 ≡ isDigit b
 not-low b h = rw (le-leb 48 b h) refl
-
-pub digit-range : (b : ℕ) → isDigit b ≡ true → (48 ≤ b) × (b ≤ 57)
-digit-range b e = (leb-true 48 b (and-l (leb 48 b) (leb b 57) e), leb-true b 57 (and-r (leb 48 b) (leb b 57) e))
 
 -- ---- no number, and a number
 none : (text : List ℕ) → isNumber text ≡ false → Nothing ≡ numberOf text
@@ -34,15 +31,12 @@ grows : (x : ℕ) (text : List ℕ) → x ≤ valueAfter x text
 grows x [] = omega arith
 grows x (b ∷ text) = let h = grows (x * 10 + (b - 48)) text in omega arith
 
--- a conjunction that fails by a part
+-- a conjunction that fails by its second or third part
 second-fails : (a b c : Bool) → b ≡ false → (a && (b && c)) ≡ false
-second-fails true b c e = rw e refl
-second-fails false b c e = refl
+second-fails a b c e = and-false a (b && c) (rw e)
 
 third-fails : (a b c : Bool) → c ≡ false → (a && (b && c)) ≡ false
-third-fails true true c e = e
-third-fails true false c e = refl
-third-fails false b c e = refl
+third-fails a b c e = and-false a (b && c) (and-false b c e)
 
 pub empty-none : (text : List ℕ) → length text ≡ 0 → Nothing ≡ numberOf text
 empty-none text e = none text (rw (eq-eqb (length text) 0 e) refl)

@@ -1,2 +1,3 @@
+pub mod NumeralLaws
 pub mod Numerals
 pub mod NumeralsCases

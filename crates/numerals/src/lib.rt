@@ -9,7 +9,7 @@ pub enum Number {
 }
 
 // whether a byte is a decimal digit
-fn is_digit(byte: u8) -> bool
+pub fn is_digit(byte: u8) -> bool
     ensures { λ r. ⌜ r ≡ isDigit byte ⌝ }
 {
     48 <= byte && byte <= 57

@@ -4,7 +4,8 @@ use mathlib.Core.List.{List, [], _∷_, _++_}
 use Prim.Native.Nat.{ℕ}
 use Rattle.plan.specs.Layout.{infoIn, stepsOf}
 use Rattle.plan.specs.Step.{addSteps}
-use Rattle.text.specs.Lines.{bytes, decimal, wordsAfterBlanks}
+use Rattle.numerals.specs.Numerals.{decimal}
+use Rattle.text.specs.Lines.{bytes, wordsAfterBlanks}
 use Rattle.plan_text.specs.PlanText.{heading, infoLine, stepLines, addsLine}
 
 abbrev pub fromGap : ℕ → List ℕ

@@ -11,7 +11,8 @@ use Rattle.plan.specs.declared.Decoded.{Decoded}
 use Rattle.plan.specs.declared.Decoded.the-variants.{Valid, Invalid}
 use Rattle.plan.specs.declared.Step.{Step}
 use Rattle.plan.specs.Step.{unpack, unpackAll, decodedOf}
-use Rattle.text.specs.Lines.{bytes, decimal, wordsAfterBlanks}
+use Rattle.numerals.specs.Numerals.{decimal}
+use Rattle.text.specs.Lines.{bytes, wordsAfterBlanks}
 use Rattle.text.specs.LinesLaws.{Left}
 use Rattle.plan_text.specs.PlanText.{numberText, stepLines}
 use Rattle.plan_text.specs.PlanTextLaws.{lines-of}

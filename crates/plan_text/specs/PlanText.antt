@@ -7,7 +7,8 @@ use Rattle.plan.specs.declared.Step.{Step}
 use Rattle.plan.specs.declared.Step.the-variants.{Clear, Add}
 use Rattle.plan.specs.Step.{addSteps}
 use Rattle.plan.specs.Layout.{planPlaces, planSize, planGap, planKept, infoIn, stepsOf}
-use Rattle.text.specs.Lines.{bytes, decimal, line}
+use Rattle.numerals.specs.Numerals.{decimal}
+use Rattle.text.specs.Lines.{bytes, line}
 
 -- ---- the lines
 -- "places 4 size 1 kept 3 ones 9 gap 1"

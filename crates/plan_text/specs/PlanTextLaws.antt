@@ -11,8 +11,9 @@ use Rattle.plan.specs.Step.{addSteps, stepOf, unpack, unpackAll}
 use Rattle.table.specs.Table.{mostPlaces, mostBytes, mostChecks, mostOnes}
 use Rattle.plan.specs.Layout.{mostAside, planPlaces, planSize, planGap, planKept, planRefusal, infoIn, stepsIn, stepsOf}
 use Rattle.plan.specs.LayoutLaws.{well, info-length, info-below, steps-in, steps-length}
-use Rattle.text.specs.Lines.{decimal, wordsAfterBlanks}
-use Rattle.text.specs.LinesLaws.{decimal-few, decimal-most}
+use Rattle.numerals.specs.NumeralLaws.{decimal-few, decimal-most}
+use Rattle.numerals.specs.Numerals.{decimal}
+use Rattle.text.specs.Lines.{wordsAfterBlanks}
 use Rattle.plan_text.specs.PlanText.{heading, stepLines, numberText, refusedLine, planTextOf, mostText}
 
 -- ---- the longest lines

@@ -8,7 +8,8 @@ ghost use lib.ListN.{length};
 ghost use Rattle.plan.specs.declared.Step.the-variants.{Add};
 ghost use Rattle.plan.specs.Step.{addSteps, unpack};
 ghost use Rattle.plan.specs.Layout.{planRefusal, infoIn, stepsOf};
-ghost use Rattle.text.specs.Lines.{Appended, decimal, bytes, wordsAfterBlanks};
+ghost use Rattle.numerals.specs.Numerals.{decimal};
+ghost use Rattle.text.specs.Lines.{Appended, bytes, wordsAfterBlanks};
 ghost use Rattle.plan_text.specs.PlanText.{heading, infoLine, stepLine, stepLines, numberText, refusedLine, planTextOf};
 
 // ---- lines, each written from at on; where it ends

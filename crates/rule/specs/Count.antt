@@ -6,6 +6,7 @@ use Prim.Native.Nat.{ℕ, suc, _+_, _*_, _≤_}
 use native.Mathlib.Omega.{arith}
 use lib.Dec.{eqb}
 use lib.ListN.{length, length-append, length-map}
+use Rattle.lists.specs.ListLaws.{filter-less}
 use Rattle.lists.specs.Tests.{eqb-comm, byBool}
 use Rattle.lists.specs.Lists.{has, filter, minus, All, All.nil, All.cons}
 use Rattle.table.specs.Table.{ones}
@@ -25,15 +26,11 @@ pub count-fill : (to : ℕ) (c : List ℕ) → addSteps (clearAndAdd to c) ≡ l
 count-fill to [] = refl
 count-fill to (p ∷ c) = ap suc (count-fill to c)
 
-filter-le : (f : ℕ → Bool) (c : List ℕ) → length (filter f c) ≤ length c
-filter-le f [] = omega arith
-filter-le f (x ∷ c) = let h = filter-le f c in byBool (f x) (λ e. rw (e, filter) (omega arith)) (λ e. rw (e, filter) (omega arith))
-
 -- a check without its own place is shorter
 minus-own : (p : ℕ) (F c : List ℕ) → has p c ≡ true → suc (length (minus c (p ∷ F))) ≤ length c
 minus-own p F [] h = absurd (false≢true h)
 minus-own p F (q ∷ c) h = byBool (eqb p q)
-    (λ e. let b = filter-le (λ x. not (has x (p ∷ F))) c in rw (eqb-comm q p, e) (omega arith))
+    (λ e. let b = filter-less (λ x. not (has x (p ∷ F))) c in rw (eqb-comm q p, e) (omega arith))
     (λ e. let b = minus-own p F c (rw e at h) in byBool (not (has q (p ∷ F))) (λ t. rw (t, filter) (omega arith)) (λ t. rw (t, filter) (omega arith)))
 
 -- the ones of the solved checks
@@ -54,7 +51,7 @@ pub count-scratch : (i : ℕ) (F : List ℕ) (cs : List (List ℕ)) → addSteps
 count-scratch i F [] = omega arith
 count-scratch i F (c ∷ cs) =
     let ih = count-scratch (suc i) F cs in
-    let b = filter-le (λ x. not (has x F)) c in
+    let b = filter-less (λ x. not (has x F)) c in
     rw (count-append (clearAndAdd i (minus c F)) (scratchSteps (suc i) F cs), count-fill i (minus c F)) (omega arith)
 
 named-le : (i : ℕ) (m : List Bool) → length (slotsNamed i m) ≤ length m

@@ -9,7 +9,7 @@ use borrow.Author.Tests.{ne-eqb, eq-eqb}
 use lib.ListN.{length}
 use Rattle.lists.specs.Lists.{Wrote}
 use Rattle.table.specs.Table.{beyond}
-use Rattle.making.specs.Making.{tableWords, tooHeavy, makeAnswerAt, makeTableAfter}
+use Rattle.making.specs.Making.{tableWords, tooHeavy, makeAnswerAt, makeBufferAfter}
 use Rattle.making.specs.Written.{tableOf}
 use Rattle.fill.specs.Fill.{State}
 use Rattle.staircase.specs.Staircase.{leftSide, checksMade, badParameters, staircaseRefusalAt, staircaseTable, staircaseAnswer, staircaseTableAfter}
@@ -26,7 +26,7 @@ module _ (k n ones seed s : ℕ) (b : List ℕ) where
   refuses : (r : ℕ) → staircaseRefusalAt k n ones seed s (length b) ≡ suc r → Answered k n ones seed s b (suc r) 0 b
   refuses r e = record {
     answer = sym (ap (λ x. makeAnswerAt x (staircaseTable k n ones seed s)) e);
-    table = sym (ap (λ x. makeTableAfter x (staircaseTable k n ones seed s) b) e);
+    table = sym (ap (λ x. makeBufferAfter x (staircaseTable k n ones seed s) b) e);
   }
 
   -- a table
@@ -35,7 +35,7 @@ module _ (k n ones seed s : ℕ) (b : List ℕ) where
       let y : l ≡ length (staircaseTable k n ones seed s) = w .next ∙ (let x : 0 + length (staircaseTable k n ones seed s) ≡ length (staircaseTable k n ones seed s) = omega arith in x) in
       record {
         answer = ap (λ x. record { refusal = 0; length = x }) y ∙ sym (ap (λ x. makeAnswerAt x (staircaseTable k n ones seed s)) z);
-        table = w .list ∙ sym (ap (λ x. makeTableAfter x (staircaseTable k n ones seed s) b) z);
+        table = w .list ∙ sym (ap (λ x. makeBufferAfter x (staircaseTable k n ones seed s) b) z);
       }
 
   -- ---- by the causes

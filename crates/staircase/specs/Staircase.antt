@@ -8,7 +8,7 @@ use lib.Dec.{eqb, ltb, leb}
 use lib.ListN.{length, take}
 use Rattle.table.specs.FirstCause.{firstCause, wrongLength}
 use Rattle.table.specs.Table.{outside, beyond}
-use Rattle.making.specs.Making.{tableWords, tooHeavy, MakeAnswer, makeAnswerAt, makeTableAfter}
+use Rattle.making.specs.Making.{tableWords, tooHeavy, MakeAnswer, makeAnswerAt, makeBufferAfter}
 use Rattle.making.specs.Written.{tableOf}
 use Rattle.fill.specs.Fill.{State, fill}
 use Rattle.staircase.specs.Stairs.{checksOf}
@@ -73,7 +73,7 @@ module _ (k n ones seed s : ℕ) (buffer : List ℕ) where
 
   -- the table buffer afterwards
   abbrev pub staircaseTableAfter : List ℕ
-  staircaseTableAfter = makeTableAfter staircaseRefusal (staircaseTable k n ones seed s) buffer
+  staircaseTableAfter = makeBufferAfter staircaseRefusal (staircaseTable k n ones seed s) buffer
 
   -- the table to be lent on: as many numbers of the buffer as the answer says
   abbrev pub staircaseLent : List ℕ

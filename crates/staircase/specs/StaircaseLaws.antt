@@ -16,7 +16,7 @@ use Rattle.table.specs.FirstCause.{NoneHolds}
 use Rattle.table.specs.FirstCauseLaws.{none-of}
 use Rattle.table.specs.Table.{places, size, checks, rising, beyond, refusal}
 use Rattle.making.specs.FitsLaws.{fits-from}
-use Rattle.making.specs.Making.{tooHeavy, makeAnswerAt, makeTableAfter}
+use Rattle.making.specs.Making.{tooHeavy, makeAnswerAt, makeBufferAfter}
 use Rattle.making.specs.MakingLaws.{table-lent}
 use Rattle.making.specs.ReadBack.{checks-back}
 use Rattle.making.specs.Sorted.{rising-low}
@@ -139,7 +139,7 @@ module _ (k n ones seed s : ℕ) where
     -- the table that is lent on is the staircase's ..
     pub table-written : staircaseLent k n ones seed s buffer ≡ staircaseTable k n ones seed s
     table-written =
-        ap (λ r. take (makeAnswerAt r (staircaseTable k n ones seed s) .length) (makeTableAfter r (staircaseTable k n ones seed s) buffer)) made
+        ap (λ r. take (makeAnswerAt r (staircaseTable k n ones seed s) .length) (makeBufferAfter r (staircaseTable k n ones seed s) buffer)) made
         ∙ table-lent (staircaseTable k n ones seed s) buffer
 
     -- .. and as it should be

@@ -79,16 +79,6 @@ fn put_stairs(w: &mut [u64], k: usize, m: usize)
     }
 }
 
-// a refusal: nothing is written
-fn refused(number: u32) -> Made
-    ensures { λ r. ⌜ makeAnswerOf r ≡ record { refusal = number; length = 0 } ⌝ }
-{
-    Made {
-        refusal: number,
-        length: 0,
-    }
-}
-
 // the fill, the staircase, and the table if no check is too heavy; w is zero
 fn make_in(
     w: &mut [u64],
@@ -109,12 +99,12 @@ fn make_in(
 {
     let m = n - k;
     if !fill::fill(w, k, m, ones, seed, MOST_DRAWS) {
-        return refused(11);
+        return making::refused(11);
     }
     put_stairs(w, k, m);
     let total = making::weigh(w, m);
     if MOST_ONES < total {
-        return refused(3);
+        return making::refused(3);
     }
     let length = making::write(table, n, s, w, m, total);
     Made {
@@ -142,13 +132,13 @@ pub fn make(k: usize, n: usize, ones: usize, seed: usize, s: usize, table: &mut 
     ensures table { λ _. ⌜ now (table .exit) ≡ staircaseTableAfter k n ones seed s (now (table .entry)) ⌝ }
 {
     if bad_parameters(k, n, ones, seed) {
-        return refused(11);
+        return making::refused(11);
     }
     if table::beyond(n, s, n - k) {
-        return refused(2);
+        return making::refused(2);
     }
     if table.len() != MOST_WORDS {
-        return refused(5);
+        return making::refused(5);
     }
     make_table(k, n, ones, seed, s, table)
 }

@@ -10,7 +10,7 @@ use lib.Dec.{eqb, ltb, leb}
 use lib.ListN.{length, getD, take, drop, length-map, length-drop}
 use lib.Seq.{length-take-le, getD-take, getD-drop, drop-cons, drop-drop, take-suc}
 use Rattle.lists.specs.Lists.{allPass, anyOf, from}
-use Rattle.lists.specs.Numbers.{from-length, from-at}
+use Rattle.lists.specs.Numbers.{from-length, map-from-at}
 use Rattle.lists.specs.Tests.{or-false-l, or-false-r, byBool, and-l, and-r}
 use Rattle.table.specs.Checks.{offset, check, Places}
 use Rattle.table.specs.Table.{places, size, number, weights, onesCount, total, cutUp, checks, rising, tooShort, beyondLimits, badLengths, badPlaces, refusal, outside}
@@ -122,11 +122,6 @@ unfolding offset
 checks-listed t h =
     ap (λ k. cutUp (weights t) (drop k t)) (offset-none t (number t)) ∙ cut-from t (number t) 0 (number t) (omega arith)
 
-map-at : {X : Type 0} (f : ℕ → X) (l : List ℕ) (j : ℕ) (d : X) → j < length l → getD (map f l) j d ≡ f (getD l j 0)
-map-at f [] j d h = absurd (omega arith)
-map-at f (x ∷ l) zero d h = refl
-map-at f (x ∷ l) (suc j) d h = map-at f l j d (omega arith)
-
 -- no weight over 64
 light-at : (ws : List ℕ) (j : ℕ) → j < length ws → anyOf (ltb 64) ws ≡ false → getD ws j 0 ≤ 64
 light-at [] j h a = absurd (omega arith)
@@ -169,10 +164,7 @@ module _ (t : List ℕ) (ok : refusal t ≡ 0) where
   checks-length = ap length checks-are ∙ length-map (from 0 (number t)) (check t (number t)) ∙ from-length 0 (number t)
 
   pub checks-at : (j : ℕ) → j < number t → getD (checks t) j [] ≡ check t (number t) j
-  checks-at j h =
-      let l : j < length (from 0 (number t)) = rw (from-length 0 (number t)) h in
-      let e : getD (from 0 (number t)) j 0 ≡ j = from-at 0 (number t) j h ∙ (omega arith) in
-      ap (λ cs. getD cs j []) checks-are ∙ map-at (check t (number t)) (from 0 (number t)) j [] l ∙ ap (check t (number t)) e
+  checks-at j h = ap (λ cs. getD cs j []) checks-are ∙ map-from-at (check t (number t)) [] (number t) j h
 
   -- all ones
   pub offset-all : offset t (number t) ≡ onesCount t

@@ -4,14 +4,9 @@ use mathlib.Core.Bool.{Bool, true, false, not, _||_, _&&_, true≢false, false�
 use mathlib.Core.List.{List, [], _∷_, _++_}
 use Prim.Native.Nat.{ℕ}
 use lib.Dec.{eqb}
-use Rattle.lists.specs.Lists.{has, All.nil, All.cons}
+use Rattle.lists.specs.Lists.{allDiffer, has, All.nil, All.cons}
 use Rattle.lists.specs.Tests.{eqb-true, eqb-self, byBool, or-r, or-false-l, or-false-r}
 use Rattle.table.specs.FirstCause.{firstCause, NoneHolds, causeNumbers, RefusedBy}
-
--- no number twice
-abbrev pub allDiffer : List ℕ → Bool
-allDiffer [] = true
-allDiffer (k ∷ l) = not (has k l) && allDiffer l
 
 -- each cause has a number of its own, and none has 0
 abbrev pub Numbered : List (Bool × ℕ) → Type 0
@@ -102,3 +97,11 @@ module _ (cs : List (Bool × ℕ)) (d : Numbered cs) where
       (λ t. eqb-true (firstCause cs) 0 t)
       (λ f. let ne : firstCause cs ≡ 0 → ⊥ = λ z. true≢false (sym (ap (λ k. eqb k 0) z) ∙ f) in sym (first-decides cs ds ne) ∙ e) in
       (z, sym (rest-decides (none-holds z) ds) ∙ e)
+
+  -- where the second refuses nothing, what is refused is refused by the first
+  pub first-refuses : (ds : List (Bool × ℕ)) → (NoneHolds cs → firstCause ds ≡ 0) → (firstCause (cs ++ ds) ≡ 0 → ⊥)
+      → has (firstCause (cs ++ ds)) (causeNumbers cs) ≡ true
+  first-refuses ds q ne = byBool (eqb (firstCause cs) 0)
+      (λ t. let n = none-holds (eqb-true (firstCause cs) 0 t) in absurd (ne (rest-decides n ds ∙ q n)))
+      (λ f. let z : firstCause cs ≡ 0 → ⊥ = λ e. true≢false (sym (ap (λ k. eqb k 0) e) ∙ f) in
+      ap (λ k. has k (causeNumbers cs)) (first-decides cs ds z) ∙ rw f at (one-of cs))

@@ -9,9 +9,9 @@ use lib.Dec.{eqb, ltb, leb}
 use lib.ListN.{length, getD, take, drop, length-take, length-drop}
 use lib.Seq.{length-take-le}
 use Rattle.lists.specs.Tests.{eqb-true, eqb-false, eqb-lt, or-false-l, or-false-r, and-l, and-r}
-use Rattle.lists.specs.Lists.{Distinct, Distinct.dnil, Distinct.dnew, allPass, has, anyOf, All, All.nil, All.cons}
+use Rattle.lists.specs.Lists.{Distinct, Distinct.dnil, Distinct.dnew, has, anyOf, All, All.nil, All.cons}
 use Rattle.table.specs.Table.{ones, places, size, number, weights, onesCount, total, cutUp, checks, rising, tooShort, beyondLimits, badLengths, badPlaces, refusal}
-use Rattle.lists.specs.ListLaws.{all-map}
+use Rattle.lists.specs.ListLaws.{all-map, pass-all}
 
 pub record Good (t : List ℕ) : Type 0 where
   pub some-places : 1 ≤ places t
@@ -59,11 +59,6 @@ rising-distinct n b [] h = dnil
 rising-distinct n b (p ∷ c) h = let k = and-r (leb b p && ltb p n) (rising n (suc p) c) h in
     dnew (has-above p (all-map (λ q r. r .0) (rising-all n (suc p) c k))) (rising-distinct n (suc p) c k)
 
--- a test that all pass
-allB-all : (f : List ℕ → Bool) (l : List (List ℕ)) → allPass f l ≡ true → All (λ c. f c ≡ true) l
-allB-all f [] h = nil
-allB-all f (c ∷ l) h = cons (and-l (f c) (allPass f l) h) (allB-all f l (and-r (f c) (allPass f l) h))
-
 -- no cause, no refusal
 no-cause : (a b c d : Bool) → _≡_ {A = ℕ} (cond a 1 (cond b 2 (cond c 3 (cond d 4 0)))) 0 → (a ≡ false) × ((b ≡ false) × ((c ≡ false) × (d ≡ false)))
 no-cause true b c d h = absurd (omega arith)
@@ -100,7 +95,7 @@ accepted t h =
     let e : onesCount t ≡ total (weights t) = eqb-true (onesCount t) (total (weights t)) (not-false _ (c .1 .1 .0)) in
     let l : length t ≡ 5 + number t + onesCount t = eqb-true (length t) (5 + number t + onesCount t) (not-false _ (c .1 .1 .1)) in
     let rest : length (drop (5 + number t) t) ≡ onesCount t = length-drop (5 + number t) t ∙ (omega arith) in
-    let ups = allB-all (rising (places t) 0) (checks t) (not-false _ (r .1 .1 .1)) in
+    let ups = pass-all (rising (places t) 0) (checks t) (not-false _ (r .1 .1 .1)) in
     let n0 = eqb-false (places t) 0 (b .0) in
     let s0 = eqb-false (size t) 0 (b .1 .1 .0) in
     record {

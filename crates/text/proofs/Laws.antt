@@ -8,7 +8,7 @@ use native.Mathlib.Nat.{pow-suc, pow-le-pow-right, mod-lt, mod-eq-of-lt}
 use borrow.Author.Tests.{lt-ltb, le-ltb, ltb-true, ltb-false}
 use lib.Dec.{ltb}
 use Rattle.io.specs.Digits.{digits, Fewest, glyph}
-use Rattle.text.specs.Lines.{digitsWithin, decimal}
+use Rattle.numerals.specs.Numerals.{digitsWithin, decimal}
 
 -- a digit's byte
 digit : (x : ℕ) → glyph (x % 10) ≡ 48 + x % 10

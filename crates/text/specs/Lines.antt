@@ -1,11 +1,9 @@
 -- Lines of text, as bytes.
 use mathlib.Core.Path.{_≡_}
-use mathlib.Core.Bool.{true, false}
 use mathlib.Core.List.{List, [], _∷_, _++_}
-use Prim.Native.Nat.{ℕ, zero, suc, _+_, _/_, _%_, _≤_}
+use Prim.Native.Nat.{ℕ, _+_, _≤_}
 use Prim.Native.Char.{code}
 use Prim.Native.String.{String, [] as empty, _∷_ as next}
-use lib.Dec.{ltb}
 use lib.ListN.{length, take, drop}
 
 -- ---- words
@@ -13,15 +11,6 @@ use lib.ListN.{length, take, drop}
 abbrev pub bytes : String → List ℕ
 bytes empty = []
 bytes (next c s) = code c ∷ bytes s
-
--- the decimal digits of x, the most significant first, where x has at most k of them
-unfoldable pub digitsWithin : ℕ → ℕ → List ℕ
-digitsWithin zero x = []
-digitsWithin (suc k) x = elim (ltb x 10) [ true ↦ (48 + x) ∷ [] | false ↦ digitsWithin k (x / 10) ++ ((48 + x % 10) ∷ []) ]
-
--- a number below 2 ^ 64 in decimal: it has at most 20 digits
-abbrev pub decimal : ℕ → List ℕ
-decimal x = digitsWithin 20 x
 
 -- ---- lines
 -- each word after a blank, and the line's end

@@ -1,15 +1,12 @@
--- Laws of words written one after the other, and of a number's length.
+-- Laws of words written one after the other.
 use mathlib.Core.Path.{_≡_, refl, sym, ap, ap₂, _∙_, subst}
-use mathlib.Core.Bool.{Bool, true, false}
 use mathlib.Core.List.{List, [], _++_, append-assoc}
-use Prim.Native.Nat.{ℕ, zero, suc, _+_, _*_, _/_, _^_, _<_, _≤_}
-use native.Mathlib.Nat.{add-zero, pow-suc}
+use Prim.Native.Nat.{ℕ, _+_, _≤_}
+use native.Mathlib.Nat.{add-zero}
 use native.Mathlib.Omega.{arith}
-use borrow.Author.Tests.{lt-ltb}
-use lib.Dec.{ltb}
 use lib.ListN.{length, take, drop, length-append, length-drop, take-append-drop}
 use lib.Seq.{take-at, drop-at, drop-drop, length-take-le}
-use Rattle.text.specs.Lines.{digitsWithin, decimal, withWord, Appended}
+use Rattle.text.specs.Lines.{withWord, Appended}
 
 -- ---- words one after the other
 -- a text as long as it was
@@ -97,32 +94,3 @@ left-last l p = record { is = p .is ∙ l .same; ends = p .ends ∙ l .ends; wit
 -- nothing is left
 pub left-none : {text₀ whole text : List ℕ} {at₀ at : ℕ} → Left text₀ at₀ whole text at [] → Appended text₀ at₀ whole text at
 left-none {text₀} {whole} {text} {at₀} {at} l = left-last l (nothing-put text at (omega (arith, l .room)))
-
--- ---- the length of a number
-byTest : {P : Type 0} (b : Bool) → (b ≡ true → P) → (b ≡ false → P) → P
-byTest true y n = y refl
-byTest false y n = n refl
-
--- at most as many digits as there is room for
-most-digits : (k x : ℕ) → length (digitsWithin k x) ≤ k
-unfolding digitsWithin
-most-digits zero x = omega arith
-most-digits (suc k) x = byTest (ltb x 10)
-    (λ e. rw (e, digitsWithin) (omega arith))
-    (λ e. let h = most-digits k (x / 10) in rw (e, digitsWithin) (simp length-append (omega arith)))
-
-pub decimal-most : (x : ℕ) → length (decimal x) ≤ 20
-decimal-most x = most-digits 20 x
-
--- below a power of ten
-few-digits : (d k x : ℕ) → x < 10 ^ suc d → length (digitsWithin k x) ≤ suc d
-unfolding digitsWithin
-few-digits d zero x h = omega arith
-few-digits zero (suc k) x h = rw (lt-ltb x 10 h, digitsWithin) (omega arith)
-few-digits (suc d) (suc k) x h = byTest (ltb x 10)
-    (λ e. rw (e, digitsWithin) (omega arith))
-    (λ e. let p : x < 10 ^ suc d * 10 = rw pow-suc at h in
-    let i = few-digits d k (x / 10) (omega arith) in rw (e, digitsWithin) (simp length-append (omega arith)))
-
-pub decimal-few : (d x : ℕ) → x < 10 ^ suc d → length (decimal x) ≤ suc d
-decimal-few d x h = few-digits d 20 x h

@@ -1,9 +1,11 @@
-// Lines of text, and the files that a program's arguments name.
+// Lines of text, and the numbers and files that a program's arguments name.
+use numerals::Number;
 use table_file::Words;
 ghost use mathlib.Core.List.{_++_};
 ghost use Prim.Native.Nat.{_+_, _≤_};
 ghost use lib.ListN.{length};
-ghost use Rattle.text.specs.Lines.{Appended, decimal};
+ghost use Rattle.numerals.specs.Numerals.{decimal};
+ghost use Rattle.text.specs.Lines.{Appended};
 ghost use Rattle.text.specs.Files.{ReadInto};
 
 // so many bytes or words were read, or none
@@ -79,6 +81,32 @@ pub fn print_fault(fd: i32, check: u64, byte: u64) {
 fn say_overlong(number: usize, most: usize) {
     print_count(libc::STDERR_FILENO, b"argument ", number as u64, b": ");
     print_count(libc::STDERR_FILENO, b"more than ", most as u64, b" bytes\n");
+}
+
+// ---- numbers
+
+// Says on standard error that an argument isn't a number.
+fn say_no_number(name: &[u8]) {
+    io::write_all(libc::STDERR_FILENO, name);
+    io::write_all(
+        libc::STDERR_FILENO,
+        b" is not a decimal number below 2^64\n",
+    );
+}
+
+// The number that an argument of up to 4,096 bytes writes; none, which has been said, of any other.
+pub fn number_argument(number: usize, name: &[u8]) -> Number {
+    let mut text = io::buffer();
+    let length = os::arg(number, &mut text);
+    if os::errno() != 0 {
+        say_no_number(name);
+        return Number::Nothing;
+    }
+    let Number::Is(x) = numerals::number_of(&text[..length]) else {
+        say_no_number(name);
+        return Number::Nothing;
+    };
+    Number::Is(x)
 }
 
 // ---- files
@@ -160,6 +188,14 @@ fn read_start(number: usize, buf: &mut [u8]) -> Read
     read
 }
 
+// Says on standard error that a file isn't a table's.
+fn say_unfit() {
+    io::write_all(
+        libc::STDERR_FILENO,
+        b"refused 3: a table's file has an even number of bytes, at most 13,322\n",
+    );
+}
+
 // Reads the words of the table's file that an argument names. A file that can't be read, or is
 // refused with 3, gives nothing, and has been said.
 pub fn read_table(number: usize, words: &mut [u16]) -> Read
@@ -172,7 +208,7 @@ pub fn read_table(number: usize, words: &mut [u16]) -> Read
         return Read::Nothing;
     };
     let Words::Count(n) = table_file::words_in(&file[..n], words) else {
-        say_refused(3);
+        say_unfit();
         return Read::Nothing;
     };
     Read::Count(n)

@@ -1,3 +1,4 @@
+pub mod AlistCases
 pub mod Demands
 pub mod NothingLost
 pub mod OwnPlan

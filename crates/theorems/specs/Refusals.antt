@@ -9,6 +9,9 @@ use Rattle.table.specs.FirstCause.{RefusedBy}
 use Rattle.table.specs.FirstCauseLaws.{refused-by}
 use Rattle.table.specs.Table.{tableCauses, refusal}
 use Rattle.table.specs.PacketCall.{packetCauses, packetRefusal}
+use Rattle.making.specs.MakingLaws.{make-told}
+use Rattle.alist.specs.Alist.{alistReadCauses, alistReadRefusalAt, alistTable, alistReadRefusal, alistReadAnswer}
+use Rattle.alist.specs.AlistText.{alistText, alistWriteCauses, alistWriteRefusalAt, alistWriteRefusal, alistWriteAnswer}
 use Rattle.plan.specs.Layout.{planCauses, planRefusal}
 use Rattle.planner.specs.Planning.{planningCauses, planningRefusalAt, planningAnswer, planningAnswerAt, planningRefusal}
 use Rattle.encoder.specs.Encoding.{encodeCauses, encodeRefusalAt, encodeAnswer, encodeAnswerAt, encodeRefusal}
@@ -80,3 +83,17 @@ encode-refusals w information block scratch limit =
     told : (r a : ℕ) → encodeAnswerAt r a .refusal ≡ r
     told zero a = refl
     told (suc r) a = refl
+
+-- 12, 13, 2, 3, 5, as reading an alist text answers it
+pub read-refusals : (text : List ℕ) (s : ℕ) (buffer : List ℕ) → RefusedBy (alistReadAnswer text s buffer .refusal) (alistReadCauses text s (length buffer))
+unfolding alistReadRefusalAt
+read-refusals text s buffer =
+    subst (λ r. RefusedBy r (alistReadCauses text s (length buffer))) (sym (make-told (alistReadRefusal text s buffer) (alistTable text s)))
+    (refused-by (alistReadCauses text s (length buffer)) refl)
+
+-- 1 to 5, as writing one answers it
+pub write-refusals : (t buffer : List ℕ) → RefusedBy (alistWriteAnswer t buffer .refusal) (alistWriteCauses t (length buffer))
+unfolding alistWriteRefusalAt
+write-refusals t buffer =
+    subst (λ r. RefusedBy r (alistWriteCauses t (length buffer))) (sym (make-told (alistWriteRefusal t buffer) (alistText t)))
+    (refused-by (alistWriteCauses t (length buffer)) refl)

@@ -4,13 +4,14 @@ use mathlib.Core.Path.{_≡_, refl, sym, subst}
 use mathlib.Core.Bool.{Bool, true, false, true≢false, false≢true}
 use mathlib.Core.List.{List, [], _∷_}
 use mathlib.Core.Logic.{_↔_, _⊎_, inl, inr, ⊎-elim}
-use Prim.Native.Nat.{ℕ, zero, suc, _-_}
+use Prim.Native.Nat.{ℕ, _-_}
 use native.Mathlib.Omega.{arith}
 use lib.ListN.{length}
 use Rattle.lists.specs.Lists.{has, All.nil, All.cons}
 use Rattle.table.specs.FirstCause.{firstCause, wrongLength, NoneHolds}
 use Rattle.table.specs.Table.{beyond}
-use Rattle.making.specs.Making.{tableWords, tooHeavy, makeAnswerAt}
+use Rattle.making.specs.Making.{tableWords, tooHeavy}
+use Rattle.making.specs.MakingLaws.{make-told}
 use Rattle.staircase.specs.Staircase.{leftSide, staircaseChecks, badParameters, drawsSpent, staircaseRefusalAt, staircaseRefusal, staircaseTable, staircaseAnswer}
 
 -- r is the answer by five causes in their order: 0 exactly if none holds, each number exactly if a cause of it holds and none before
@@ -97,9 +98,5 @@ staircase-refusals k n ones seed s buffer =
     subst
     (StaircaseRefused (badParameters k n ones seed) (beyond n s (n - k)) (wrongLength (length buffer) tableWords) (drawsSpent (leftSide k n ones seed))
     (tooHeavy (staircaseChecks k n ones seed)))
-    (sym (told (staircaseRefusal k n ones seed s buffer)))
+    (sym (make-told (staircaseRefusal k n ones seed s buffer) (staircaseTable k n ones seed s)))
     (by-cases _ _ _ _ _)
-  where
-    told : (r : ℕ) → makeAnswerAt r (staircaseTable k n ones seed s) .refusal ≡ r
-    told zero = refl
-    told (suc r) = refl

@@ -7,6 +7,11 @@ use Prim.Native.Nat.{ℕ, _+_, _-_, _*_}
 use lib.ListN.{length, replicate}
 use Rattle.faults.specs.Faults.{checkOf, byteOf}
 use Rattle.lists.specs.Lists.{from}
+use Rattle.making.specs.Making.{tableWords}
+use Rattle.numerals.specs.Numerals.{digitsWithin}
+use Rattle.numbers.specs.Numbers.{numbersIn}
+use Rattle.alist.specs.Alist.{alistReadRefusalAt, alistTable}
+use Rattle.alist.specs.AlistText.{alistText, alistWriteRefusalAt}
 use Rattle.plan.specs.Layout.{mostSteps}
 use Rattle.plan.specs.Step.{addSteps}
 use Rattle.planner.specs.Planning.{planOf, numbersOf, planningRefusalAt, leastPlan, workWords}
@@ -17,10 +22,10 @@ use Rattle.table.specs.Packets.{lowestNonzero}
 use Rattle.verify.specs.Verify.{verifyRefusal, verifyAnswer}
 
 -- ---- the tables and the block of P2
-abbrev tableA : List ℕ
+abbrev pub tableA : List ℕ
 tableA = 2 ∷ 7 ∷ 1 ∷ 3 ∷ 4 ∷ 4 ∷ 4 ∷ 12 ∷ 0 ∷ 2 ∷ 4 ∷ 6 ∷ 1 ∷ 2 ∷ 5 ∷ 6 ∷ 3 ∷ 4 ∷ 5 ∷ 6 ∷ []
 
-abbrev tableB : List ℕ
+abbrev pub tableB : List ℕ
 tableB = 2 ∷ 4 ∷ 1 ∷ 3 ∷ 3 ∷ 3 ∷ 3 ∷ 9 ∷ 0 ∷ 1 ∷ 2 ∷ 0 ∷ 1 ∷ 3 ∷ 0 ∷ 2 ∷ 3 ∷ []
 
 -- A "with a fourth check 0 1 4 5 added"
@@ -30,7 +35,7 @@ tableA4 = 2 ∷ 7 ∷ 1 ∷ 4 ∷ 4 ∷ 4 ∷ 4 ∷ 4 ∷ 16 ∷ 0 ∷ 2 ∷ 4 �
 abbrev table9 : List ℕ
 table9 = 2 ∷ 1 ∷ 1 ∷ 1 ∷ 1 ∷ 1 ∷ 0 ∷ []
 
-abbrev table10 : List ℕ
+abbrev pub table10 : List ℕ
 table10 = 2 ∷ 3 ∷ 1 ∷ 0 ∷ 0 ∷ []
 
 -- places 0, 1 and 2 of one byte; the lowest ready check restores place 1, then place 0
@@ -81,6 +86,11 @@ abbrev pub verified : List ℕ → List ℕ → List (List ℕ)
 verified t b = let r = verifyAnswer t b in
     (r .refusal ∷ cond (r .codeword) 1 0 ∷ []) ∷ (checkOf (r .fault) ∷ byteOf (r .fault) ∷ []) ∷ []
 
+-- writing a table of one-byte packets as alist text and reading that again: refusals, the text's length, the text, the table
+abbrev texted : List ℕ → List (List ℕ)
+texted t = let text : List ℕ = alistText t in
+    (alistWriteRefusalAt t (length text) ∷ alistReadRefusalAt text 1 tableWords ∷ length text ∷ []) ∷ text ∷ alistTable text 1 ∷ []
+
 -- "bound 0": 2(W − M) + g(g + 1)
 abbrev bound : List ℕ → ℕ
 bound t = 2 * (planOf t .W - planOf t .M) + planOf t .g * (planOf t .g + 1)
@@ -123,8 +133,10 @@ starred =
     ∷ record { given = fullyMended tableA (0x01 ∷ 0x02 ∷ 0xff ∷ 0x0e ∷ 0xff ∷ 0xff ∷ 0x0d ∷ []) (0 ∷ 0 ∷ 1 ∷ 0 ∷ 1 ∷ 1 ∷ 0 ∷ []); wanted = (0 ∷ 0 ∷ 3 ∷ []) ∷ (0 ∷ 0 ∷ []) ∷ (0x01 ∷ 0x02 ∷ 0x00 ∷ 0x0e ∷ 0x00 ∷ 0x00 ∷ 0x0d ∷ []) ∷ (0 ∷ 0 ∷ 1 ∷ 0 ∷ 1 ∷ 1 ∷ 0 ∷ []) ∷ [] }
     -- C-14: P8's block: refusal 8, check and byte 0
     ∷ record { given = fullyMended tableA (0x11 ∷ 0x02 ∷ 0x04 ∷ 0x0e ∷ 0x08 ∷ 0x0b ∷ 0x0d ∷ []) (0 ∷ 0 ∷ 0 ∷ 0 ∷ 0 ∷ 0 ∷ 0 ∷ []); wanted = (8 ∷ 0 ∷ 0 ∷ []) ∷ (0 ∷ 0 ∷ []) ∷ (0x11 ∷ 0x02 ∷ 0x04 ∷ 0x0e ∷ 0x08 ∷ 0x0b ∷ 0x0d ∷ []) ∷ (0 ∷ 0 ∷ 0 ∷ 0 ∷ 0 ∷ 0 ∷ 0 ∷ []) ∷ [] }
+    -- C-15: P10's table, 3 0/0 0/0 0 0///// with / as line end, both ways
+    ∷ record { given = texted table10; wanted = (0 ∷ 0 ∷ 18 ∷ []) ∷ (51 ∷ 32 ∷ 48 ∷ 10 ∷ 48 ∷ 32 ∷ 48 ∷ 10 ∷ 48 ∷ 32 ∷ 48 ∷ 32 ∷ 48 ∷ 10 ∷ 10 ∷ 10 ∷ 10 ∷ 10 ∷ []) ∷ table10 ∷ [] }
     ∷ []
 
 pub starred-cases : map (λ c. c .given) starred ≡ map (λ c. c .wanted) starred
-unfolding planningRefusalAt encodeRefusalAt repairRefusal fullRefusal verifyRefusal lowestNonzero planOf numbersOf from
+unfolding planningRefusalAt encodeRefusalAt repairRefusal fullRefusal verifyRefusal lowestNonzero planOf numbersOf alistWriteRefusalAt alistReadRefusalAt alistText alistTable numbersIn digitsWithin from
 starred-cases = refl

@@ -8,7 +8,7 @@ use native.Mathlib.Omega.{arith}
 use lib.Dec.{eqb}
 use lib.ListN.{length, getD, take, drop, length-set}
 use Rattle.lists.specs.Tests.{byBool}
-use Rattle.lists.specs.ListLaws.{all-filter, all-map}
+use Rattle.lists.specs.ListLaws.{all-filter, all-map, filter-less}
 use Rattle.lists.specs.Lists.{has, minus, All}
 use Rattle.lists.specs.Buffers.{part-length}
 use Rattle.table.specs.Checks.{Places, Starts}
@@ -18,7 +18,6 @@ use Rattle.table.specs.SumLaws.{places-in, check-below}
 use Rattle.table.specs.Table.{checks}
 use Rattle.erasure.specs.Largest.{lost-most}
 use Rattle.erasure.specs.Restoring.{State, lostPlaces, ready, restoring, isLost}
-use Rattle.erasure.specs.LostLaws.{filter-less}
 use Rattle.erasure.specs.RestoringLaws.{lost-inside, ready-one, ready-lost, restoring-enough}
 use Rattle.erasure.specs.Stopping.{first-lost, lostIn, restore-one}
 use Rattle.table.specs.Accepted.{Accepted, check-count, places-at, check-is, light}

@@ -6,7 +6,7 @@ use native.Mathlib.Omega.{arith}
 use lib.ListN.{length}
 use Rattle.table.specs.LookOver.{weighed}
 use Rattle.bits.specs.Row.{rowsIn}
-use Rattle.making.proofs.Rows.{rowsFrom, rows-all, rows-next, rows-none}
+use Rattle.making.specs.Rows.{rowsFrom, rows-all, rows-next, rows-none}
 use Rattle.table.specs.WeighLaws.{weighedOn, weigh-start, weigh-heavy, weigh-light, weigh-end}
 use Rattle.making.proofs.weigh.Statement.{statement}
 use Rattle.making.proofs.weigh.Tie as tie

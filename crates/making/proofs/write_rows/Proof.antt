@@ -6,7 +6,7 @@ use native.Mathlib.Omega.{arith}
 use Rattle.lists.specs.WroteLaws.{Left, left-all, left-is, left-done, left-length, left-more}
 use Rattle.bits.specs.Row.{row, placesIn, rowsIn}
 use Rattle.making.specs.Written.{flat}
-use Rattle.making.proofs.Rows.{rowsFrom, rows-all, rows-next, rows-none}
+use Rattle.making.specs.Rows.{rowsFrom, rows-all, rows-next, rows-none}
 use Rattle.lists.specs.WroteLaws.{front-room}
 use Rattle.making.proofs.write_rows.Statement.{statement}
 use Rattle.making.proofs.write_rows.Tie as tie

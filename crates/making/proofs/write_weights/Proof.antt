@@ -8,7 +8,7 @@ use Rattle.lists.specs.Lists.{Wrote}
 use Rattle.lists.specs.WroteLaws.{Left, left-all, left-is, left-done, left-length, left-one}
 use Rattle.bits.specs.Row.{row, placesIn, rowsIn}
 use Rattle.making.specs.MakingLaws.{rows-length}
-use Rattle.making.proofs.Rows.{rowsFrom, rows-all, rows-next, rows-none}
+use Rattle.making.specs.Rows.{rowsFrom, rows-all, rows-next, rows-none}
 use Rattle.making.proofs.write_weights.Statement.{statement}
 use Rattle.making.proofs.write_weights.Tie as tie
 

@@ -4,7 +4,8 @@ use Prim.Native.Nat.{_-_}
 use native.Mathlib.Omega.{arith}
 use borrow.Author.Tests.{not-true, not-false}
 use lib.ListN.{length, getD}
-use Rattle.numerals.proofs.Laws.{digit-range, empty-none, Rest, rest-all, rest-other, rest-large, rest-next, rest-none}
+use Rattle.numerals.specs.NumeralLaws.{digit-range}
+use Rattle.numerals.proofs.Laws.{empty-none, Rest, rest-all, rest-other, rest-large, rest-next, rest-none}
 use Rattle.numerals.proofs.number_of.Statement.{statement}
 use Rattle.numerals.proofs.number_of.Tie as tie
 

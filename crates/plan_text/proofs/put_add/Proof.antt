@@ -4,7 +4,8 @@ use native.Mathlib.Omega.{arith}
 use borrow.Author.Needs.{needs}
 use lib.ListN.{length-append}
 use Rattle.plan.specs.declared.Step.the-variants.{Add}
-use Rattle.text.specs.Lines.{bytes, decimal}
+use Rattle.numerals.specs.Numerals.{decimal}
+use Rattle.text.specs.Lines.{bytes}
 use Rattle.text.specs.LinesLaws.{left-all, left-next, left-last}
 use Rattle.plan_text.specs.PlanText.{stepLine}
 use Rattle.plan_text.proofs.put_add.Statement.{statement}

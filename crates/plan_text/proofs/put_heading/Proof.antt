@@ -2,7 +2,8 @@
 use mathlib.Core.List.{_++_}
 use borrow.Author.Needs.{needs}
 use Rattle.text.specs.LinesLaws.{left-all, left-room, left-next, left-last}
-use Rattle.text.specs.Lines.{bytes, decimal}
+use Rattle.numerals.specs.Numerals.{decimal}
+use Rattle.text.specs.Lines.{bytes}
 use Rattle.plan_text.specs.PlanText.{heading}
 use Rattle.plan_text.proofs.Rests.{fromSize, fromKept, fromOnes, fromGap}
 use Rattle.plan_text.proofs.put_heading.Statement.{statement}

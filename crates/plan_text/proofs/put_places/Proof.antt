@@ -6,7 +6,8 @@ use borrow.Author.Needs.{needs}
 use lib.ListN.{drop}
 use Rattle.plan.specs.Layout.{infoCount, infoIn}
 use Rattle.plan.specs.LayoutLaws.{well, info-length}
-use Rattle.text.specs.Lines.{bytes, decimal, wordsAfterBlanks}
+use Rattle.numerals.specs.Numerals.{decimal}
+use Rattle.text.specs.Lines.{bytes, wordsAfterBlanks}
 use Rattle.text.specs.LinesLaws.{Left, left-all, left-room, left-next, left-last}
 use Rattle.plan_text.proofs.Turns.{next-place, last-place}
 use Rattle.plan_text.proofs.put_places.Statement.{statement}

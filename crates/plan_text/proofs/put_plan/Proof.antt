@@ -6,7 +6,7 @@ use native.Mathlib.Omega.{arith}
 use borrow.Author.Needs.{needs}
 use lib.ListN.{length, length-append}
 use Rattle.plan.specs.Layout.{planPlaces, planSize, planGap, planKept, infoIn, stepsOf}
-use Rattle.text.specs.Lines.{decimal}
+use Rattle.numerals.specs.Numerals.{decimal}
 use Rattle.text.specs.LinesLaws.{left-all, left-room, left-next, left-last, same-word}
 use Rattle.plan_text.specs.PlanText.{heading, planTextOf, infoLine, stepLines, addsLine}
 use Rattle.plan.specs.LayoutLaws.{well}

@@ -2,7 +2,7 @@
 use native.Mathlib.Omega.{arith}
 use borrow.Author.Needs.{needs}
 use lib.ListN.{length-append}
-use Rattle.text.specs.LinesLaws.{decimal-most}
+use Rattle.numerals.specs.NumeralLaws.{decimal-most}
 use Rattle.text.proofs.print_count.Statement.{statement}
 use Rattle.text.proofs.print_count.Tie as tie
 

@@ -35,8 +35,8 @@ enum-known-n-2 c = search needs
 enum-told-2 : tie.Need-enum-told-2
 enum-told-2 c = search needs
 
-say-refused-requires : tie.Need-say-refused-requires
-say-refused-requires c κs = search needs
+say-unfit-requires : tie.Need-say-unfit-requires
+say-unfit-requires c κs = search needs
 
 same-length : tie.Need-same-length
 same-length c = search needs
@@ -64,7 +64,7 @@ read-table-spec =
     words-in-requires
     enum-known-n-2
     enum-told-2
-    say-refused-requires
+    say-unfit-requires
     same-length
     returns-2
     same-length-2

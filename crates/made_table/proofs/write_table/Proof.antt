@@ -1,10 +1,10 @@
--- `staircase_file::write_table` is safe: the bytes of an accepted table lie within the file's buffer.
+-- `made_table::write_table` is safe: the bytes of an accepted table lie within the file's buffer.
 use mathlib.Core.Path.{sym}
 use native.Mathlib.Omega.{arith}
 use borrow.Author.Needs.{needs}
-use Rattle.staircase_file.proofs.TableMade.{long, file-part}
-use Rattle.staircase_file.proofs.write_table.Statement.{statement}
-use Rattle.staircase_file.proofs.write_table.Tie as tie
+use Rattle.made_table.proofs.Long.{long, file-part}
+use Rattle.made_table.proofs.write_table.Statement.{statement}
+use Rattle.made_table.proofs.write_table.Tie as tie
 
 mul-length : tie.Need-mul-length
 mul-length c = search needs

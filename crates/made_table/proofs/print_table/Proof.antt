@@ -1,9 +1,9 @@
--- `staircase_file::print_table` is safe: an accepted table has its head and its weights.
+-- `made_table::print_table` is safe: an accepted table has its head and its weights.
 use native.Mathlib.Omega.{arith}
 use borrow.Author.Needs.{needs}
-use Rattle.staircase_file.proofs.TableMade.{long}
-use Rattle.staircase_file.proofs.print_table.Statement.{statement}
-use Rattle.staircase_file.proofs.print_table.Tie as tie
+use Rattle.made_table.proofs.Long.{long}
+use Rattle.made_table.proofs.print_table.Statement.{statement}
+use Rattle.made_table.proofs.print_table.Tie as tie
 
 shared-slice-read-wide : tie.Need-shared-slice-read-wide
 shared-slice-read-wide c = let l = long (c .before .before .args .table .now) (c .before .before .pre) .head in omega arith

@@ -1,0 +1,1 @@
+// Tables as alist text: definitions and laws alone.

@@ -1,0 +1,3 @@
+pub mod Flipping
+pub mod Marking
+pub mod Tile

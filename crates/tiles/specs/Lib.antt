@@ -1,0 +1,3 @@
+pub mod Board
+pub mod BoardLaws
+pub mod Tiles
