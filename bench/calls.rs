@@ -23,14 +23,18 @@ use std::hint::black_box;
 
 pub trait Call {
     /// What the limits add; 0 if there are none.
-    fn additions(&self) -> usize;
+    fn additions(&self) -> usize {
+        0
+    }
     /// Before each of the three; not measured.
     fn reset(&mut self) {}
     fn library(&mut self);
-    fn real(&mut self);
+    fn real(&mut self) {}
     fn plain(&mut self);
     /// The buffers of packets.
-    fn packets(&self) -> Vec<&[u8]>;
+    fn packets(&self) -> Vec<&[u8]> {
+        Vec::new()
+    }
 }
 
 /// What is lent for a table: its plan, random information, and a codeword with
@@ -138,9 +142,6 @@ mod uplink {
     }
 
     impl Call for Plan {
-        fn additions(&self) -> usize {
-            0
-        }
         fn library(&mut self) {
             let Plan { lent, plan, work } = self;
             let answer = unsafe {
@@ -155,13 +156,9 @@ mod uplink {
             };
             assert_eq!(answer, lent.planned);
         }
-        fn real(&mut self) {}
         fn plain(&mut self) {
             let answer = tuned::plan(black_box(&self.lent.table), &mut self.plan, &mut self.work);
             assert_eq!(answer, self.lent.planned);
-        }
-        fn packets(&self) -> Vec<&[u8]> {
-            Vec::new()
         }
     }
 
@@ -651,9 +648,6 @@ mod tables {
     }
 
     impl Call for Staircase {
-        fn additions(&self) -> usize {
-            0
-        }
         fn library(&mut self) {
             let [sources, packets, ones, seed] = self.set;
             let table = &mut self.table;
@@ -662,14 +656,10 @@ mod tables {
             };
             assert_eq!(answer, self.answer);
         }
-        fn real(&mut self) {}
         fn plain(&mut self) {
             let [sources, packets, ones, seed] = black_box(self.set);
             let answer = plain::staircase(sources, packets, ones, seed, 64, &mut self.table);
             assert_eq!(answer, self.answer);
-        }
-        fn packets(&self) -> Vec<&[u8]> {
-            Vec::new()
         }
     }
 
@@ -698,9 +688,6 @@ mod tables {
     }
 
     impl Call for AlistRead {
-        fn additions(&self) -> usize {
-            0
-        }
         fn library(&mut self) {
             let AlistRead { text, table, answer } = self;
             let read = unsafe {
@@ -708,13 +695,9 @@ mod tables {
             };
             assert_eq!(read, *answer);
         }
-        fn real(&mut self) {}
         fn plain(&mut self) {
             let read = plain::alist_read(black_box(&self.text), 64, &mut self.table);
             assert_eq!(read, self.answer);
-        }
-        fn packets(&self) -> Vec<&[u8]> {
-            Vec::new()
         }
     }
 
@@ -742,9 +725,6 @@ mod tables {
     }
 
     impl Call for AlistWrite {
-        fn additions(&self) -> usize {
-            0
-        }
         fn library(&mut self) {
             let AlistWrite { table, text, answer } = self;
             let written = unsafe {
@@ -752,13 +732,9 @@ mod tables {
             };
             assert_eq!(written, *answer);
         }
-        fn real(&mut self) {}
         fn plain(&mut self) {
             let written = plain::alist_write(black_box(&self.table), &mut self.text);
             assert_eq!(written, self.answer);
-        }
-        fn packets(&self) -> Vec<&[u8]> {
-            Vec::new()
         }
     }
 }

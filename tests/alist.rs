@@ -5,7 +5,7 @@ use crate::harness::{bare, holds, same, Lent, Run};
 use crate::model::{self, Made, Table, MAX_CHECKS, MAX_PLACES, TABLE_BUFFER};
 use crate::texts::{any_form, any_lists, spelled, Lines, Lists, COLUMNS, ROWS};
 use crate::texts::{damage_lines, damage_lists, damage_text};
-use crate::{any_size, buffer, noise, odd_length, odd_number};
+use crate::{any_size, buffer, noise, odd_length, odd_number, SIZES};
 use std::hint::black_box;
 use std::time::{Duration, Instant};
 
@@ -485,21 +485,7 @@ fn small_cases(run: &mut Run) {
         run.fixed("every number of three places", every_number(THREE, 70));
         run.fixed("every number of table A", every_number(KNOWN[0].1, 20));
     }
-    let wide = (1usize << 32) + 1;
-    for (size, refusal) in [
-        (0, 2),
-        (1, 0),
-        (2, 0),
-        (1023, 0),
-        (1024, 0),
-        (1025, 2),
-        (65_535, 2),
-        (65_536, 2),
-        (65_537, 2),
-        (wide, 2),
-        (1 << 63, 2),
-        (usize::MAX, 2),
-    ] {
+    for (size, refusal) in SIZES.into_iter().chain([(1 << 63, 2)]) {
         run.fixed(&format!("size {size}"), refused(&text, size, TABLE_BUFFER, refusal));
     }
     for (len, refusal) in
