@@ -3,7 +3,11 @@
 //! A round is one call of each on the same buffers; the one that comes first in
 //! one round comes last in the next. A block is cold if block, scratch and
 //! information were flushed from the caches before each call; the plan stays.
-//! Before anything is timed answer, block and scratch of both are compared.
+//! A plan is made once and used at each size. Before anything is timed answer,
+//! block and scratch of both are compared.
+//!
+//! Both builds have the call with the size, that is, since C-16. An older one has
+//! another call and another plan, and can't be measured here.
 
 #![allow(dead_code)]
 
@@ -16,12 +20,13 @@ mod rounds;
 mod tuned;
 
 use gen::Rng;
-use rounds::{flush, micros, millis, rounds, table, Ratio, SIZES, TABLES};
+use rounds::{flush, micros, millis, plan, rounds, table, Ratio, SIZES, TABLES};
 use std::time::Instant;
 
-/// As libuplink.h has it.
+/// As uplink.h has it.
 type Call = unsafe extern "C" fn(
     *const u32,
+    usize,
     usize,
     *const u8,
     usize,
@@ -39,6 +44,7 @@ macro_rules! encode {
             fn $name(
                 plan: *const u32,
                 plan_len: usize,
+                size: usize,
                 information: *const u8,
                 information_len: usize,
                 block: *mut u8,
@@ -60,27 +66,26 @@ const MORE: [(&str, usize, usize); 2] = [("few", 1024, 0), ("pairs", 1024, 512)]
 
 struct Lent {
     plan: Vec<u32>,
+    size: usize,
     information: Vec<u8>,
     block: Vec<u8>,
     scratch: Vec<u8>,
 }
 
 impl Lent {
-    fn new(table: &[u16]) -> Self {
-        let (n, s) = (table[1] as usize, table[2] as usize);
-        let mut plan = vec![0; model::PLAN_BUFFER];
-        let planned = tuned::plan(table, &mut plan, &mut vec![0; model::WORK_BUFFER]);
-        plan.truncate(planned.length as usize);
-        let information = Rng::new(1, 1).bytes((n - planned.kept as usize) * s);
-        let (block, scratch) = (vec![7; n * s], vec![7; planned.gap as usize * s]);
-        Lent { plan, information, block, scratch }
+    fn new(plan: &[u32], size: usize) -> Self {
+        let p = model::read_plan(plan).unwrap();
+        let information = Rng::new(1, 1).bytes((p.n - p.kept) * size);
+        let (block, scratch) = (vec![7; p.n * size], vec![7; p.g * size]);
+        Lent { plan: plan.to_vec(), size, information, block, scratch }
     }
     fn encode(&mut self, call: Call) -> model::Encoded {
-        let Lent { plan, information, block, scratch } = self;
+        let Lent { plan, size, information, block, scratch } = self;
         unsafe {
             call(
                 plan.as_ptr(),
                 plan.len(),
+                *size,
                 information.as_ptr(),
                 information.len(),
                 block.as_mut_ptr(),
@@ -125,8 +130,9 @@ fn main() {
     println!("{:<18} {:<5} {:>5} {:>8}  now to before", "table", "block", "s", "us");
     let mut slower = Vec::new();
     for (kind, n, m) in TABLES.into_iter().chain(MORE) {
+        let (plan, _) = plan(&table(kind, n, m, 1));
         for s in SIZES {
-            let mut lent = Lent::new(&table(kind, n, m, s));
+            let mut lent = Lent::new(&plan, s);
             assert!(lent.outcome(bs_encode) == lent.outcome(before_bs_encode), "another outcome");
             for (block, warm) in [("warm", true), ("cold", false)] {
                 let times = measure(&mut lent, warm);

@@ -1,7 +1,8 @@
 #!/bin/sh
 # Encoding by two builds of the uplink's library in one program, called in turn:
 # bench/before.sh BEFORE NOW
-# Each of the two directories holds a libuplink.a. QUICK=1: fewer rounds.
+# Each of the two directories holds a libuplink.a whose encode is given the size,
+# as it is since C-16. QUICK=1: fewer rounds.
 # A line for each table and size: the time of the later build, and its ratio to
 # the earlier one.
 set -eu

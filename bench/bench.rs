@@ -20,7 +20,7 @@ mod rounds;
 mod tuned;
 
 use calls::{Call, Lent};
-use rounds::{flush, micros, millis, rounds, table, Ratio, SIZES, TABLES};
+use rounds::{flush, micros, millis, plan, rounds, table, with_size, Ratio, SIZES, TABLES};
 use std::hint::black_box;
 use std::time::{Duration, Instant};
 
@@ -99,34 +99,39 @@ fn measure(call: &mut dyn Call, s: usize, warm: bool, long: Duration) -> Figures
 
 // --------------------------------------------------- tables and their calls
 
-/// Plans don't depend on the size but for one word: plan is timed once. With few
-/// steps encode alone is timed: what comes before them shows there. Full repair
-/// is timed for the larger tables, with 45 % lost, where peeling stalls, and with
-/// 20 %, where it alone restores.
-fn calls_of(kind: &str, table: &[u16]) -> Vec<(&'static str, Box<dyn Call>)> {
+/// Plans don't depend on the size: plan is timed once. With few steps encode
+/// alone is timed: what comes before them shows there. Full repair is timed for
+/// the larger tables, with 45 % lost, where peeling stalls, and with 20 %, where
+/// it alone restores.
+fn calls_of(
+    kind: &str,
+    table: &[u16],
+    planned: &(Vec<u32>, model::Planned),
+) -> Vec<(&'static str, Box<dyn Call>)> {
     let mut calls: Vec<(&'static str, Box<dyn Call>)> = Vec::new();
     let all = kind != "few";
+    let lent = || Lent::new(table, planned);
     #[cfg(uplink)]
     {
-        let plan = calls::Plan::new(Lent::new(table));
+        let plan = calls::Plan::new(lent());
         if all && table[2] == 64 {
             calls.push(("plan", Box::new(plan)));
         }
-        calls.push(("encode", Box::new(calls::Encode::new(Lent::new(table)))));
+        calls.push(("encode", Box::new(calls::Encode::new(lent()))));
     }
     #[cfg(receiver)]
     if all {
         for (name, share) in [("repair 10 %", 10), ("repair 20 %", 20), ("repair 30 %", 30)] {
-            calls.push((name, Box::new(calls::Repair::new(Lent::new(table), share))));
+            calls.push((name, Box::new(calls::Repair::new(lent(), share))));
         }
         if table[1] == 1024 && [64, 1024].contains(&table[2]) {
             for (name, share, peeled) in [("full 45 %", 45, false), ("peeled 20 %", 20, true)] {
-                let call = calls::FullRepair::new(Lent::new(table), share, peeled);
+                let call = calls::FullRepair::new(lent(), share, peeled);
                 calls.push((name, Box::new(call)));
             }
         }
-        calls.push(("verify", Box::new(calls::Verify::new(Lent::new(table)))));
-        calls.push(("wrong byte", Box::new(calls::Verify::wrong_byte(Lent::new(table)))));
+        calls.push(("verify", Box::new(calls::Verify::new(lent()))));
+        calls.push(("wrong byte", Box::new(calls::Verify::wrong_byte(lent()))));
     }
     calls
 }
@@ -212,9 +217,12 @@ fn main() {
         let name = format!("{kind} {n} {m}");
         eprintln!("{:4} s: {name}", start.elapsed().as_secs());
         let large = n == 1024;
+        // One table and one plan, used at each size.
+        let table = table(kind, n, m, 1);
+        let planned = plan(&table);
         for s in SIZES {
             let marked = large && [64, 1024].contains(&s);
-            for (call, mut with) in calls_of(kind, &table(kind, n, m, s)) {
+            for (call, mut with) in calls_of(kind, &with_size(&table, s), &planned) {
                 let warm = measure(&mut *with, s, true, millis(if marked { 2000 } else { 300 }));
                 report.row(&name, call, "warm", s, &warm);
                 if marked {

@@ -50,16 +50,14 @@ pub struct Lent {
 }
 
 impl Lent {
-    pub fn new(table: &[u16]) -> Self {
-        let table = table.to_vec();
-        let mut plan = vec![0; model::PLAN_BUFFER];
-        let planned = tuned::plan(&table, &mut plan, &mut vec![0; model::WORK_BUFFER]);
-        plan.truncate(planned.length as usize);
+    /// The plan is the table's, whatever the size with which it was made.
+    pub fn new(table: &[u16], (plan, planned): &(Vec<u32>, model::Planned)) -> Self {
+        let (table, plan, planned) = (table.to_vec(), plan.clone(), *planned);
         let model::Table { n, s, checks } = model::look_over(&table).unwrap();
         let information = Rng::new(1, 1).bytes((n - planned.kept as usize) * s);
         let mut slots = vec![0; (n + planned.gap as usize) * s];
         let (block, scratch) = slots.split_at_mut(n * s);
-        plain::encode(&plan, &information, block, scratch, usize::MAX);
+        plain::encode(&plan, s, &information, block, scratch, usize::MAX);
         assert_eq!(plain::verify(&table, block).codeword, 1);
         Lent { table, checks, s, plan, planned, information, slots }
     }
@@ -107,6 +105,7 @@ mod uplink {
         fn bs_encode(
             plan: *const u32,
             plan_len: usize,
+            size: usize,
             information: *const u8,
             information_len: usize,
             block: *mut u8,
@@ -171,7 +170,7 @@ mod uplink {
     impl Encode {
         /// The library gives the same block.
         pub fn new(lent: Lent) -> Self {
-            let steps = &lent.plan[7 + lent.plan[5] as usize..];
+            let steps = &lent.plan[6 + lent.plan[4] as usize..];
             let adds = steps.iter().map(|word| plain::step(*word));
             let adds = adds.filter(|(kind, ..)| *kind == 1).map(|(_, to, from)| (to, from));
             let mut call = Encode { adds: adds.collect(), lent };
@@ -190,12 +189,13 @@ mod uplink {
         }
         fn library(&mut self) {
             let bytes = self.lent.bytes();
-            let Lent { plan, planned, information, slots, .. } = &mut self.lent;
+            let Lent { plan, planned, s, information, slots, .. } = &mut self.lent;
             let (block, scratch) = slots.split_at_mut(bytes);
             let answer = unsafe {
                 bs_encode(
                     plan.as_ptr(),
                     plan.len(),
+                    *s,
                     information.as_ptr(),
                     information.len(),
                     block.as_mut_ptr(),
@@ -214,9 +214,10 @@ mod uplink {
         }
         fn plain(&mut self) {
             let bytes = self.lent.bytes();
-            let Lent { plan, planned, information, slots, .. } = &mut self.lent;
+            let Lent { plan, planned, s, information, slots, .. } = &mut self.lent;
             let (block, scratch) = slots.split_at_mut(bytes);
-            let answer = plain::encode(black_box(plan), information, block, scratch, usize::MAX);
+            let plan = black_box(plan);
+            let answer = plain::encode(plan, *s, information, block, scratch, usize::MAX);
             assert_eq!((answer.refusal, answer.additions), (0, planned.additions));
         }
         fn packets(&self) -> Vec<&[u8]> {

@@ -355,30 +355,30 @@ pub fn step(word: u32) -> (u32, usize, usize) {
     (word >> 24, (word >> 12 & 4095) as usize, (word & 4095) as usize)
 }
 
-/// n, s, g, M of a well-formed plan.
-fn plan_counts(plan: &[u32]) -> Option<(usize, usize, usize, usize)> {
-    if plan.len() < 7 || plan[0] != 4 {
+/// n, g, M of a well-formed plan.
+fn plan_counts(plan: &[u32]) -> Option<(usize, usize, usize)> {
+    if plan.len() < 6 || plan[0] != 3 {
         return None;
     }
     let word = |i: usize| plan[i] as usize;
-    let (n, s, g, kept) = (word(1), word(2), word(3), word(4));
-    if n == 0 || n > MAX_PLACES || s == 0 || s > MAX_SIZE {
+    let (n, g, kept) = (word(1), word(2), word(3));
+    if n == 0 || n > MAX_PLACES {
         return None;
     }
     if kept > n.min(MAX_CHECKS) || g > kept.min(MAX_GAP) {
         return None;
     }
     let info = n - kept;
-    if word(5) != info || plan.len() < 7 + info {
+    if word(4) != info || plan.len() < 6 + info {
         return None;
     }
-    let count = word(6 + info);
-    if count > MAX_STEPS || plan.len() != 7 + info + count {
+    let count = word(5 + info);
+    if count > MAX_STEPS || plan.len() != 6 + info + count {
         return None;
     }
     let mut is_info = [false; MAX_PLACES + MAX_GAP];
     let mut least = 0;
-    for p in &plan[6..6 + info] {
+    for p in &plan[5..5 + info] {
         let p = *p as usize;
         if p < least || p >= n {
             return None;
@@ -386,7 +386,7 @@ fn plan_counts(plan: &[u32]) -> Option<(usize, usize, usize, usize)> {
         is_info[p] = true;
         least = p + 1;
     }
-    for word in &plan[7 + info..] {
+    for word in &plan[6 + info..] {
         let (kind, to, from) = step(*word);
         if kind > 1 || to >= n + g || from >= n + g || is_info[to] {
             return None;
@@ -395,28 +395,32 @@ fn plan_counts(plan: &[u32]) -> Option<(usize, usize, usize, usize)> {
             return None;
         }
     }
-    Some((n, s, g, kept))
+    Some((n, g, kept))
 }
 
 pub fn encode(
     plan: &[u32],
+    s: usize,
     information: &[u8],
     block: &mut [u8],
     scratch: &mut [u8],
     limit: usize,
 ) -> Encoded {
-    let Some((n, s, g, kept)) = plan_counts(plan) else { return Encoded::refused(9) };
+    if s == 0 || s > MAX_SIZE {
+        return Encoded::refused(2);
+    }
+    let Some((n, g, kept)) = plan_counts(plan) else { return Encoded::refused(9) };
     let info = n - kept;
     if information.len() != info * s || block.len() != n * s || scratch.len() != g * s {
         return Encoded::refused(5);
     }
     block.fill(0);
     scratch.fill(0);
-    for (p, packet) in plan[6..6 + info].iter().zip(information.chunks_exact(s)) {
+    for (p, packet) in plan[5..5 + info].iter().zip(information.chunks_exact(s)) {
         block[*p as usize * s..][..s].copy_from_slice(packet);
     }
     let mut additions = 0;
-    for word in plan[7 + info..].iter().take(limit) {
+    for word in plan[6 + info..].iter().take(limit) {
         let (kind, to, from) = step(*word);
         if kind == 0 {
             if to < n {

@@ -62,6 +62,14 @@ pub fn rounds<const KINDS: usize>(
     rounds.split_off(2)
 }
 
+/// The plan of a table, for every size, and the planner's answer.
+pub fn plan(table: &[u16]) -> (Vec<u32>, model::Planned) {
+    let mut plan = vec![0; model::PLAN_BUFFER];
+    let planned = tuned::plan(table, &mut plan, &mut vec![0; model::WORK_BUFFER]);
+    plan.truncate(planned.length as usize);
+    (plan, planned)
+}
+
 /// Puts the bytes out of the caches.
 pub fn flush(bytes: &[u8]) {
     use std::arch::x86_64::{_mm_clflush, _mm_mfence};
@@ -75,8 +83,6 @@ pub fn flush(bytes: &[u8]) {
 
 /// The first table of a kind, by seed, that the planner takes.
 pub fn table(kind: &str, n: usize, m: usize, s: usize) -> Vec<u16> {
-    let mut plan = vec![0; model::PLAN_BUFFER];
-    let mut work = vec![0; model::WORK_BUFFER];
     let of_seed = |seed| {
         let mut rng = Rng::new(seed, 0);
         let checks = match kind {
@@ -90,6 +96,12 @@ pub fn table(kind: &str, n: usize, m: usize, s: usize) -> Vec<u16> {
         };
         model::table_words(n, s, &checks)
     };
-    let mut tables = (1..).map(of_seed);
-    tables.find(|t| tuned::plan(t, &mut plan, &mut work).refusal == 0).unwrap()
+    (1..).map(of_seed).find(|t| plan(t).1.refusal == 0).unwrap()
+}
+
+/// The same table with another packet size.
+pub fn with_size(table: &[u16], s: usize) -> Vec<u16> {
+    let mut other = table.to_vec();
+    other[2] = s as u16;
+    other
 }

@@ -212,7 +212,7 @@ pub fn plan(table: &[u16], plan: &mut [u32], work: &mut [u64]) -> Planned {
     }
 
     let mut w = Writer { plan, at: 0, clears: 0 };
-    for word in [4, n, t.s, g, kept.len(), n - kept.len()] {
+    for word in [3, n, g, kept.len(), n - kept.len()] {
         w.word(word as u32);
     }
     for p in (0..n).filter(|p| !solved[*p]) {

@@ -1,4 +1,5 @@
-//! Plans a table once, then encodes a block of it.
+//! Plans a table once, then encodes blocks of it with packets of 64, 256 and
+//! 1,024 bytes.
 
 #[repr(C)]
 struct Planned {
@@ -29,6 +30,7 @@ extern "C" {
     fn bs_encode(
         plan: *const u32,
         plan_len: usize,
+        size: usize,
         information: *const u8,
         information_len: usize,
         block: *mut u8,
@@ -60,16 +62,18 @@ fn plan(table: &[u16]) -> Result<(Vec<u32>, Planned), u32> {
     Ok((plan, planned))
 }
 
-/// The block of some information packets, or the refusal.
-fn encode(plan: &[u32], information: &[u8]) -> Result<(Vec<u8>, u32), u32> {
-    // A plan starts with 4, n, s, g.
-    let (n, s, g) = (plan[1] as usize, plan[2] as usize, plan[3] as usize);
-    let mut block = vec![0u8; n * s];
-    let mut scratch = vec![0u8; g * s];
+/// The block of some information packets of so many bytes, with the number of
+/// additions, or the refusal.
+fn encode(plan: &[u32], size: usize, information: &[u8]) -> Result<(Vec<u8>, u32), u32> {
+    // A plan starts with 3, n, g.
+    let (n, g) = (plan[1] as usize, plan[2] as usize);
+    let mut block = vec![0u8; n * size];
+    let mut scratch = vec![0u8; g * size];
     let encoded = unsafe {
         bs_encode(
             plan.as_ptr(),
             plan.len(),
+            size,
             information.as_ptr(),
             information.len(),
             block.as_mut_ptr(),
@@ -87,19 +91,38 @@ fn encode(plan: &[u32], information: &[u8]) -> Result<(Vec<u8>, u32), u32> {
 }
 
 fn main() {
-    // Four packets of two bytes; three checks of three places each, of which
-    // one is set aside.
-    let table = [2, 4, 2, 3, 3, 3, 3, 9, 0, 1, 2, 0, 1, 3, 0, 2, 3];
+    // Four packets; three checks of three places each, of which one is set
+    // aside. The table has a size, its plan has none.
+    let table = [2, 4, 64, 3, 3, 3, 3, 9, 0, 1, 2, 0, 1, 3, 0, 2, 3];
     let (plan, planned) = plan(&table).unwrap_or_else(|refusal| {
         println!("uplink.rs: planning refused with {refusal}");
         std::process::exit(1);
     });
-    let encoded = encode(&plan, &[0xa5, 0x5a]);
-    let block = vec![0, 0, 0xa5, 0x5a, 0xa5, 0x5a, 0xa5, 0x5a];
     let counts = (planned.kept, planned.ones, planned.gap, planned.additions);
-    if encoded != Ok((block, 9)) || counts != (3, 9, 1, 9) {
-        println!("uplink.rs: wrong: {encoded:02x?}, {counts:?}");
+    if counts != (3, 9, 1, 9) {
+        println!("uplink.rs: wrong: {counts:?}");
         std::process::exit(1);
     }
-    println!("uplink.rs: {} checks kept, gap {}, 9 additions", planned.kept, planned.gap);
+
+    for size in [64, 256, 1024] {
+        // One information packet, at place 1; its block has it at places 2
+        // and 3 too, and zeros at place 0.
+        let information: Vec<u8> = (0..size).map(|j| (j % 251) as u8).collect();
+        let block = [&vec![0; size][..], &information, &information, &information].concat();
+        if encode(&plan, size, &information) != Ok((block, planned.additions)) {
+            println!("uplink.rs: packets of {size} bytes: wrong");
+            std::process::exit(1);
+        }
+    }
+
+    // A packet has 1 to 1,024 bytes.
+    let refused = encode(&plan, 1025, &[0; 1025]);
+    if refused != Err(2) {
+        println!("uplink.rs: packets of 1025 bytes: {refused:?}");
+        std::process::exit(1);
+    }
+    println!(
+        "uplink.rs: {} checks kept, gap {}; {} additions with packets of 64, 256 and 1024 bytes; 1025 bytes refused with 2",
+        planned.kept, planned.gap, planned.additions
+    );
 }

@@ -1,6 +1,7 @@
 /* The week in one program, over all three libraries: makes a staircase table,
  * plans it, encodes a file, loses packets, repairs the block and verifies it.
- * On the bench a wrong byte is found. */
+ * On the bench a wrong byte is found. One plan serves packets of 64, 256 and
+ * 1,024 bytes. */
 
 #include <stdio.h>
 #include <string.h>
@@ -9,7 +10,7 @@
 #include "tables.h"
 #include "uplink.h"
 
-enum { MOST_PLACES = 1024, MOST_SIZE = 64, FIRST_INFORMATION = 6 };
+enum { MOST_PLACES = 1024, MOST_SIZE = 1024, FIRST_INFORMATION = 5 };
 
 static uint16_t table[BS_TABLE_WORDS];
 static uint32_t plan[BS_PLAN_WORDS];
@@ -35,27 +36,45 @@ static void write_file(size_t bytes)
         file[i] = (uint8_t)(text[i % (sizeof text - 1)] + i / (sizeof text - 1) % 7);
 }
 
-/* Carries one file from the uplink to the receiver. Every step-th packet is
- * lost. 0 if all went well. */
-static int carry(size_t sources, size_t packets, size_t ones, size_t seed, size_t size, size_t step)
+/* A staircase table, as both ends make it: sources, packets, ones and seed. */
+typedef struct {
+    size_t sources, packets, ones, seed;
+} matrix;
+
+static bs_made make(matrix m, size_t size)
 {
-    bs_made made = bs_staircase(sources, packets, ones, seed, size, table, BS_TABLE_WORDS);
+    return bs_staircase(m.sources, m.packets, m.ones, m.seed, size, table, BS_TABLE_WORDS);
+}
+
+/* Plans the matrix. The plan holds for packets of every size; its table here
+ * has packets of one byte. 0 if all went well. */
+static int make_plan(matrix m, bs_planned *planned)
+{
+    bs_made made = make(m, 1);
     if (made.refusal != 0)
         return failed("table refused", made.refusal);
-
-    /* The uplink. The file lies in the block as it is, then the repair packets. */
-    bs_planned planned = bs_plan(table, made.length, plan, BS_PLAN_WORDS, work, BS_WORK_WORDS);
-    if (planned.refusal != 0)
-        return failed("planning refused", planned.refusal);
-    if (planned.gap != 0)
-        return failed("checks set aside", planned.gap);
-    if (planned.kept != packets - sources)
-        return failed("checks kept", planned.kept);
-    for (size_t i = 0; i < sources; i++)
+    *planned = bs_plan(table, made.length, plan, BS_PLAN_WORDS, work, BS_WORK_WORDS);
+    if (planned->refusal != 0)
+        return failed("planning refused", planned->refusal);
+    if (planned->gap != 0)
+        return failed("checks set aside", planned->gap);
+    if (planned->kept != m.packets - m.sources)
+        return failed("checks kept", planned->kept);
+    for (size_t i = 0; i < m.sources; i++)
         if (plan[FIRST_INFORMATION + i] != i)
             return failed("not in natural order: information place", plan[FIRST_INFORMATION + i]);
+    return 0;
+}
+
+/* Carries one file from the uplink to the receiver, by the plan, with packets
+ * of so many bytes. Every step-th packet is lost. 0 if all went well. */
+static int carry(matrix m, bs_planned planned, size_t size, size_t step)
+{
+    const size_t sources = m.sources, packets = m.packets;
+
+    /* The uplink. The file lies in the block as it is, then the repair packets. */
     write_file(sources * size - 5);
-    bs_encoded encoded = bs_encode(plan, planned.length, file, sources * size,
+    bs_encoded encoded = bs_encode(plan, planned.length, size, file, sources * size,
                                    sent, packets * size, scratch, 0, SIZE_MAX);
     if (encoded.refusal != 0)
         return failed("encoding refused", encoded.refusal);
@@ -71,10 +90,13 @@ static int carry(size_t sources, size_t packets, size_t ones, size_t seed, size_
         memset(block + place * size, 0xee, size);
         lost++;
     }
+
+    /* The receiver, whose table has the size that was encoded with. */
+    bs_made made = make(m, size);
+    if (made.refusal != 0)
+        return failed("table refused", made.refusal);
     if (bs_verify(table, made.length, block, packets * size).codeword != 0)
         return failed("passed with lost packets", lost);
-
-    /* The receiver. */
     bs_repaired repaired = bs_repair(table, made.length, block, packets * size, map, packets);
     if (repaired.refusal != 0)
         return failed("repair refused", repaired.refusal);
@@ -105,8 +127,16 @@ static int carry(size_t sources, size_t packets, size_t ones, size_t seed, size_
 
 int main(void)
 {
-    /* A small file, and one of 51,195 bytes. */
-    if (carry(20, 30, 3, 2024, 16, 6) != 0)
+    static const matrix small = {20, 30, 3, 2024}, large = {800, 1000, 3, 12345};
+    bs_planned planned;
+
+    /* A small file. */
+    if (make_plan(small, &planned) != 0 || carry(small, planned, 16, 6) != 0)
         return 1;
-    return carry(800, 1000, 3, 12345, 64, 10);
+
+    /* Files of 51,195, 204,795 and 819,195 bytes by one plan. */
+    if (make_plan(large, &planned) != 0)
+        return 1;
+    return carry(large, planned, 64, 10) != 0 || carry(large, planned, 256, 10) != 0
+        || carry(large, planned, 1024, 10) != 0;
 }

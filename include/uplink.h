@@ -13,12 +13,22 @@
  * The planner turns a table into a plan once; the encoder carries out the
  * plan for each block. A plan is made of 32-bit numbers:
  *
- *     4, n, s, g, M,   n - M, the information places, ascending,
+ *     3, n, g, M,   n - M, the information places, ascending,
  *     the count of steps, the steps
  *
  * A step is kind * 16,777,216 + to * 4,096 + from. Kind 0 clears slot to
  * (from is 0), kind 1 adds slot from into slot to. Slots 0 to n - 1 are the
  * places of the block, n to n + g - 1 those of the scratch.
+ *
+ * A plan holds for packets of every size, 1 to 1,024 bytes: s isn't in it, and
+ * the size is given with each encoding. Tables that differ in s alone have the
+ * same plan. Byte j of the packets in the block comes from byte j of the
+ * information packets alone, as if packets had one byte. The receiver's table
+ * must have as s the size that was encoded with.
+ *
+ * Earlier plans started with 4, n, s, g, M. A stored one is refused with 9:
+ * make it anew from its table. bs_encode has grown by size: build callers
+ * anew.
  *
  * No call writes a byte that isn't named here. Lengths count elements, not
  * bytes. Buffers lent to one call don't overlap, and a pointer isn't null even
@@ -28,18 +38,19 @@
  * fields and, where nothing else is said, leaves its buffers as they were:
  *
  *      1  a table of fewer than 5 words
- *      2  first word not 2, or n, s or m beyond its limits
+ *      2  first word not 2, or n, s or m beyond its limits; of bs_encode: a
+ *         size outside 1 to 1,024
  *      3  too few words for the weights, a weight over 64, W0 over 6,144 or
  *         not the sum of the weights, or a table of wrong length
  *      4  a place not below n, or not ascending in its check
  *      5  a buffer of wrong length
  *      6  more than 32 checks set aside
- *      9  a plan that isn't well-formed: wrong counts or length, n, s, g, M
- *         or the count of steps beyond limits, places not ascending below n,
- *         or a step that names no slot, adds a slot into itself, clears with
+ *      9  a plan that isn't well-formed: wrong counts or length, n, g, M or
+ *         the count of steps beyond limits, places not ascending below n, or
+ *         a step that names no slot, adds a slot into itself, clears with
  *         from above 0, has an unknown kind or writes an information place
  *
- * Of several causes the one with the lowest number is given, but 9 before 5.
+ * bs_plan looks for 1 to 6 in this order, bs_encode for 2, then 9, then 5.
  */
 #ifndef BS_UPLINK_H
 #define BS_UPLINK_H
@@ -76,13 +87,22 @@ typedef struct {
     uint32_t additions; /* add steps carried out */
 } bs_encoded;
 
-/* Encodes one block by a plan. plan_len is exactly the plan's length,
- * information has (n - M) * s bytes, block n * s, scratch g * s. At most
- * limit steps are carried out; a limit at or above the count of steps, such
- * as SIZE_MAX, means all of them. What block and scratch hold beforehand
+/* Encodes one block by a plan, with packets of size bytes; the s of the table
+ * that was planned plays no part. plan_len is exactly the plan's length,
+ * information has (n - M) * size bytes, block n * size, scratch g * size. At
+ * most limit steps are carried out; a limit at or above the count of steps,
+ * such as SIZE_MAX, means all of them. What block and scratch hold beforehand
  * doesn't count.
- * Refusals: 9 and 5. */
-bs_encoded bs_encode(const uint32_t *plan, size_t plan_len,
+ *
+ * Accepted: block and scratch hold what the steps leave in their slots.
+ * Refusals, in the order in which they are looked for:
+ *
+ *      2  size 0 or over 1,024, whatever plan and buffers are
+ *      9  a plan that isn't well-formed, whatever the buffers are
+ *      5  information, block or scratch of another length
+ *
+ * Refused: every byte of block and scratch is kept. */
+bs_encoded bs_encode(const uint32_t *plan, size_t plan_len, size_t size,
                      const uint8_t *information, size_t information_len,
                      uint8_t *block, size_t block_len,
                      uint8_t *scratch, size_t scratch_len,

@@ -65,12 +65,19 @@ fn main() {
     let program = std::env::var("PLANLIST").expect("PLANLIST names the program");
     let table_of = |(n, checks): (usize, Vec<Vec<usize>>)| model::table_words(n, 1, &checks);
     let b = table_of(gen::table_b());
+    // The size that is printed is the table's.
+    let b_with = |s: u16| bytes(&[&b[..2], &[s], &b[3..]].concat());
     let largest = model::table_words(1024, 1024, &vec![(7..19).collect::<Vec<_>>(); 512]);
     assert_eq!(bytes(&largest).len(), model::MAX_TABLE_FILE);
     let mut longer = bytes(&largest);
     longer.extend([0, 0]);
     let fixed: Vec<(&str, Vec<u8>)> = vec![
         ("B", bytes(&b)),
+        ("B, size 64", b_with(64)),
+        ("B, size 256", b_with(256)),
+        ("B, size 1,024", b_with(1024)),
+        ("B, size 0", b_with(0)),
+        ("B, size 1,025", b_with(1025)),
         ("A", bytes(&[2, 7, 1, 3, 4, 4, 4, 12, 0, 2, 4, 6, 1, 2, 5, 6, 3, 4, 5, 6])),
         ("P9, no information", bytes(&[2, 1, 1, 1, 1, 1, 0])),
         ("P10, no step", bytes(&[2, 3, 1, 0, 0])),

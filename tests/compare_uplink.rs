@@ -1,12 +1,14 @@
-//! The uplink's library against the model: planner and encoder.
+//! The uplink's library against the model: planner and encoder. The cases of one
+//! plan at many packet sizes are in sizes.rs.
 
 mod gen;
 mod harness;
 mod model;
+mod sizes;
 
 use gen::Rng;
-use harness::{holds, same, Lent, Run};
-use model::{Encoded, Planned, Step, Table};
+use harness::{equal, holds, same, Lent, Run};
+use model::{Encoded, Plan, Planned, Step, Table};
 
 #[link(name = "uplink", kind = "static")]
 extern "C" {
@@ -21,6 +23,7 @@ extern "C" {
     fn bs_encode(
         plan: *const u32,
         plan_len: usize,
+        size: usize,
         information: *const u8,
         information_len: usize,
         block: *mut u8,
@@ -82,25 +85,28 @@ fn plan(rng: &mut Rng, table: &[u16]) -> Result<(Planned, Vec<u32>), String> {
     Ok((answer, plan))
 }
 
-/// The library's answer, block and scratch, if they are the model's. The
-/// lengths are those of block and scratch; they arrive full of anything.
-fn encode(
+/// What an encoding answers, and block and scratch afterwards.
+type Outcome = (Encoded, Vec<u8>, Vec<u8>);
+
+/// The library's outcome, on block and scratch that arrive with these bytes.
+/// Nothing else is written.
+fn library(
     rng: &mut Rng,
     plan: &[u32],
+    size: usize,
     information: &[u8],
-    (block_len, scratch_len): (usize, usize),
+    (block, scratch): (&[u8], &[u8]),
     limit: usize,
-) -> Result<(Encoded, Vec<u8>, Vec<u8>), String> {
-    let mut block = rng.bytes(block_len);
-    let mut scratch = rng.bytes(scratch_len);
+) -> Result<Outcome, String> {
     let lent_plan = Lent::new(rng, plan);
     let lent_information = Lent::new(rng, information);
-    let mut lent_block = Lent::new(rng, &block);
-    let mut lent_scratch = Lent::new(rng, &scratch);
+    let mut lent_block = Lent::new(rng, block);
+    let mut lent_scratch = Lent::new(rng, scratch);
     let answer = unsafe {
         bs_encode(
             lent_plan.ptr(),
             lent_plan.len(),
+            size,
             lent_information.ptr(),
             lent_information.len(),
             lent_block.mut_ptr(),
@@ -110,23 +116,50 @@ fn encode(
             limit,
         )
     };
-    let expected = model::encode(plan, information, &mut block, &mut scratch, limit);
-    let told = |what: String| format!("limit {limit}: {what}");
-    same("encode", &answer, &expected).map_err(told)?;
-    lent_plan.kept("encode, plan").map_err(told)?;
-    lent_information.kept("encode, information").map_err(told)?;
-    lent_block.holds("encode, block", &block).map_err(told)?;
-    lent_scratch.holds("encode, scratch", &scratch).map_err(told)?;
-    Ok((answer, block, scratch))
+    lent_plan.kept("encode, plan")?;
+    lent_information.kept("encode, information")?;
+    lent_block.guarded("encode, block")?;
+    lent_scratch.guarded("encode, scratch")?;
+    Ok((answer, lent_block.content().to_vec(), lent_scratch.content().to_vec()))
+}
+
+/// The library's outcome, if it is the model's. The lengths are those of block
+/// and scratch; they arrive full of anything.
+fn encode(
+    rng: &mut Rng,
+    plan: &[u32],
+    size: usize,
+    information: &[u8],
+    (block_len, scratch_len): (usize, usize),
+    limit: usize,
+) -> Result<Outcome, String> {
+    let mut block = rng.bytes(block_len);
+    let mut scratch = rng.bytes(scratch_len);
+    let told = |what: String| format!("size {size}, limit {limit}: {what}");
+    let given = library(rng, plan, size, information, (&block, &scratch), limit).map_err(told)?;
+    let answer = model::encode(plan, size, information, &mut block, &mut scratch, limit);
+    same("encode", &given.0, &answer).map_err(told)?;
+    equal("encode, block", &given.1, &block).map_err(told)?;
+    equal("encode, scratch", &given.2, &scratch).map_err(told)?;
+    Ok(given)
+}
+
+/// The lengths of block and scratch.
+fn lengths_of(p: &Plan, size: usize) -> (usize, usize) {
+    (p.n * size, p.g * size)
+}
+
+fn information_of(rng: &mut Rng, p: &Plan, size: usize) -> Vec<u8> {
+    rng.bytes((p.n - p.kept) * size)
 }
 
 /// The encoder under limits: all of a short plan, some of a long one.
-fn encode_limits(rng: &mut Rng, words: &[u32]) -> Result<Vec<u8>, String> {
+fn encode_limits(rng: &mut Rng, words: &[u32], size: usize) -> Result<Vec<u8>, String> {
     let p = model::read_plan(words).ok_or("the plan isn't well-formed")?;
-    let information = rng.bytes((p.n - p.kept) * p.s);
-    let lengths = (p.n * p.s, p.g * p.s);
+    let information = information_of(rng, &p, size);
+    let lengths = lengths_of(&p, size);
     let count = p.steps.len();
-    let bytes = (p.n + p.g) * p.s;
+    let bytes = (p.n + p.g) * size;
     let mut limits: Vec<usize> = vec![count, count + 1, usize::MAX];
     if count <= 60 && bytes < 4000 {
         limits.extend(0..count);
@@ -136,7 +169,7 @@ fn encode_limits(rng: &mut Rng, words: &[u32]) -> Result<Vec<u8>, String> {
     }
     let mut whole = None;
     for limit in limits {
-        let (answer, block, scratch) = encode(rng, words, &information, lengths, limit)?;
+        let (answer, block, scratch) = encode(rng, words, size, &information, lengths, limit)?;
         same("refusal", &answer.refusal, &0)?;
         if limit >= count {
             same("additions", &(answer.additions as usize), &model::adds(&p.steps))?;
@@ -192,24 +225,24 @@ fn encode_case(rng: &mut Rng) -> Result<(), String> {
         return same("refusal", &answer.refusal, &6);
     }
     bounds(&answer)?;
-    let block = encode_limits(rng, &plan)?;
+    let block = encode_limits(rng, &plan, t.s)?;
     same("codeword", &model::verify(&table, &block).codeword, &1)?;
 
     if rng.once_in(3) {
         let p = model::read_plan(&plan).unwrap();
-        let mut information = rng.bytes((p.n - p.kept) * p.s);
-        let mut lengths = (p.n * p.s, p.g * p.s);
+        let mut information = information_of(rng, &p, t.s);
+        let mut lengths = lengths_of(&p, t.s);
         match rng.below(4) {
             0 => lengths.0 = gen::wrong_length(rng, lengths.0),
             1 => lengths.1 = gen::wrong_length(rng, lengths.1),
             2 => information.resize(gen::wrong_length(rng, information.len()), 3),
             _ => {
                 // Too many in one, as many too few in another.
-                lengths.0 += p.s;
-                lengths.1 = lengths.1.saturating_sub(p.s);
+                lengths.0 += t.s;
+                lengths.1 = lengths.1.saturating_sub(t.s);
             }
         }
-        let (answer, _, _) = encode(rng, &plan, &information, lengths, usize::MAX)?;
+        let (answer, _, _) = encode(rng, &plan, t.s, &information, lengths, usize::MAX)?;
         same("refusal", &answer.refusal, &5)?;
     }
     Ok(())
@@ -219,7 +252,8 @@ fn foreign_case(rng: &mut Rng) -> Result<(), String> {
     let p = gen::foreign_plan(rng);
     let words = gen::words_of_plan(&p);
     same("plan read", &model::read_plan(&words).as_ref(), &Some(&p))?;
-    encode_limits(rng, &words).map(|_| ())
+    let size = gen::foreign_size(rng, p.n);
+    encode_limits(rng, &words, size).map(|_| ())
 }
 
 fn damaged_plan_case(rng: &mut Rng) -> Result<(), String> {
@@ -240,12 +274,13 @@ fn damaged_plan_case(rng: &mut Rng) -> Result<(), String> {
         }
         // Lengths by the damaged counts or by the old ones, right or wrong.
         let count = |i: usize| words.get(i).map_or(0, |w| *w as usize);
-        let (n, s, g, kept) = match rng.below(2) {
-            0 => (p.n, p.s, p.g, p.kept),
-            _ => (count(1).min(1025), count(2).min(16), count(3).min(33), count(4)),
+        let (n, g, kept) = match rng.below(2) {
+            0 => (p.n, p.g, p.kept),
+            _ => (count(1).min(1025), count(2).min(33), count(3)),
         };
-        let mut information = rng.bytes(n.saturating_sub(kept) * s);
-        let mut lengths = (n * s, g * s);
+        let size = gen::foreign_size(rng, p.n.max(n));
+        let mut information = rng.bytes(n.saturating_sub(kept) * size);
+        let mut lengths = (n * size, g * size);
         if rng.once_in(4) {
             lengths.0 += 1;
         }
@@ -256,7 +291,8 @@ fn damaged_plan_case(rng: &mut Rng) -> Result<(), String> {
             information.push(1);
         }
         let limit = rng.pick(&[0, 1, usize::MAX]);
-        encode(rng, &words, &information, lengths, limit)?;
+        let size = if rng.once_in(8) { sizes::wrong_size(rng) } else { size };
+        encode(rng, &words, size, &information, lengths, limit)?;
     }
     Ok(())
 }
@@ -291,7 +327,7 @@ fn brute_case(rng: &mut Rng) -> Result<(), String> {
     let (answer, plan) = plan(rng, &table)?;
     let steps = model::steps(&t, &layout);
     let g = layout.aside.len();
-    let words = model::plan_words(t.n, t.s, g, layout.kept.len(), &layout.information, &steps);
+    let words = model::plan_words(t.n, g, layout.kept.len(), &layout.information, &steps);
     same("plan by subsets", &plan, &words)?;
     same(
         "counts",
@@ -302,7 +338,7 @@ fn brute_case(rng: &mut Rng) -> Result<(), String> {
     // The one codeword that has the information, bit by bit.
     let codewords = model::codewords(&t);
     let information = rng.bytes(layout.information.len());
-    let (_, block, _) = encode(rng, &plan, &information, (t.n, g), usize::MAX)?;
+    let (_, block, _) = encode(rng, &plan, 1, &information, (t.n, g), usize::MAX)?;
     for bit in 0..8 {
         let agree = |word: &&usize| {
             layout
@@ -320,13 +356,14 @@ fn brute_case(rng: &mut Rng) -> Result<(), String> {
 }
 
 fn random_case(rng: &mut Rng, number: u64) -> Result<(), String> {
-    match number % 16 {
+    match number % 18 {
         0..=2 => plan_case(rng),
         3..=6 => encode_case(rng),
         7..=8 => foreign_case(rng),
         9..=11 => damaged_plan_case(rng),
         12..=13 => damaged_table_case(rng),
-        _ => brute_case(rng),
+        14..=15 => brute_case(rng),
+        _ => sizes::random_case(rng),
     }
 }
 
@@ -355,10 +392,10 @@ fn known(k: &Known) -> Result<(), String> {
     same("gap", &(answer.gap as usize), &k.fitted.len())?;
     same("additions planned", &answer.additions, &k.additions)?;
     bounds(&answer)?;
-    let lengths = (t.n * t.s, k.fitted.len() * t.s);
-    let steps = plan.len() - 7 - k.information.len();
+    let lengths = (t.n, k.fitted.len());
+    let steps = plan.len() - 6 - k.information.len();
     for limit in 0..=steps + 2 {
-        let (answer, block, _) = encode(&mut rng, &plan, k.packets, lengths, limit)?;
+        let (answer, block, _) = encode(&mut rng, &plan, 1, k.packets, lengths, limit)?;
         if limit >= steps {
             same("additions", &answer.additions, &k.additions)?;
             same("block", &block, &k.block.to_vec())?;
@@ -485,7 +522,7 @@ fn fixed_cases(run: &mut Run) {
     run.fixed("P7, M stays 3", answer.and_then(|p| same("M", &p.0.kept, &3)));
 
     let b_words: Vec<u32> = vec![
-        4, 4, 1, 1, 3, 1, 1, 15, 12288, 16789505, 8192, 16785411, 16384, 16793601, 16793602, 0,
+        3, 4, 1, 3, 1, 1, 15, 12288, 16789505, 8192, 16785411, 16384, 16793601, 16793602, 0,
         16777220, 12288, 16789504, 16789505, 8192, 16785408, 16785411,
     ];
     let got = plan(&mut Rng::new(0, 0), b);
@@ -503,7 +540,7 @@ fn fixed_cases(run: &mut Run) {
     let one = |n: usize, weight: usize| Table { n, s: 1, checks: vec![(0..weight).collect()] };
     let answer = |n: u32, w: u32| Planned {
         refusal: 0,
-        length: 7 + (n - 1) + w,
+        length: 6 + (n - 1) + w,
         kept: 1,
         ones: w,
         gap: 0,
@@ -515,7 +552,7 @@ fn fixed_cases(run: &mut Run) {
     run.fixed("weight 65", refused(&wide(65, 65), 3));
     for copies in [1, 31, 32] {
         let (n, checks) = gen::side_by_side(&vec![gen::table_b(); copies as usize]);
-        let length = 7 + copies + 15 * copies;
+        let length = 6 + copies + 15 * copies;
         let expected = Planned {
             refusal: 0,
             length,
@@ -539,7 +576,7 @@ fn fixed_cases(run: &mut Run) {
         "512 checks of weight 1",
         planned(
             &singles,
-            Planned { refusal: 0, length: 519, kept: 512, ones: 512, gap: 0, additions: 0 },
+            Planned { refusal: 0, length: 518, kept: 512, ones: 512, gap: 0, additions: 0 },
         ),
     );
 
@@ -564,7 +601,7 @@ fn fixed_cases(run: &mut Run) {
     // Each part of cause 9 by itself, with right and with wrong lengths.
     let clear = |to: usize| Step::Clear(to).number();
     let add = |to: usize, from: usize| Step::Add { to, from }.number();
-    let right: Vec<u32> = vec![4, 5, 1, 1, 3, 2, 1, 3, 3, clear(0), add(5, 4), add(2, 5)];
+    let right: Vec<u32> = vec![3, 5, 1, 3, 2, 1, 3, 3, clear(0), add(5, 4), add(2, 5)];
     let changed = |i: usize, value: u32| {
         let mut words = right.clone();
         words[i] = value;
@@ -572,61 +609,61 @@ fn fixed_cases(run: &mut Run) {
     };
     let mut plans: Vec<(&str, Vec<u32>, u32)> = vec![
         ("well-formed", right.clone(), 0),
-        ("sections", changed(0, 3), 9),
+        ("first word 2", changed(0, 2), 9),
+        ("first word 4", changed(0, 4), 9),
+        ("old layout", gen::old_layout(&right, 1), 9),
         ("n 0", changed(1, 0), 9),
         ("n with another count", changed(1, 6), 9),
         ("n 1,025", changed(1, 1025), 9),
-        ("s 0", changed(2, 0), 9),
-        ("s 1,025", changed(2, 1025), 9),
-        ("g over M", changed(3, 4), 9),
-        ("g 33", changed(3, 33), 9),
-        ("M over n", changed(4, 6), 9),
-        ("M with another count", changed(4, 2), 9),
-        ("count of information", changed(5, 3), 9),
-        ("place not below n", changed(7, 5), 9),
-        ("places equal", changed(7, 1), 9),
-        ("places descending", changed(6, 4), 9),
-        ("count of steps, more", changed(8, 4), 9),
-        ("count of steps, fewer", changed(8, 2), 9),
-        ("count of steps, most", changed(8, u32::MAX), 9),
-        ("kind 2", changed(9, clear(0) + 2 * 16_777_216), 9),
-        ("kind 255", changed(9, clear(0) + 255 * 16_777_216), 9),
-        ("clear outside", changed(9, clear(6)), 9),
-        ("add to outside", changed(9, add(6, 0)), 9),
-        ("add from outside", changed(9, add(0, 6)), 9),
-        ("last slot", changed(9, add(0, 5)), 0),
-        ("clear with from", changed(9, clear(0) + 1), 9),
-        ("added into itself", changed(9, add(4, 4)), 9),
-        ("information cleared", changed(9, clear(1)), 9),
-        ("information added into", changed(9, add(3, 0)), 9),
-        ("information added", changed(9, add(0, 3)), 0),
+        ("g over M", changed(2, 4), 9),
+        ("g 33", changed(2, 33), 9),
+        ("M over n", changed(3, 6), 9),
+        ("M with another count", changed(3, 2), 9),
+        ("count of information", changed(4, 3), 9),
+        ("place not below n", changed(6, 5), 9),
+        ("places equal", changed(6, 1), 9),
+        ("places descending", changed(5, 4), 9),
+        ("count of steps, more", changed(7, 4), 9),
+        ("count of steps, fewer", changed(7, 2), 9),
+        ("count of steps, most", changed(7, u32::MAX), 9),
+        ("kind 2", changed(8, clear(0) + 2 * 16_777_216), 9),
+        ("kind 255", changed(8, clear(0) + 255 * 16_777_216), 9),
+        ("clear outside", changed(8, clear(6)), 9),
+        ("add to outside", changed(8, add(6, 0)), 9),
+        ("add from outside", changed(8, add(0, 6)), 9),
+        ("last slot", changed(8, add(0, 5)), 0),
+        ("clear with from", changed(8, clear(0) + 1), 9),
+        ("added into itself", changed(8, add(4, 4)), 9),
+        ("information cleared", changed(8, clear(1)), 9),
+        ("information added into", changed(8, add(3, 0)), 9),
+        ("information added", changed(8, add(0, 3)), 0),
         ("empty", vec![], 9),
-        ("six words", right[..6].to_vec(), 9),
-        ("one word less", right[..11].to_vec(), 9),
+        ("five words", right[..5].to_vec(), 9),
+        ("one word less", right[..10].to_vec(), 9),
     ];
     let mut longer = right.clone();
     longer.push(clear(0));
     plans.push(("one word more", longer, 9));
     let with_steps = |count: usize| {
-        let mut words = vec![4, 2, 1, 0, 2, 0, count as u32];
+        let mut words = vec![3, 2, 0, 2, 0, count as u32];
         words.extend((0..count).map(|i| if i % 3 == 0 { clear(i % 2) } else { add(0, 1) }));
         words
     };
     plans.push(("13,344 steps", with_steps(13_344), 0));
     plans.push(("13,345 steps", with_steps(13_345), 9));
     let with_kept = |kept: usize| {
-        let mut words = vec![4, 600, 1, 32, kept as u32, 600 - kept as u32];
+        let mut words = vec![3, 600, 32, kept as u32, 600 - kept as u32];
         words.extend(0..600 - kept as u32);
         words.extend([1, clear(631)]);
         words
     };
     plans.push(("M 512 of 600", with_kept(512), 0));
     plans.push(("M 513 of 600", with_kept(513), 9));
-    let with_gap = |g: usize| vec![4, 40, 1, g as u32, 40, 0, 1, clear(39 + g)];
+    let with_gap = |g: usize| vec![3, 40, g as u32, 40, 0, 1, clear(39 + g)];
     plans.push(("gap 32", with_gap(32), 0));
     plans.push(("gap 33", with_gap(33), 9));
     let with_places = |n: usize| {
-        let mut words = vec![4, n as u32, 1, 0, 1, n as u32 - 1];
+        let mut words = vec![3, n as u32, 0, 1, n as u32 - 1];
         words.extend(1..n as u32);
         words.extend([2, clear(0), add(0, n - 1)]);
         words
@@ -636,25 +673,28 @@ fn fixed_cases(run: &mut Run) {
     let rng = &mut Rng::new(0, 0);
     for (name, words, refusal) in &plans {
         let count = |i: usize| words.get(i).map_or(0, |w| *w as usize).min(2048);
-        let information = rng.bytes(count(1).saturating_sub(count(4)) * count(2));
-        let lengths = (count(1) * count(2), count(3) * count(2));
-        for limit in [0, 1, usize::MAX] {
-            let got = encode(rng, words, &information, lengths, limit);
-            run.fixed(name, got.and_then(|e| same("refusal", &e.0.refusal, refusal)));
+        for size in [1, 3] {
+            let information = rng.bytes(count(1).saturating_sub(count(3)) * size);
+            let lengths = (count(1) * size, count(2) * size);
+            for limit in [0, 1, usize::MAX] {
+                let got = encode(rng, words, size, &information, lengths, limit);
+                run.fixed(name, got.and_then(|e| same("refusal", &e.0.refusal, refusal)));
+            }
+            let longer = (lengths.0 + 1, lengths.1);
+            let got = encode(rng, words, size, &information, longer, usize::MAX);
+            let first = if *refusal == 0 { 5 } else { 9 };
+            run.fixed(
+                &format!("{name}, block too long"),
+                got.and_then(|e| same("answer", &e.0, &Encoded::refused(first))),
+            );
         }
-        let longer = (lengths.0 + 1, lengths.1);
-        let got = encode(rng, words, &information, longer, usize::MAX);
-        let first = if *refusal == 0 { 5 } else { 9 };
-        run.fixed(
-            &format!("{name}, block too long"),
-            got.and_then(|e| same("answer", &e.0, &Encoded::refused(first))),
-        );
     }
 }
 
 fn main() {
-    let mut run = Run::from_arguments(4000);
+    let mut run = Run::from_arguments(4500);
     fixed_cases(&mut run);
+    sizes::fixed_cases(&mut run);
     run.random(random_case);
     run.end()
 }

@@ -536,7 +536,6 @@ pub fn foreign_plan(rng: &mut Rng) -> model::Plan {
         _ => rng.range(0, n.min(512)),
     };
     let g = rng.range(0, kept.min(32));
-    let s = size(rng, n).min(4000 / n + 1);
     let information = rng.some_below(n, n - kept);
     let written: Vec<usize> =
         (0..n + g).filter(|slot| information.binary_search(slot).is_err()).collect();
@@ -556,11 +555,24 @@ pub fn foreign_plan(rng: &mut Rng) -> model::Plan {
             steps.push(Step::Add { to, from });
         }
     }
-    model::Plan { n, s, g, kept, information, steps }
+    model::Plan { n, g, kept, information, steps }
+}
+
+/// A packet size for a plan that may have many steps.
+pub fn foreign_size(rng: &mut Rng, n: usize) -> usize {
+    size(rng, n).min(4000 / n + 1)
 }
 
 pub fn words_of_plan(p: &model::Plan) -> Vec<u32> {
-    model::plan_words(p.n, p.s, p.g, p.kept, &p.information, &p.steps)
+    model::plan_words(p.n, p.g, p.kept, &p.information, &p.steps)
+}
+
+/// The same plan as it was laid out when it had a size: 4, n, s, g, M.
+pub fn old_layout(words: &[u32], s: usize) -> Vec<u32> {
+    let mut old = words.to_vec();
+    old[0] = 4;
+    old.insert(2, s as u32);
+    old
 }
 
 pub const PLAN_DAMAGES: usize = 31;
@@ -568,10 +580,10 @@ pub const PLAN_DAMAGES: usize = 31;
 /// One damage to a plan; a cause of 9 nearly always.
 pub fn damage_plan(rng: &mut Rng, w: &mut Vec<u32>, which: usize) {
     let at = |w: &Vec<u32>, i: usize| w.get(i).copied().unwrap_or(0) as usize;
-    let (n, s, g, kept) = (at(w, 1), at(w, 2), at(w, 3), at(w, 4));
-    let info = at(w, 5).min(2000);
-    let count_at = 6 + info;
-    let first_step = 7 + info;
+    let (n, g, kept) = (at(w, 1), at(w, 2), at(w, 3));
+    let info = at(w, 4).min(2000);
+    let count_at = 5 + info;
+    let first_step = 6 + info;
     let step_at = |rng: &mut Rng, w: &Vec<u32>| {
         if w.len() > first_step { Some(rng.range(first_step, w.len() - 1)) } else { None }
     };
@@ -582,8 +594,8 @@ pub fn damage_plan(rng: &mut Rng, w: &mut Vec<u32>, which: usize) {
     };
     let number = |kind: usize, to: usize, from: usize| kind * 16_777_216 + to * 4_096 + from;
     // A whole plan with counts of its own.
-    let whole = |n: usize, s: usize, g: usize, kept: usize, info: usize, steps: usize| {
-        let mut words = vec![4, n as u32, s as u32, g as u32, kept as u32, info as u32];
+    let whole = |n: usize, g: usize, kept: usize, info: usize, steps: usize| {
+        let mut words = vec![3, n as u32, g as u32, kept as u32, info as u32];
         words.extend(0..info as u32);
         words.push(steps as u32);
         words.extend(vec![(n as u32).wrapping_sub(1).wrapping_mul(4_096) & 0xfff_fff; steps]);
@@ -591,56 +603,69 @@ pub fn damage_plan(rng: &mut Rng, w: &mut Vec<u32>, which: usize) {
     };
     let max = u32::MAX as usize;
     match which {
-        0 => w.truncate(rng.below(8)),
-        1 => put(w, 0, rng.pick(&[0, 1, 2, 3, 5, max])),
+        0 => w.truncate(rng.below(7)),
+        1 => put(w, 0, rng.pick(&[0, 1, 2, 4, 5, max])),
         2 => put(w, 1, rng.pick(&[0, n + 1, n.wrapping_sub(1), 1025, 4096, max])),
-        3 => put(w, 2, rng.pick(&[0, 1025, 65536, max])),
-        4 => put(w, 3, rng.pick(&[33, kept + 1, 64, max])),
-        5 => put(w, 4, rng.pick(&[kept + 1, kept.wrapping_sub(1), n + 1, 513, max])),
-        6 => put(w, 5, rng.pick(&[info + 1, info.wrapping_sub(1), 0, max, max - 5, 1 << 31])),
-        7 => put(w, count_at, rng.pick(&[0, 13_345, max, max - 6, 1 << 31])),
-        8 => {
+        // The old layout, with its own first word or with the new one.
+        3 | 4 => {
+            if w.len() > 3 {
+                let first = w[0];
+                *w = old_layout(w, rng.pick(&[1, 2, 64, 1024]));
+                if which == 4 {
+                    w[0] = first;
+                }
+            }
+        }
+        5 => put(w, 2, rng.pick(&[33, kept + 1, 64, max])),
+        6 => put(w, 3, rng.pick(&[kept + 1, kept.wrapping_sub(1), n + 1, 513, max])),
+        7 => put(w, 4, rng.pick(&[info + 1, info.wrapping_sub(1), 0, max, max - 5, 1 << 31])),
+        8 => put(w, count_at, rng.pick(&[0, 13_345, max, max - 6, 1 << 31])),
+        9 => {
             let count = at(w, count_at);
             put(w, count_at, rng.pick(&[count + 1, count.wrapping_sub(1)]));
         }
-        9 => {
+        10 => {
             w.pop();
         }
-        10 => w.push(number(0, n + g - (n > 0) as usize, 0) as u32),
-        // Wholes with one limit passed.
-        11 => *w = whole(1025, s, 0, 1, 1024, 1),
-        12 => *w = whole(1, 1025, 0, 1, 0, 1),
-        13 => *w = whole(40, s, 33, 40, 0, 3),
-        14 => *w = whole(9, s, 3, 2, 7, 2),
-        15 => *w = whole(600, s, 0, 513, 87, 2),
-        16 => *w = whole(3, s, 0, 1, 2, 13_345),
-        17 => {
-            *w = whole(3, s, 0, 4, 0, 1);
-            put(w, 5, rng.pick(&[0, max]));
+        11 => w.push(number(0, n + g - (n > 0) as usize, 0) as u32),
+        // One word of the first section less.
+        12 => {
+            if w.len() > 3 {
+                w.remove(rng.range(0, 3));
+            }
         }
-        18 => *w = whole(0, s, 0, 0, 0, 0),
-        19 => *w = whole(1, 0, 0, 1, 0, 1),
+        // Wholes with one limit passed.
+        13 => *w = whole(1025, 0, 1, 1024, 1),
+        14 => *w = whole(40, 33, 40, 0, 3),
+        15 => *w = whole(9, 3, 2, 7, 2),
+        16 => *w = whole(600, 0, 513, 87, 2),
+        17 => *w = whole(3, 0, 1, 2, 13_345),
+        18 => {
+            *w = whole(3, 0, 4, 0, 1);
+            put(w, 4, rng.pick(&[0, max]));
+        }
+        19 => *w = whole(0, 0, 0, 0, 0),
         // Information places.
         20 => {
             if info > 0 {
-                put(w, 6 + rng.below(info), rng.pick(&[n, n + 1, n + g, 4096, max]));
+                put(w, 5 + rng.below(info), rng.pick(&[n, n + 1, n + g, 4096, max]));
             }
         }
         21 => {
-            if info > 1 && w.len() >= 7 + info {
-                let i = 6 + rng.below(info - 1);
+            if info > 1 && w.len() >= 6 + info {
+                let i = 5 + rng.below(info - 1);
                 w.swap(i, i + 1);
             }
         }
         22 => {
             if info > 1 {
-                let i = 6 + rng.below(info - 1);
+                let i = 5 + rng.below(info - 1);
                 put(w, i + 1, at(w, i));
             }
         }
         23 => {
             if info > 0 {
-                put(w, 5 + info, n);
+                put(w, 4 + info, n);
             }
         }
         // Steps.
@@ -677,7 +702,7 @@ pub fn damage_plan(rng: &mut Rng, w: &mut Vec<u32>, which: usize) {
         29 => {
             if let Some(i) = step_at(rng, w) {
                 if info > 0 {
-                    let place = at(w, 6 + rng.below(info)) & 4095;
+                    let place = at(w, 5 + rng.below(info)) & 4095;
                     let from = if place == 0 { 1 } else { 0 };
                     let kind = rng.below(2);
                     put(w, i, number(kind, place, if kind == 1 { from } else { 0 }));

@@ -75,28 +75,35 @@ impl<T: Word> Lent<T> {
     pub fn content(&self) -> &[T] {
         &self.all[self.from..self.from + self.len]
     }
-    /// The content is what it should be, and the guards are as they were.
-    pub fn holds(&self, name: &str, expected: &[T]) -> Result<(), String> {
+    /// The guards are as they were.
+    pub fn guarded(&self, name: &str) -> Result<(), String> {
         let end = self.from + self.len;
         if self.all[..self.from] != self.before[..self.from] || self.all[end..] != self.before[end..]
         {
             return Err(format!("{name}: written outside"));
         }
-        if self.content() == expected {
-            return Ok(());
-        }
-        let i = (0..self.len).find(|i| self.content()[*i] != expected[*i]).unwrap();
-        Err(format!(
-            "{name} of {}: at {i} is {:?}, expected {:?}",
-            self.len,
-            self.content()[i],
-            expected[i]
-        ))
+        Ok(())
+    }
+    /// The content is what it should be, and the guards are as they were.
+    pub fn holds(&self, name: &str, expected: &[T]) -> Result<(), String> {
+        self.guarded(name)?;
+        equal(name, self.content(), expected)
     }
     /// Nothing was written at all.
     pub fn kept(&self, name: &str) -> Result<(), String> {
         self.holds(name, &self.before[self.from..self.from + self.len])
     }
+}
+
+/// Number by number the same.
+pub fn equal<T: Word>(name: &str, got: &[T], expected: &[T]) -> Result<(), String> {
+    if got == expected {
+        return Ok(());
+    }
+    let len = got.len();
+    same(&format!("{name}, length"), &len, &expected.len())?;
+    let i = (0..len).find(|i| got[*i] != expected[*i]).unwrap();
+    Err(format!("{name} of {len}: at {i} is {:?}, expected {:?}", got[i], expected[i]))
 }
 
 pub fn same<T: PartialEq + Debug>(name: &str, got: &T, expected: &T) -> Result<(), String> {

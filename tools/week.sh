@@ -44,12 +44,12 @@ lose() {
     awk -v first=$2 -v count=$3 'BEGIN { for (p = 0; p < 64; p++) print (p >= first && p < first + count) }' | bytes >map
 }
 
-# refuses WORDS PROGRAM ARGUMENT..: the program must say the words on standard error, and neither print nor write anything
+# refuses WORDS PROGRAM ARGUMENT..: the program must say the words on standard error, and neither print nor write the file none
 refuses() {
     words=$1
     program=$2
     shift 2
-    said "$program $*" '' "$("$bin/$program" "$@" none 2>errors)"
+    said "$program $*" '' "$("$bin/$program" "$@" 2>errors)"
     said "$program $*" "$words" "$(cat errors)"
     [ ! -e none ] || { echo "$program $*: wrote a file"; exit 1; }
 }
@@ -58,11 +58,11 @@ refuses() {
 said 'staircase_file' 'table of 28 numbers, 4 checks, 19 ones' "$("$bin/staircase_file" 4 8 3 1 1 small)"
 said 'the small table' '2 8 1 4 4 5 5 5 19 0 1 3 4 0 2 3 4 5 0 1 2 5 6 1 2 3 6 7' \
     "$(echo $(od -An -v -tu1 small | awk '{ for (i = 1; i < NF; i += 2) print $i + 256 * $(i + 1) }'))"
-refuses 'refused 11' staircase_file 4 8 3 2147483647 1
-refuses 'refused 2' staircase_file 4 8 3 1 1025
-refuses 'refused 3' staircase_file 64 67 3 1 1
-refuses 'SEED is not a decimal number below 2^64' staircase_file 4 8 3 -1 1
-refuses 'SIZE is not a decimal number below 2^64' staircase_file 4 8 3 1 18446744073709551616
+refuses 'refused 11' staircase_file 4 8 3 2147483647 1 none
+refuses 'refused 2' staircase_file 4 8 3 1 1025 none
+refuses 'refused 3' staircase_file 64 67 3 1 1 none
+refuses 'SEED is not a decimal number below 2^64' staircase_file 4 8 3 -1 1 none
+refuses 'SIZE is not a decimal number below 2^64' staircase_file 4 8 3 1 18446744073709551616 none
 
 # The week's table: 40 sources among 64 packets of 64 bytes, three ones in a source column, seed 1.
 said 'staircase_file' 'table of 196 numbers, 24 checks, 167 ones' "$("$bin/staircase_file" 40 64 3 1 64 table)"
@@ -73,11 +73,11 @@ said 'alist_to_table' 'table of 196 numbers, 24 checks, 167 ones' "$("$bin/alist
 cmp again table
 echo "alist text: $(wc -c <text) bytes, read as the same table"
 tr ' ' '\t' <text >tabs
-refuses 'refused 12: *' alist_to_table tabs 64
+refuses 'refused 12: *' alist_to_table tabs 64 none
 echo '2 1 1 1 1 0 1 1 0 2' >one_sided
-refuses 'refused 13: *' alist_to_table one_sided 64
-refuses 'refused 2: *' alist_to_table text 1025
-refuses 'refused 3: *' table_to_alist tabs
+refuses 'refused 13: *' alist_to_table one_sided 64 none
+refuses 'refused 2: *' alist_to_table text 1025 none
+refuses 'refused 3: *' table_to_alist tabs none
 
 # and a correction file of 9,000 bytes
 awk 'BEGIN { x = 1; for (i = 0; i < 9000; i++) { x = (x * 75 + 74) % 65537; print x % 256 } }' | bytes >corrections
@@ -116,6 +116,33 @@ for part in source.*; do
 done
 
 cmp received corrections
+
+# The same plan with packets of 256 bytes: the whole file in one block. The receiver's table has that size; but for the size, planlist
+# prints the same of it.
+size=256
+said 'staircase_file' 'table of 196 numbers, 24 checks, 167 ones' "$("$bin/staircase_file" 40 64 3 1 $size larger)"
+"$bin/planlist" <larger >larger_plan
+sed 's/ size 64 / size 256 /' plan | cmp - larger_plan
+said 'encode_file, 256 bytes' "additions $(sed -n 's/^adds //p' plan)" "$("$bin/encode_file" table corrections sent $size)"
+said 'verify_file, 256 bytes' codeword "$("$bin/verify_file" larger sent)"
+refuses 'refused 5' verify_file table sent
+cp sent block
+lose block 17 10
+said 'repair_file, 256 bytes' 'restored 10 lost 0 *' "$("$bin/repair_file" larger block map)"
+cmp block sent
+head -c "$(wc -c <corrections)" block | cmp - corrections
+echo 'packets of 256 bytes: the whole file in one block by the same plan, packets 17 to 26 lost and restored'
+# B of the paper, which sets a check aside, with packets of two bytes by a table of one: a5 at byte 0 gives P3's block
+echo '2 0 4 0 1 0 3 0 3 0 3 0 3 0 9 0 0 0 1 0 2 0 0 0 1 0 3 0 0 0 2 0 3 0' | bytes >b
+echo '165 1' | bytes >pair
+said 'encode_file, B' 'additions 9' "$("$bin/encode_file" b pair pairs 2)"
+said 'the block of B' '0 0 165 1 165 1 165 1' "$(echo $(od -An -v -tu1 pairs))"
+# a packet has 1 to 1,024 bytes, and a block of the programs up to 32,768
+refuses 'refused 2: a packet has 1 to 1024 bytes' encode_file table corrections none 0
+refuses 'refused 2: a packet has 1 to 1024 bytes' encode_file table corrections none 1025
+refuses 'SIZE is not a decimal number below 2^64' encode_file table corrections none 64x
+refuses 'the block has more than 32768 bytes' encode_file table corrections none 1024
+size=64
 
 # Twenty packets in a row, 10 to 29: repair stalls at 17 of them, and full repair restores all.
 cp block.aa stalled

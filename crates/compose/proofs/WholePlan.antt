@@ -7,7 +7,7 @@ use lib.ListN.{length, getD, take, drop, length-append}
 use lib.Seq.{take-suc, length-take-le}
 use Rattle.table.specs.Checks.{check}
 use Rattle.lists.specs.Lists.{written, Wrote}
-use Rattle.table.specs.Table.{mostChecks, places, size, number, checks}
+use Rattle.table.specs.Table.{mostChecks, places, number, checks}
 use Rattle.table.specs.TableLaws.{accepted}
 use Rattle.plan.specs.declared.Step.{Step}
 use Rattle.plan.specs.Head.{HeadFits}
@@ -69,10 +69,10 @@ module _ {t starts order us : List ℕ} {taken : ℕ} {aside : List ℕ} {g : �
   gap-are = ap length (q .chosen .set-aside) ∙ aside-length q
 
   -- the numbers, section by section
-  numbers-are : {kept : ℕ} → kept ≡ planOf t .M → planNumbers (places t) (size t) g kept info steps ≡ numbersOf t
+  numbers-are : {kept : ℕ} → kept ≡ planOf t .M → planNumbers (places t) g kept info steps ≡ numbersOf t
   unfolding numbersOf
-  numbers-are e = ap₂ (λ x y. planNumbers (places t) (size t) x y info steps) (sym gap-are) e
-      ∙ ap₂ (planNumbers (places t) (size t) (planOf t .g) (planOf t .M)) (sym info-are) (sym steps-are)
+  numbers-are e = ap₂ (λ x y. planNumbers (places t) x y info steps) (sym gap-are) e
+      ∙ ap₂ (planNumbers (places t) (planOf t .g) (planOf t .M)) (sym info-are) (sym steps-are)
 
   -- within the limits
   pub steps-few : length steps ≤ mostSteps
@@ -89,11 +89,10 @@ module _ {t starts order us : List ℕ} {taken : ℕ} {aside : List ℕ} {g : �
   unfolding planOf
   kept-low e = let d = accepted t (q .located .table .accepted) in let h = kept-length (places t) (checks t) in let n = d .few-checks in omega arith
 
-  pub head-fits : {w : List ℕ} {n s kept : ℕ} → kept ≡ planOf t .M → leastPlan ≤ length w → n ≡ places t → s ≡ size t → HeadFits w n s g kept
-  head-fits e r a b = let d = accepted t (q .located .table .accepted) in record {
+  pub head-fits : {w : List ℕ} {n kept : ℕ} → kept ≡ planOf t .M → leastPlan ≤ length w → n ≡ places t → HeadFits w n g kept
+  head-fits e r a = let d = accepted t (q .located .table .accepted) in record {
     room = omega arith;
     few-places = let h = d .few-places in omega arith;
-    few-bytes = let h = d .few-bytes in omega arith;
     few-aside = q .few;
     few-kept = kept-low e;
   }
@@ -116,9 +115,9 @@ module _ {t starts order us : List ℕ} {taken : ℕ} {aside : List ℕ} {g : �
       most a (suc b) h = omega arith
 
   -- ---- the three sections, one after the other
-  module _ (l : List ℕ) (big : leastPlan ≤ length l) {n s kept : ℕ} {e₁ : List ℕ} (en : n ≡ places t) (es : s ≡ size t) (h : e₁ ≡ written l 0 (planHead n s g kept)) where
-    head-wrote : Wrote l 0 (planHead (places t) (size t) g kept) e₁ infoCountAt
-    head-wrote = record { list = h ∙ ap₂ (λ x y. written l 0 (planHead x y g kept)) en es; next = refl }
+  module _ (l : List ℕ) (big : leastPlan ≤ length l) {n kept : ℕ} {e₁ : List ℕ} (en : n ≡ places t) (h : e₁ ≡ written l 0 (planHead n g kept)) where
+    head-wrote : Wrote l 0 (planHead (places t) g kept) e₁ infoCountAt
+    head-wrote = record { list = h ∙ ap (λ x. written l 0 (planHead x g kept)) en; next = refl }
 
     head-long : length e₁ ≡ length l
     head-long = wrote-length head-wrote (omega arith)
@@ -130,7 +129,7 @@ module _ {t starts order us : List ℕ} {taken : ℕ} {aside : List ℕ} {g : �
       info-wrote : Wrote e₁ infoCountAt (infoNumbers info) e₂ k
       info-wrote = wrote-is i (ap (λ x. infoNumbers (infoPlaces x us taken fs g)) en)
 
-      two-wrote : Wrote l 0 (planHead (places t) (size t) g kept ++ infoNumbers info) e₂ k
+      two-wrote : Wrote l 0 (planHead (places t) g kept ++ infoNumbers info) e₂ k
       two-wrote = wrote-append (omega arith) head-wrote info-wrote
 
       pub steps-room : Room e₂ (k + 1) steps

@@ -203,7 +203,7 @@ pub fn write_plan(
     ensures { λ r. ⌜ Composed (now (t .entry)) (now (plan .entry)) (now (plan .exit)) (r .length) (r .additions) ⌝ }
 {
     let n = wide(t[1]);
-    plan::write_head(plan, n, wide(t[2]), g, kept);
+    plan::write_head(plan, n, g, kept);
     let k = info_section(plan, plan::INFO_COUNT_AT, n, owns, taken, fitted, g);
     let e = step_section(
         plan,

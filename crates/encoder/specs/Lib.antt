@@ -1,4 +1,5 @@
 pub mod Answers
+pub mod AnySize
 pub mod Encoding
 pub mod EncodingLaws
 pub mod Running

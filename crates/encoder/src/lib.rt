@@ -1,4 +1,5 @@
 // The encoder.
+use table::MOST_BYTES;
 ghost use mathlib.Core.Path.{_≡_};
 ghost use mathlib.Core.Bool.{cond};
 ghost use Prim.Native.Nat.{_≤_, min};
@@ -7,7 +8,7 @@ ghost use Rattle.table.specs.Table.{mostBytes};
 ghost use Rattle.plan.specs.Layout.{stepCount, planRefusal};
 ghost use Rattle.start.specs.Start.{Lent};
 ghost use Rattle.encoder.specs.Answers.{encodeAnswerOf};
-ghost use Rattle.encoder.specs.Encoding.{wrongLengths, encodeAnswer, encodeBlockAfter, encodeScratchAfter};
+ghost use Rattle.encoder.specs.Encoding.{wrongLengths, refusedBy, encodeAnswer, encodeBlockAfter, encodeScratchAfter};
 ghost use Rattle.encoder.specs.Running.{Ran};
 
 // The refusal, 0 for none, and the number of add steps that were carried out.
@@ -71,6 +72,16 @@ fn run(plan: &[u32], s: usize, steps: usize, block: &mut [u8], scratch: &mut [u8
 
 // ---- the call
 
+// The refusal, and no additions.
+fn refused(refusal: u32) -> Encoded
+    ensures { λ r. ⌜ encodeAnswerOf r ≡ refusedBy refusal ⌝ }
+{
+    Encoded {
+        refusal: refusal,
+        additions: 0,
+    }
+}
+
 // A lent buffer of wrong length.
 fn wrong_lengths(plan: &[u32], s: usize, information: usize, block: usize, scratch: usize) -> bool
     requires { ⌜ (planRefusal (now plan) ≡ 0)
@@ -86,35 +97,32 @@ fn wrong_lengths(plan: &[u32], s: usize, information: usize, block: usize, scrat
     scratch != plan::gap(plan) * s
 }
 
-// Encodes: block and scratch are cleared, the information packets go to their places, and the first `limit` steps are carried
-// out; a limit at or above the plan's count means all.
+// Encodes with packets of s bytes: block and scratch are cleared, the information packets go to their places, and the first
+// `limit` steps are carried out; a limit at or above the plan's count means all.
 pub fn encode(
     plan: &[u32],
+    s: usize,
     information: &[u8],
     block: &mut [u8],
     scratch: &mut [u8],
     limit: usize,
 ) -> Encoded
     ensures answer { λ r. ⌜ encodeAnswerOf r
-        ≡ encodeAnswer (now (plan .entry)) (now (information .entry)) (now (block .entry)) (now (scratch .entry)) limit ⌝ }
+        ≡ encodeAnswer (now (plan .entry)) s (now (information .entry)) (now (block .entry)) (now (scratch .entry)) limit ⌝ }
     ensures block { λ _. ⌜ now (block .exit)
-        ≡ encodeBlockAfter (now (plan .entry)) (now (information .entry)) (now (block .entry)) (now (scratch .entry)) limit ⌝ }
+        ≡ encodeBlockAfter (now (plan .entry)) s (now (information .entry)) (now (block .entry)) (now (scratch .entry)) limit ⌝ }
     ensures scratch { λ _. ⌜ now (scratch .exit)
-        ≡ encodeScratchAfter (now (plan .entry)) (now (information .entry)) (now (block .entry)) (now (scratch .entry)) limit ⌝ }
+        ≡ encodeScratchAfter (now (plan .entry)) s (now (information .entry)) (now (block .entry)) (now (scratch .entry)) limit ⌝ }
 {
+    if table::outside(MOST_BYTES, s) {
+        return refused(2);
+    }
     let refusal = plan::look_over(plan);
     if refusal != 0 {
-        return Encoded {
-            refusal: refusal,
-            additions: 0,
-        };
+        return refused(refusal);
     }
-    let s = plan::size(plan);
     if wrong_lengths(plan, s, information.len(), block.len(), scratch.len()) {
-        return Encoded {
-            refusal: 5,
-            additions: 0,
-        };
+        return refused(5);
     }
     let count = plan::step_count(plan);
     let steps = within(limit, count);

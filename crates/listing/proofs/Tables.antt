@@ -7,10 +7,12 @@ use native.Mathlib.Nat.{zero-add}
 use native.Mathlib.Omega.{arith}
 use lib.ListN.{length, take, drop, replicate, length-replicate}
 use Rattle.io.specs.Counts.{Counts}
+use Rattle.table.specs.Table.{size}
+use Rattle.table.specs.TableLaws.{accepted}
 use Rattle.plan.specs.Step.{addSteps}
 use Rattle.plan.specs.Layout.{stepsOf}
 use Rattle.planner.specs.declared.Planned.{Planned}
-use Rattle.planner.specs.Planning.{planningAnswerOf, planningAnswer, planningPlanAfter, planningRefusalAt, leastPlan, workWords}
+use Rattle.planner.specs.Planning.{planOf, numbersOf, planningAnswerOf, planningAnswer, planningPlanAfter, planningRefusalAt, leastPlan, workWords}
 use Rattle.theorems.specs.OwnPlan.{own-steps}
 use Rattle.own_plan.specs.Own.{Own, lentWork, own-refusal, own-plan}
 use Rattle.table_file.specs.declared.Words.{Words}
@@ -46,13 +48,15 @@ module _ (t : List ℕ) (r : Planned) (a : planningAnswerOf r ≡ planningAnswer
     pub plan-adds : r .additions ≡ addSteps (stepsOf plan)
     plan-adds = own .additions ∙ sym (ap addSteps (ap stepsOf (own .numbers) ∙ own-steps t (own .accepted) (own .few)))
 
-    pub plan-fits : (out : List ℕ) → mostText ≤ length out → length (planTextOf plan (r .ones)) ≤ length out
-    plan-fits out h =
-        let w : r .ones ≤ 6144 = rw (own .ones) (ones-few t (own .accepted)) in
-        let m = plan-most plan (r .ones) (own .formed) w in omega arith
+    module _ {s : ℕ} (e : s ≡ size t) where
+      pub plan-fits : (out : List ℕ) → mostText ≤ length out → length (planTextOf plan s (r .ones)) ≤ length out
+      plan-fits out h =
+          let w : r .ones ≤ 6144 = rw (own .ones) (ones-few t (own .accepted)) in
+          let b = accepted t (own .accepted) .few-bytes in
+          let m = plan-most plan s (r .ones) (own .formed) (omega arith) w in omega arith
 
-    pub plan-put : planTextOf plan (r .ones) ≡ tableText t
-    plan-put = ap₂ planTextOf (own .numbers) (own .ones) ∙ sym (accepted-text t (sym refusal-is ∙ z) (own .accepted) (own .few))
+      pub plan-put : planTextOf plan s (r .ones) ≡ tableText t
+      plan-put = ap₂ (λ x. planTextOf x s) (own .numbers) (own .ones) ∙ ap (λ x. planTextOf (numbersOf t) x (planOf t .W)) e ∙ sym (accepted-text t (sym refusal-is ∙ z) (own .accepted) (own .few))
 
 -- ---- a file
 -- written at the start of the buffer

@@ -28,12 +28,12 @@ ones-few t ok = let a = kept-weight (places t) (checks t) in let b = accepted t 
 
 -- the text of an accepted table is that of its plan's numbers
 pub own-text : (t : List ℕ) → refusal t ≡ 0 → planOf t .g ≤ mostAside
-    → planTextOf (numbersOf t) (planOf t .W) ≡ planText (places t) (size t) (planOf t .M) (planOf t .W) (planOf t .g) (planOf t .info) (planOf t .steps)
+    → planTextOf (numbersOf t) (size t) (planOf t .W) ≡ planText (places t) (size t) (planOf t .M) (planOf t .W) (planOf t .g) (planOf t .info) (planOf t .steps)
 unfolding numbersOf
 own-text t ok few = ap₂ (planText (places t) (size t) (planOf t .M) (planOf t .W) (planOf t .g)) (own-info t ok few) (own-steps t ok few)
 
 pub accepted-text : (t : List ℕ) → planningRefusalAt t leastPlan workWords ≡ 0 → refusal t ≡ 0 → planOf t .g ≤ mostAside
-    → tableText t ≡ planTextOf (numbersOf t) (planOf t .W)
+    → tableText t ≡ planTextOf (numbersOf t) (size t) (planOf t .W)
 unfolding tableText
 accepted-text t h ok few = rw (eq-eqb (planningRefusalAt t leastPlan workWords) 0 h, tableText) (sym (own-text t ok few))
 
@@ -45,7 +45,7 @@ table-most : (t : List ℕ) → length (tableText t) ≤ mostText
 table-most t = byBool (eqb (planningRefusalAt t leastPlan workWords) 0)
     (λ e. let h = eqb-true (planningRefusalAt t leastPlan workWords) 0 e in
     let ok = accepted-planning t leastPlan workWords h in
-    rw (accepted-text t h (ok .0) (ok .1)) (plan-most (numbersOf t) (planOf t .W) (own-accepted t (ok .0) (ok .1)) (ones-few t (ok .0))))
+    rw (accepted-text t h (ok .0) (ok .1)) (plan-most (numbersOf t) (size t) (planOf t .W) (own-accepted t (ok .0) (ok .1)) (accepted t (ok .0) .few-bytes) (ones-few t (ok .0))))
     (λ e. rw (refused-text t (eqb-false (planningRefusalAt t leastPlan workWords) 0 e)) (refused-most (planningRefusalAt t leastPlan workWords)))
 
 -- ---- a file

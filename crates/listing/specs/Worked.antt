@@ -1,8 +1,9 @@
--- Worked examples: what planlist prints for table B is the paper's text; "info" alone; odd and empty files.
+-- Worked examples: what planlist prints for table B is the paper's text; "info" alone; another size; odd and empty files.
 use mathlib.Core.Path.{_≡_, refl}
 use mathlib.Core.List.{List, [], _∷_, _++_}
 use Prim.Native.Nat.{ℕ, _/_, _%_}
 use Prim.Native.String.{String}
+use Rattle.table.specs.Table.{atSize}
 use Rattle.planner.specs.Planning.{planOf, planningRefusalAt}
 use Rattle.numerals.specs.Numerals.{digitsWithin}
 use Rattle.text.specs.Lines.{bytes}
@@ -34,6 +35,11 @@ listing-of-B = refl
 pub listing-of-P9 : listing (fileOf table9) ≡ text ("places 1 size 1 kept 1 ones 1 gap 0" ∷ "info" ∷ "clear 0" ∷ "adds 0" ∷ [])
 unfolding listing tableText planningRefusalAt planOf digitsWithin
 listing-of-P9 = refl
+
+-- document 02, C-16: "Planlist prints the table's size as before"
+pub listing-of-P9-at-1024 : listing (fileOf (atSize 1024 table9)) ≡ text ("places 1 size 1024 kept 1 ones 1 gap 0" ∷ "info" ∷ "clear 0" ∷ "adds 0" ∷ [])
+unfolding listing tableText planningRefusalAt planOf digitsWithin
+listing-of-P9-at-1024 = refl
 
 pub listing-of-odd : listing (2 ∷ []) ≡ text ("refused 3" ∷ [])
 unfolding listing digitsWithin

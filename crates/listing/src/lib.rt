@@ -23,7 +23,8 @@ fn list_table(out: &mut [u8], table: &[u16]) -> usize
         return plan_text::put_refused(out, 0, planned.refusal);
     }
     let length = planned.length as usize;
-    plan_text::put_plan(out, &plan[..length], planned.ones, planned.additions)
+    let s = table::wide(table[2]);
+    plan_text::put_plan(out, &plan[..length], s, planned.ones, planned.additions)
 }
 
 // of a table's file

@@ -4,12 +4,13 @@ use mathlib.Core.Bool.{Bool, true, false, cond, not}
 use mathlib.Core.List.{List, map}
 use Prim.Native.Nat.{ℕ, _+_, _≤_}
 use native.Mathlib.Omega.{arith}
-use borrow.Author.Tests.{le-ltb, ne-eqb, eq-eqb}
-use lib.Dec.{eqb, ltb}
+use borrow.Author.Tests.{le-ltb, eq-eqb}
+use lib.Dec.{ltb}
 use lib.ListN.{length}
 use Rattle.lists.specs.ListLaws.{all-pass}
 use Rattle.lists.specs.Lists.{allPass, anyOf, All, All.nil, All.cons}
 use Rattle.lists.specs.Tests.{or-neither}
+use Rattle.table.specs.TableLaws.{within}
 use Rattle.table.specs.Table.{number, weights, onesCount, total, ones, rising, outside, tooShort, beyondLimits, badLengths, badPlaces, refusal}
 use Rattle.making.specs.ReadBack.{weights-back, ones-back, checks-back, length-written, total-weights}
 use Rattle.making.specs.Written.{tableOf}
@@ -29,10 +30,6 @@ pub record Fits (n s : ℕ) (cs : List (List ℕ)) : Type 0 where
 light-any : {cs : List (List ℕ)} → All (λ c. length c ≤ 64) cs → anyOf (ltb 64) (map length cs) ≡ false
 light-any nil = refl
 light-any (cons {x = c} h a) = rw (le-ltb 64 (length c) h) (light-any a)
-
--- within its limits
-inside : (most x : ℕ) → 1 ≤ x → x ≤ most → outside most x ≡ false
-inside most x a b = or-neither (eqb x 0) (ltb most x) (ne-eqb x 0 (λ e. omega arith)) (le-ltb most x b)
 
 -- no cause, no refusal
 no-cause : (a b c d : Bool) → a ≡ false → b ≡ false → c ≡ false → d ≡ false → _≡_ {A = ℕ} (cond a 1 (cond b 2 (cond c 3 (cond d 4 0)))) 0
@@ -61,7 +58,7 @@ module _ (n s : ℕ) (cs : List (List ℕ)) (fits : Fits n s cs) where
       let l = length-written n s cs in
       no-cause (tooShort t) (beyondLimits t) (badLengths t) (badPlaces t)
       (le-ltb (length t) 5 (omega arith))
-      (or-neither (outside 1024 n) _ (inside 1024 n (fits .some-places) (fits .few-places))
-      (or-neither (outside 1024 s) _ (inside 1024 s (fits .some-bytes) (fits .few-bytes)) (le-ltb 512 (length cs) (fits .few-checks))))
+      (or-neither (outside 1024 n) _ (within 1024 n (fits .some-places) (fits .few-places))
+      (or-neither (outside 1024 s) _ (within 1024 s (fits .some-bytes) (fits .few-bytes)) (le-ltb 512 (length cs) (fits .few-checks))))
       lengths-good
       (ap not (ap (allPass (rising n 0)) (checks-back n s cs) ∙ all-pass (rising n 0) (fits .rises)))

@@ -4,16 +4,10 @@ use mathlib.Core.Bool.{true, false, not}
 use mathlib.Core.List.{List}
 use Prim.Native.Nat.{ℕ, _+_, _-_, _<_, _≤_}
 use borrow.Author.Tests.{eq-eqb, ne-eqb, lt-ltb, le-ltb}
-use lib.Dec.{eqb, ltb}
+use lib.Dec.{eqb}
 use lib.ListN.{length, getD}
-use Rattle.table.specs.Table.{mostPlaces, mostBytes, mostChecks, outside}
-use Rattle.plan.specs.Layout.{mostAside, mostSteps, headCount, leastNumbers, planPlaces, planSize, planGap, planKept, infoCount, stepCount, stepsAt, badLengths, badLimits, badCounts}
-
-pub outside-zero : (most x : ℕ) → x ≡ 0 → true ≡ outside most x
-outside-zero most x h = rw h
-
-pub outside-most : (most x : ℕ) → (x ≡ 0 → ⊥) → ltb most x ≡ outside most x
-outside-most most x h = rw (ne-eqb x 0 h)
+use Rattle.table.specs.Table.{mostPlaces, mostChecks, outside}
+use Rattle.plan.specs.Layout.{mostAside, mostSteps, headCount, leastNumbers, planPlaces, planGap, planKept, infoCount, stepCount, stepsAt, badLengths, badLimits, badCounts}
 
 module _ (w : List ℕ) where
   pub lengths-info : (infoCount w ≡ planPlaces w - planKept w → ⊥) → true ≡ badLengths w
@@ -35,27 +29,23 @@ module _ (w : List ℕ) where
   limits-places a = rw a
 
   module _ (a : outside mostPlaces (planPlaces w) ≡ false) where
-    pub limits-size : outside mostBytes (planSize w) ≡ true → true ≡ badLimits w
-    limits-size b = rw (a, b)
+    pub limits-gap : mostAside < planGap w → true ≡ badLimits w
+    limits-gap d = rw (a, lt-ltb mostAside (planGap w) d)
 
-    module _ (b : outside mostBytes (planSize w) ≡ false) where
-      pub limits-gap : mostAside < planGap w → true ≡ badLimits w
-      limits-gap d = rw (a, b, lt-ltb mostAside (planGap w) d)
+    module _ (d : planGap w ≤ mostAside) where
+      pub limits-aside : planKept w < planGap w → true ≡ badLimits w
+      limits-aside e = rw (a, le-ltb mostAside (planGap w) d, lt-ltb (planKept w) (planGap w) e)
 
-      module _ (d : planGap w ≤ mostAside) where
-        pub limits-aside : planKept w < planGap w → true ≡ badLimits w
-        limits-aside e = rw (a, b, le-ltb mostAside (planGap w) d, lt-ltb (planKept w) (planGap w) e)
+      module _ (e : planGap w ≤ planKept w) where
+        pub limits-kept : planPlaces w < planKept w → true ≡ badLimits w
+        limits-kept f = rw (a, le-ltb mostAside (planGap w) d, le-ltb (planKept w) (planGap w) e, lt-ltb (planPlaces w) (planKept w) f)
 
-        module _ (e : planGap w ≤ planKept w) where
-          pub limits-kept : planPlaces w < planKept w → true ≡ badLimits w
-          limits-kept f = rw (a, b, le-ltb mostAside (planGap w) d, le-ltb (planKept w) (planGap w) e, lt-ltb (planPlaces w) (planKept w) f)
+        module _ (f : planKept w ≤ planPlaces w) where
+          pub limits-checks : mostChecks < planKept w → true ≡ badLimits w
+          limits-checks h = rw (a, le-ltb mostAside (planGap w) d, le-ltb (planKept w) (planGap w) e, le-ltb (planPlaces w) (planKept w) f, lt-ltb mostChecks (planKept w) h)
 
-          module _ (f : planKept w ≤ planPlaces w) where
-            pub limits-checks : mostChecks < planKept w → true ≡ badLimits w
-            limits-checks h = rw (a, b, le-ltb mostAside (planGap w) d, le-ltb (planKept w) (planGap w) e, le-ltb (planPlaces w) (planKept w) f, lt-ltb mostChecks (planKept w) h)
-
-            pub limits-last : planKept w ≤ mostChecks → false ≡ badLimits w
-            limits-last h = rw (a, b, le-ltb mostAside (planGap w) d, le-ltb (planKept w) (planGap w) e, le-ltb (planPlaces w) (planKept w) f, le-ltb mostChecks (planKept w) h)
+          pub limits-last : planKept w ≤ mostChecks → false ≡ badLimits w
+          limits-last h = rw (a, le-ltb mostAside (planGap w) d, le-ltb (planKept w) (planGap w) e, le-ltb (planPlaces w) (planKept w) f, le-ltb mostChecks (planKept w) h)
 
   pub counts-short : length w < leastNumbers → true ≡ badCounts w
   counts-short a = rw (lt-ltb (length w) leastNumbers a)

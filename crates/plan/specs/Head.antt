@@ -2,12 +2,11 @@
 use mathlib.Core.List.{List}
 use Prim.Native.Nat.{ℕ, _≤_}
 use lib.ListN.{length}
-use Rattle.table.specs.Table.{mostPlaces, mostBytes, mostChecks}
+use Rattle.table.specs.Table.{mostPlaces, mostChecks}
 use Rattle.plan.specs.Layout.{mostAside, infoCountAt}
 
-pub record HeadFits (w : List ℕ) (n s g M : ℕ) : Type 0 where
+pub record HeadFits (w : List ℕ) (n g M : ℕ) : Type 0 where
   pub room : infoCountAt ≤ length w
   pub few-places : n ≤ mostPlaces
-  pub few-bytes : s ≤ mostBytes
   pub few-aside : g ≤ mostAside
   pub few-kept : M ≤ mostChecks

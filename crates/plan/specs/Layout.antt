@@ -1,5 +1,5 @@
--- The plan as numbers (document 01, "The plan" and cause 9): 4, n, s, g, M; the count n − M and the information places; the
--- count of steps and the steps.
+-- The plan as numbers (document 01, "The plan" and cause 9; document 02, C-16: "The plan's first section becomes 3, then n, g, M"):
+-- 3, n, g, M; the count n − M and the information places; the count of steps and the steps.
 use mathlib.Core.Bool.{Bool, false, not, _||_, _&&_}
 use mathlib.Core.List.{List, [], _∷_, _++_, map}
 use mathlib.Core.Option.{Option, none, some}
@@ -8,7 +8,7 @@ use lib.Dec.{eqb, ltb}
 use lib.ListN.{length, getD, take, drop}
 use Rattle.lists.specs.Lists.{allPass, has}
 use Rattle.table.specs.FirstCause.{firstCause}
-use Rattle.table.specs.Table.{mostPlaces, mostBytes, mostChecks, outside, rising}
+use Rattle.table.specs.Table.{mostPlaces, mostChecks, outside, rising}
 use Rattle.plan.specs.declared.Step.{Step}
 use Rattle.plan.specs.declared.Step.the-variants.{Clear, Add}
 use Rattle.plan.specs.Step.{pack, unpack, unpackAll}
@@ -28,10 +28,10 @@ leastPlan = 15360
 -- ---- writing
 -- the first number says how many follow it in the first section
 abbrev pub headCount : ℕ
-headCount = 4
+headCount = 3
 
-abbrev pub planHead : ℕ → ℕ → ℕ → ℕ → List ℕ
-planHead n s g M = headCount ∷ n ∷ s ∷ g ∷ M ∷ []
+abbrev pub planHead : ℕ → ℕ → ℕ → List ℕ
+planHead n g M = headCount ∷ n ∷ g ∷ M ∷ []
 
 abbrev pub infoNumbers : List ℕ → List ℕ
 infoNumbers info = length info ∷ info
@@ -39,8 +39,8 @@ infoNumbers info = length info ∷ info
 abbrev pub stepNumbers : List Step → List ℕ
 stepNumbers steps = length steps ∷ map pack steps
 
-abbrev pub planNumbers : ℕ → ℕ → ℕ → ℕ → List ℕ → List Step → List ℕ
-planNumbers n s g M info steps = planHead n s g M ++ (infoNumbers info ++ stepNumbers steps)
+abbrev pub planNumbers : ℕ → ℕ → ℕ → List ℕ → List Step → List ℕ
+planNumbers n g M info steps = planHead n g M ++ (infoNumbers info ++ stepNumbers steps)
 
 -- ---- reading
 -- where the count of information places stands, and where they start
@@ -53,14 +53,11 @@ infoAt = infoCountAt + 1
 abbrev pub planPlaces : List ℕ → ℕ
 planPlaces w = getD w 1 0
 
-abbrev pub planSize : List ℕ → ℕ
-planSize w = getD w 2 0
-
 abbrev pub planGap : List ℕ → ℕ
-planGap w = getD w 3 0
+planGap w = getD w 2 0
 
 abbrev pub planKept : List ℕ → ℕ
-planKept w = getD w 4 0
+planKept w = getD w 3 0
 
 -- the count of information places
 abbrev pub infoCount : List ℕ → ℕ
@@ -97,10 +94,10 @@ stepsOf w = unpackAll (stepsIn w)
 abbrev pub badHead : List ℕ → Bool
 badHead w = ltb (length w) leastNumbers || not (eqb (getD w 0 0) headCount)
 
--- "n or s beyond limits, g over 32 or over M, M over n or 512"
+-- n "beyond limits, g over 32 or over M, M over n or 512" (C-16: "9 no longer looks at s")
 abbrev pub badLimits : List ℕ → Bool
-badLimits w = outside mostPlaces (planPlaces w) || (outside mostBytes (planSize w) || (ltb mostAside (planGap w) || (ltb (planKept w) (planGap w)
-    || (ltb (planPlaces w) (planKept w) || ltb mostChecks (planKept w)))))
+badLimits w = outside mostPlaces (planPlaces w) || (ltb mostAside (planGap w) || (ltb (planKept w) (planGap w)
+    || (ltb (planPlaces w) (planKept w) || ltb mostChecks (planKept w))))
 
 -- "wrong counts or length", "over 13,344 steps"
 abbrev pub badLengths : List ℕ → Bool

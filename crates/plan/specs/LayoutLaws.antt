@@ -11,10 +11,11 @@ use lib.ListN.{length, getD, drop, length-drop}
 use lib.Seq.{length-take-le, getD-drop}
 use Rattle.lists.specs.Lists.{allPass, has}
 use Rattle.lists.specs.Tests.{byBool, or-false-l, or-false-r}
-use Rattle.table.specs.Table.{mostPlaces, mostBytes, mostChecks, outside, rising}
+use Rattle.table.specs.TableLaws.{inside-low, inside-high}
+use Rattle.table.specs.Table.{mostPlaces, mostChecks, outside, rising}
 use Rattle.plan.specs.declared.Step.{Step}
 use Rattle.plan.specs.declared.Step.the-variants.{Clear, Add}
-use Rattle.plan.specs.Layout.{mostAside, mostSteps, headCount, leastNumbers, planPlaces, planSize, planGap, planKept, infoAt, infoCount, infoIn, stepCount, stepsAt, stepsIn, slots, stepsOf, badHead, badLimits, badLengths, badCounts, goodStep, wellFormed, planRefusal}
+use Rattle.plan.specs.Layout.{mostAside, mostSteps, headCount, leastNumbers, planPlaces, planGap, planKept, infoAt, infoCount, infoIn, stepCount, stepsAt, stepsIn, slots, stepsOf, badHead, badLimits, badLengths, badCounts, goodStep, wellFormed, planRefusal}
 use Rattle.plan.specs.Step.{unpack, unpackAll, SlotsBelow}
 
 -- ---- tests
@@ -33,8 +34,6 @@ pub record Counted (w : List ℕ) : Type 0 where
   pub first : getD w 0 0 ≡ headCount
   pub some-places : 1 ≤ planPlaces w
   pub few-places : planPlaces w ≤ mostPlaces
-  pub some-bytes : 1 ≤ planSize w
-  pub few-bytes : planSize w ≤ mostBytes
   pub few-aside : planGap w ≤ mostAside
   pub aside-kept : planGap w ≤ planKept w
   pub kept-places : planKept w ≤ planPlaces w
@@ -43,19 +42,10 @@ pub record Counted (w : List ℕ) : Type 0 where
   pub few-steps : stepCount w ≤ mostSteps
   pub whole : length w ≡ stepsAt w + stepCount w
 
--- a number within its limits
-inside-low : (most x : ℕ) → outside most x ≡ false → 1 ≤ x
-inside-low most x h = let n = eqb-false x 0 (or-false-l (eqb x 0) (ltb most x) h) in omega arith
-
-inside-high : (most x : ℕ) → outside most x ≡ false → x ≤ most
-inside-high most x h = ltb-false most x (or-false-r (eqb x 0) (ltb most x) h)
-
 -- the limits, of a plan that is within them
 pub record InLimits (w : List ℕ) : Type 0 where
   pub some-places : 1 ≤ planPlaces w
   pub few-places : planPlaces w ≤ mostPlaces
-  pub some-bytes : 1 ≤ planSize w
-  pub few-bytes : planSize w ≤ mostBytes
   pub few-aside : planGap w ≤ mostAside
   pub aside-kept : planGap w ≤ planKept w
   pub kept-places : planKept w ≤ planPlaces w
@@ -64,18 +54,15 @@ pub record InLimits (w : List ℕ) : Type 0 where
 pub in-limits : (w : List ℕ) → badLimits w ≡ false → InLimits w
 in-limits w z =
     let r1 = or-false-r (outside mostPlaces (planPlaces w)) _ z in
-    let r2 = or-false-r (outside mostBytes (planSize w)) _ r1 in
-    let r3 = or-false-r (ltb mostAside (planGap w)) _ r2 in
-    let r4 = or-false-r (ltb (planKept w) (planGap w)) _ r3 in
+    let r2 = or-false-r (ltb mostAside (planGap w)) _ r1 in
+    let r3 = or-false-r (ltb (planKept w) (planGap w)) _ r2 in
     record {
       some-places = inside-low mostPlaces (planPlaces w) (or-false-l (outside mostPlaces (planPlaces w)) _ z);
       few-places = inside-high mostPlaces (planPlaces w) (or-false-l (outside mostPlaces (planPlaces w)) _ z);
-      some-bytes = inside-low mostBytes (planSize w) (or-false-l (outside mostBytes (planSize w)) _ r1);
-      few-bytes = inside-high mostBytes (planSize w) (or-false-l (outside mostBytes (planSize w)) _ r1);
-      few-aside = ltb-false mostAside (planGap w) (or-false-l (ltb mostAside (planGap w)) _ r2);
-      aside-kept = ltb-false (planKept w) (planGap w) (or-false-l (ltb (planKept w) (planGap w)) _ r3);
-      kept-places = ltb-false (planPlaces w) (planKept w) (or-false-l (ltb (planPlaces w) (planKept w)) _ r4);
-      few-kept = ltb-false mostChecks (planKept w) (or-false-r (ltb (planPlaces w) (planKept w)) _ r4);
+      few-aside = ltb-false mostAside (planGap w) (or-false-l (ltb mostAside (planGap w)) _ r1);
+      aside-kept = ltb-false (planKept w) (planGap w) (or-false-l (ltb (planKept w) (planGap w)) _ r2);
+      kept-places = ltb-false (planPlaces w) (planKept w) (or-false-l (ltb (planPlaces w) (planKept w)) _ r3);
+      few-kept = ltb-false mostChecks (planKept w) (or-false-r (ltb (planPlaces w) (planKept w)) _ r3);
     }
 
 pub counted : (w : List ℕ) → badCounts w ≡ false → Counted w
@@ -89,8 +76,6 @@ counted w h =
       first = eqb-true (getD w 0 0) headCount (not-false (eqb (getD w 0 0) headCount) (or-false-r (ltb (length w) leastNumbers) _ (or-false-l (badHead w) _ h)));
       some-places = l .some-places;
       few-places = l .few-places;
-      some-bytes = l .some-bytes;
-      few-bytes = l .few-bytes;
       few-aside = l .few-aside;
       aside-kept = l .aside-kept;
       kept-places = l .kept-places;

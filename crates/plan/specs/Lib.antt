@@ -1,5 +1,6 @@
 pub mod AtStart
 pub mod ByteByByte
+pub mod Bytes
 pub mod Head
 pub mod Layout
 pub mod LayoutLaws

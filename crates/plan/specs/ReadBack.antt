@@ -15,9 +15,9 @@ use Rattle.plan.specs.Step.{pack, unpack, unpackAll}
 use Rattle.plan.specs.StepLaws.{unpack-pack}
 
 -- ---- the three sections
-module _ (n s g M : ℕ) (info : List ℕ) (steps : List Step) where
+module _ (n g M : ℕ) (info : List ℕ) (steps : List Step) where
   abbrev numbers : List ℕ
-  numbers = planNumbers n s g M info steps
+  numbers = planNumbers n g M info steps
 
   pub numbers-length : length numbers ≡ leastNumbers + length info + length steps
   numbers-length = let a = length-append info (stepNumbers steps) in let b = length-map steps pack in omega arith
@@ -26,13 +26,13 @@ module _ (n s g M : ℕ) (info : List ℕ) (steps : List Step) where
   info-back = take-at info (stepNumbers steps) (length info) refl
 
   pub count-back : stepCount numbers ≡ length steps
-  count-back = getD-at (planHead n s g M ++ infoNumbers info) (length steps) (map pack steps) 0 (infoAt + length info) (omega arith)
+  count-back = getD-at (planHead n g M ++ infoNumbers info) (length steps) (map pack steps) 0 (infoAt + length info) (omega arith)
 
   pub steps-back : stepsIn numbers ≡ map pack steps
   steps-back =
-      let head : List ℕ = planHead n s g M ++ (length info ∷ (info ++ (length steps ∷ []))) in
+      let head : List ℕ = planHead n g M ++ (length info ∷ (info ++ (length steps ∷ []))) in
       let long : length head ≡ infoAt + 1 + length info = omega (arith, length-append info (length steps ∷ [])) in
-      ap (λ l. drop (infoAt + 1 + length info) (planHead n s g M ++ (length info ∷ l))) (sym (append-assoc info (length steps ∷ []) (map pack steps)))
+      ap (λ l. drop (infoAt + 1 + length info) (planHead n g M ++ (length info ∷ l))) (sym (append-assoc info (length steps ∷ []) (map pack steps)))
       ∙ drop-at head (map pack steps) (infoAt + 1 + length info) long
 
 -- ---- sound steps, packed

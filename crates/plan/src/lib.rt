@@ -1,5 +1,4 @@
 // A step of a plan, the plan's layout, and a plan's look-over.
-use table::MOST_BYTES;
 use table::MOST_CHECKS;
 use table::MOST_PLACES;
 ghost use mathlib.Core.Path.{_≡_};
@@ -8,9 +7,8 @@ ghost use mathlib.Core.List.{[]};
 ghost use mathlib.Core.Option.{some};
 ghost use lib.ListN.{length, getD, drop};
 ghost use Rattle.lists.specs.Lists.{allPass, written};
-ghost use Rattle.table.specs.Table.{outside};
 ghost use Rattle.plan.specs.Head.{HeadFits};
-ghost use Rattle.plan.specs.Layout.{leastNumbers, planHead, planPlaces, planSize, planGap, planKept};
+ghost use Rattle.plan.specs.Layout.{leastNumbers, planHead, planPlaces, planGap, planKept};
 ghost use Rattle.plan.specs.Layout.{infoAt, infoCount, infoIn, stepCount, stepsAt, badLengths, badLimits, badCounts, planRefusal};
 ghost use Rattle.plan.specs.LookOver.{Marks, Marking, isMarked, writable, goodStepBy};
 ghost use Rattle.plan.specs.Step.{SlotsBelow, pack, unpack, decodedOf};
@@ -78,7 +76,7 @@ pub const MOST_SLOTS: usize = MOST_PLACES + MOST_ASIDE;
 
 // ---- the layout
 // the first number: how many follow it in the first section
-pub const HEAD_COUNT: usize = 4;
+pub const HEAD_COUNT: usize = 3;
 
 // where the count of information places stands
 pub const INFO_COUNT_AT: usize = HEAD_COUNT + 1;
@@ -96,16 +94,15 @@ fn wide(x: u32) -> usize
 }
 
 // ---- writing
-// the first section: n, s, g and M behind their count
-pub fn write_head(w: &mut [u32], n: usize, s: usize, g: usize, m: usize)
-    requires { ⌜ HeadFits (now w) n s g m ⌝ }
-    ensures { λ _. ⌜ now (w .exit) ≡ written (now (w .entry)) 0 (planHead n s g m) ⌝ }
+// the first section: n, g and M behind their count
+pub fn write_head(w: &mut [u32], n: usize, g: usize, m: usize)
+    requires { ⌜ HeadFits (now w) n g m ⌝ }
+    ensures { λ _. ⌜ now (w .exit) ≡ written (now (w .entry)) 0 (planHead n g m) ⌝ }
 {
     w[0] = HEAD_COUNT as u32;
     w[1] = n as u32;
-    w[2] = s as u32;
-    w[3] = g as u32;
-    w[4] = m as u32;
+    w[2] = g as u32;
+    w[3] = m as u32;
 }
 
 // ---- a plan's counts
@@ -116,25 +113,18 @@ pub fn places(w: &[u32]) -> usize
     wide(w[1])
 }
 
-pub fn size(w: &[u32]) -> usize
-    requires { ⌜ leastNumbers ≤ length (now w) ⌝ }
-    ensures { λ r. ⌜ r ≡ planSize (now (w .entry)) ⌝ }
-{
-    wide(w[2])
-}
-
 pub fn gap(w: &[u32]) -> usize
     requires { ⌜ leastNumbers ≤ length (now w) ⌝ }
     ensures { λ r. ⌜ r ≡ planGap (now (w .entry)) ⌝ }
 {
-    wide(w[3])
+    wide(w[2])
 }
 
 pub fn kept(w: &[u32]) -> usize
     requires { ⌜ leastNumbers ≤ length (now w) ⌝ }
     ensures { λ r. ⌜ r ≡ planKept (now (w .entry)) ⌝ }
 {
-    wide(w[4])
+    wide(w[3])
 }
 
 pub fn info_count(w: &[u32]) -> usize
@@ -169,12 +159,6 @@ pub fn info_place(w: &[u32], k: usize) -> usize
 }
 
 // ---- cause 9
-fn beyond(most: usize, x: usize) -> bool
-    ensures { λ r. ⌜ r ≡ outside most x ⌝ }
-{
-    x == 0 || most < x
-}
-
 // wrong counts or length, over 13,344 steps
 fn bad_lengths(w: &[u32]) -> bool
     requires counts { ⌜ leastNumbers ≤ length (now w) ⌝ }
@@ -192,7 +176,7 @@ fn bad_lengths(w: &[u32]) -> bool
     MOST_STEPS < steps || w.len() != at + steps
 }
 
-// n or s beyond limits, g over 32 or over M, M over n or 512
+// n beyond limits, g over 32 or over M, M over n or 512
 fn bad_limits(w: &[u32]) -> bool
     requires { ⌜ leastNumbers ≤ length (now w) ⌝ }
     ensures { λ r. ⌜ r ≡ badLimits (now (w .entry)) ⌝ }
@@ -200,7 +184,7 @@ fn bad_limits(w: &[u32]) -> bool
     let n = places(w);
     let g = gap(w);
     let m = kept(w);
-    if beyond(MOST_PLACES, n) || beyond(MOST_BYTES, size(w)) {
+    if table::outside(MOST_PLACES, n) {
         return true;
     }
     if MOST_ASIDE < g || m < g || n < m || MOST_CHECKS < m {

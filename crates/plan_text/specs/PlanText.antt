@@ -6,7 +6,7 @@ use Prim.Native.Nat.{ℕ}
 use Rattle.plan.specs.declared.Step.{Step}
 use Rattle.plan.specs.declared.Step.the-variants.{Clear, Add}
 use Rattle.plan.specs.Step.{addSteps}
-use Rattle.plan.specs.Layout.{planPlaces, planSize, planGap, planKept, infoIn, stepsOf}
+use Rattle.plan.specs.Layout.{planPlaces, planGap, planKept, infoIn, stepsOf}
 use Rattle.numerals.specs.Numerals.{decimal}
 use Rattle.text.specs.Lines.{bytes, line}
 
@@ -45,9 +45,9 @@ refusedLine k = line "refused" (decimal k ∷ [])
 abbrev pub planText : ℕ → ℕ → ℕ → ℕ → ℕ → List ℕ → List Step → List ℕ
 planText n s M W g info steps = heading n s M W g ++ (infoLine info ++ (stepLines steps ++ addsLine (addSteps steps)))
 
--- of a plan's numbers, with W ones
-abbrev pub planTextOf : List ℕ → ℕ → List ℕ
-planTextOf w W = planText (planPlaces w) (planSize w) (planKept w) W (planGap w) (infoIn w) (stepsOf w)
+-- of a plan's numbers, for a table with packets of s bytes and with W ones (document 02, C-16: "Planlist prints the table's size as before")
+abbrev pub planTextOf : List ℕ → ℕ → ℕ → List ℕ
+planTextOf w s W = planText (planPlaces w) s (planKept w) W (planGap w) (infoIn w) (stepsOf w)
 
 -- the most bytes of a text: 48 of the heading, 5 and 5 for each of 1,024 places, 14 for each of 13,344 steps, 11 of the last line
 abbrev pub mostText : ℕ

@@ -9,7 +9,7 @@ use Rattle.plan.specs.declared.Step.{Step}
 use Rattle.plan.specs.declared.Step.the-variants.{Clear, Add}
 use Rattle.plan.specs.Step.{addSteps, stepOf, unpack, unpackAll}
 use Rattle.table.specs.Table.{mostPlaces, mostBytes, mostChecks, mostOnes}
-use Rattle.plan.specs.Layout.{mostAside, planPlaces, planSize, planGap, planKept, planRefusal, infoIn, stepsIn, stepsOf}
+use Rattle.plan.specs.Layout.{mostAside, planPlaces, planGap, planKept, planRefusal, infoIn, stepsIn, stepsOf}
 use Rattle.plan.specs.LayoutLaws.{well, info-length, info-below, steps-in, steps-length}
 use Rattle.numerals.specs.NumeralLaws.{decimal-few, decimal-most}
 use Rattle.numerals.specs.Numerals.{decimal}
@@ -60,19 +60,19 @@ adds-few (Clear to ∷ xs) = let h = adds-few xs in omega arith
 adds-few (Add to from ∷ xs) = let h = adds-few xs in omega arith
 
 -- ---- a well-formed plan
-pub plan-most : (w : List ℕ) (W : ℕ) → planRefusal w ≡ 0 → W ≤ mostOnes → length (planTextOf w W) ≤ mostText
-plan-most w W h few =
+pub plan-most : (w : List ℕ) (s W : ℕ) → planRefusal w ≡ 0 → s ≤ mostBytes → W ≤ mostOnes → length (planTextOf w s W) ≤ mostText
+plan-most w s W h short few =
     let f = well w h in
     let c = f .counts in
     let i = info-length w f in
-    let head = heading-most (planPlaces w) (planSize w) (planKept w) W (planGap w) (c .few-places) (c .few-bytes) (c .few-kept) few (c .few-aside) in
+    let head = heading-most (planPlaces w) s (planKept w) W (planGap w) (c .few-places) short (c .few-kept) few (c .few-aside) in
     let info = places-most (infoIn w) (λ k l. let b = info-below w f k (omega arith) in omega (arith, c .few-places)) in
     let steps = steps-most (stepsIn w) in
     let n = steps-in w f in
     let a = adds-few (stepsOf w) in
     let m = steps-length w f in
     let d = decimal-few 4 (addSteps (stepsOf w)) (omega (arith, c .few-steps)) in
-    let e : length (planTextOf w W) ≡ length (heading (planPlaces w) (planSize w) (planKept w) W (planGap w))
+    let e : length (planTextOf w s W) ≡ length (heading (planPlaces w) s (planKept w) W (planGap w))
     + (4 + length (wordsAfterBlanks (map decimal (infoIn w))) + (length (stepLines (stepsOf w)) + (6 + length (decimal (addSteps (stepsOf w)))))) =
     simp length-append (omega arith) in
     omega (arith, c .few-steps, c .few-places, c .info)

@@ -122,18 +122,18 @@ pub fn put_refused(out: &mut [u8], at: usize, number: u32) -> usize
     put_line(out, at, b"refused ", number as u64)
 }
 
-// ---- the whole text of a plan, with its ones and the number of its add steps
-pub fn put_plan(out: &mut [u8], plan: &[u32], ones: u32, additions: u32) -> usize
+// ---- the whole text of a plan, with the table's size and ones and the number of the plan's add steps
+pub fn put_plan(out: &mut [u8], plan: &[u32], s: usize, ones: u32, additions: u32) -> usize
     requires { ⌜ planRefusal (now plan) ≡ 0 ⌝ }
     requires { ⌜ additions ≡ addSteps (stepsOf (now plan)) ⌝ }
-    requires { ⌜ length (planTextOf (now plan) ones) ≤ length (now out) ⌝ }
-    ensures { λ r. ⌜ Appended (now (out .entry)) 0 (planTextOf (now (plan .entry)) ones) (now (out .exit)) r ⌝ }
+    requires { ⌜ length (planTextOf (now plan) s ones) ≤ length (now out) ⌝ }
+    ensures { λ r. ⌜ Appended (now (out .entry)) 0 (planTextOf (now (plan .entry)) s ones) (now (out .exit)) r ⌝ }
 {
     let at = put_heading(
         out,
         0,
         plan::places(plan),
-        plan::size(plan),
+        s,
         plan::kept(plan),
         ones,
         plan::gap(plan),

@@ -6,7 +6,7 @@ use native.Mathlib.Omega.{arith}
 use lib.ListN.{length, take}
 use Rattle.table.specs.Accepted.{Located}
 use Rattle.table.specs.Checks.{check}
-use Rattle.table.specs.Table.{mostChecks, mostOnes, places, size, checks, ones, refusal, number}
+use Rattle.table.specs.Table.{mostChecks, mostOnes, places, checks, ones, refusal, number}
 use Rattle.table.specs.TableLaws.{accepted}
 use Rattle.plan.specs.declared.Step.{Step}
 use Rattle.plan.specs.declared.Step.the-variants.{Clear, Add}
@@ -58,7 +58,7 @@ module _ (t : List ℕ) (ok : refusal t ≡ 0) where
 
   length-few : planOf t .g ≤ mostAside → length (numbersOf t) ≤ leastPlan
   unfolding numbersOf
-  length-few h = let a = numbers-length (places t) (size t) (planOf t .g) (planOf t .M) (planOf t .info) (planOf t .steps) in let b = numbers-fit h in omega arith
+  length-few h = let a = numbers-length (places t) (planOf t .g) (planOf t .M) (planOf t .info) (planOf t .steps) in let b = numbers-fit h in omega arith
 
   pub adds-most : planOf t .g ≤ mostAside → addSteps (planOf t .steps) ≤ leastPlan
   adds-most h = let a = adds-few (planOf t .steps) in let b = numbers-fit h in omega arith

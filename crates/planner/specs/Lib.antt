@@ -1,2 +1,3 @@
+pub mod AnySize
 pub mod Planning
 pub mod PlanningLaws

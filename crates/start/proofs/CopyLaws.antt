@@ -7,25 +7,25 @@ use Prim.Native.Nat.{ℕ, zero, suc, _+_, _-_, _*_, _<_, _≤_}
 use native.Mathlib.Nat.{mul-le-mul-right}
 use native.Mathlib.Numerals.{add-one}
 use native.Mathlib.Omega.{arith}
-use borrow.Author.Tests.{eqb-false, ne-eqb}
-use lib.Dec.{eqb}
+use borrow.Author.Tests.{ne-eqb}
 use lib.ListN.{length, getD, set, take, drop, replicate, length-set, length-replicate, getD-replicate, List·getD-eq-default}
-use lib.Seq.{drop-cons, drop-drop, take-add, getD-set-other, set-append-left}
+use lib.Seq.{drop-cons, drop-drop, take-add, set-append-left}
 use Rattle.lists.specs.Buffers.{part-length, getD-part, written-length}
 use Rattle.lists.specs.ListLaws.{all-getD, all-set}
-use Rattle.lists.specs.Lists.{All.cons, has, written}
-use Rattle.lists.specs.Tests.{side, or-false-l, or-false-r}
+use Rattle.lists.specs.Lists.{has, written}
+use Rattle.lists.specs.Tests.{side}
 use Rattle.lists.specs.WroteLaws.{wrote-none, wrote-append}
 use Rattle.table.specs.BufferLaws.{place-fits, packet-part, set-copied}
 use Rattle.table.specs.PacketLaws.{packets-length, packets-sized, packets-joined, joined-length, packets-of}
 use Rattle.table.specs.Packets.{Packets, packets, joined}
 use Rattle.plan.specs.declared.Step.{Step}
+use Rattle.plan.specs.AtStart.{put-other, put-length, put-packets}
 use Rattle.plan.specs.Layout.{planPlaces, planGap, infoCount, infoIn, slots}
 use Rattle.plan.specs.LayoutLaws.{Formed, info-length, info-below}
 use Rattle.plan.specs.Steps.{withPackets}
 use Rattle.start.specs.Kept.{OthersKept}
 use Rattle.start.specs.Start.{Together, withInformation, clearsFirst, slotsIn, ClearedFor, PreparedFor}
-use Rattle.start.specs.StartLaws.{set-alike, lengths-alike, with-length, slots-length}
+use Rattle.start.specs.StartLaws.{set-alike, lengths-alike, slots-length}
 
 -- ---- packets at places
 -- into slots that agree at the other places
@@ -35,18 +35,6 @@ packets-alike [] ps st st′ p m l e = e refl
 packets-alike (i ∷ I) [] st st′ p m l e = absurd (omega arith)
 packets-alike (i ∷ I) (q ∷ ps) st st′ p m l e = packets-alike I ps (set st i q) (set st′ i q) p (omega arith) (lengths-alike st st′ i q l)
     (λ h. set-alike st st′ i q p l (λ n. e (ap₂ _||_ (ne-eqb p i n) h)))
-
--- other places stay
-with-others : (st : List (List ℕ)) (I : List ℕ) (ps : List (List ℕ)) (p : ℕ) → has p I ≡ false → getD (withPackets st I ps) p [] ≡ getD st p []
-with-others st [] ps p h = refl
-with-others st (i ∷ I) [] p h = refl
-with-others st (i ∷ I) (q ∷ ps) p h = with-others (set st i q) I ps p (or-false-r (eqb p i) (has p I) h)
-    ∙ getD-set-other st i p q [] (eqb-false p i (or-false-l (eqb p i) (has p I) h))
-
-with-sized : (s : ℕ) (st : List (List ℕ)) (I : List ℕ) (ps : List (List ℕ)) → Packets s st → Packets s ps → Packets s (withPackets st I ps)
-with-sized s st [] ps a b = a
-with-sized s st (i ∷ I) [] a b = a
-with-sized s st (i ∷ I) (p ∷ ps) a (cons e b) = with-sized s (set st i p) I ps (all-set a i p e) b
 
 -- slots behind the places stay
 with-append : (st tail : List (List ℕ)) (I : List ℕ) (ps : List (List ℕ)) → ((k : ℕ) → k < length I → getD I k 0 < length st)
@@ -164,7 +152,7 @@ pub others-kept : (w : List ℕ) (s : ℕ) (b : List ℕ) → length b ≡ planP
 others-kept w s b lb information li = record {
   each = λ p i h l.
       let I = infoIn w in let ps = packets s (infoCount w) information in let front = packets s (planPlaces w) b in let sized = packets-sized s (planPlaces w) b lb in
-      same-byte s (with-sized s front I ps sized (packets-sized s (infoCount w) information li)) sized (with-length front I ps) p i l (λ k. with-others front I ps p h)
+      same-byte s (put-packets s I sized (packets-sized s (infoCount w) information li)) sized (put-length front I ps) p i l (λ k. put-other front I ps p h)
       ∙ ap (λ (x : List ℕ). getD x (p * s + i) 0) (packets-joined s (planPlaces w) b lb);
 }
 
@@ -201,7 +189,7 @@ module _ (w : List ℕ) (s : ℕ) (b c : List ℕ) (lb : length b ≡ planPlaces
       same : slotsIn w s (withInformation w s information b) c ≡ withPackets (slotsIn w s b c) I ps
       same =
           ap (λ v. v ++ back)
-          (packets-of s (planPlaces w) (with-length front I ps ∙ front-long) (with-sized s front I ps (packets-sized s (planPlaces w) b lb) (packets-sized s (infoCount w) information li)))
+          (packets-of s (planPlaces w) (put-length front I ps ∙ front-long) (put-packets s I (packets-sized s (planPlaces w) b lb) (packets-sized s (infoCount w) information li)))
           ∙ sym (with-append front back I ps (λ i l. let o = info-length w f in let m = info-below w f i (omega arith) in omega (arith, front-long)))
 
       start : (p : ℕ) → clearsFirst xs p ≡ false → has p I ≡ false → getD (slotsIn w s b c) p [] ≡ getD (replicate (slots w) z) p []

@@ -16,8 +16,9 @@ use Rattle.table.specs.PacketLaws.{packets-length, packets-sized, packets-joine
 use Rattle.table.specs.Packets.{packets, joined}
 use Rattle.plan.specs.declared.Step.{Step}
 use Rattle.plan.specs.declared.Step.the-variants.{Clear, Add}
+use Rattle.plan.specs.AtStart.{put-length}
 use Rattle.plan.specs.Layout.{planPlaces, planGap, infoCount, infoIn, slots}
-use Rattle.plan.specs.Steps.{carryOutAll, withPackets}
+use Rattle.plan.specs.Steps.{carryOutAll}
 use Rattle.slots.specs.Slots.{Holds}
 use Rattle.start.specs.Start.{startOf, clearsFirst, slotsIn, PreparedFor}
 
@@ -55,12 +56,6 @@ steps-alike s (Add to from ∷ xs) st st′ l e =
     steps-alike s xs (set st to v) (set st′ to v) (lengths-alike st st′ to v l) (λ p h. set-alike st st′ to v p l (λ n. e p (not-first to from p xs h)))
     ∙ ap (λ y. carryOutAll s (set st′ to y) xs) same
 
--- ---- packets at places
-pub with-length : (st : List (List ℕ)) (I : List ℕ) (ps : List (List ℕ)) → length (withPackets st I ps) ≡ length st
-with-length st [] ps = refl
-with-length st (i ∷ I) [] = refl
-with-length st (i ∷ I) (p ∷ ps) = with-length (set st i p) I ps ∙ length-set st i p
-
 -- ---- the slots that block and scratch hold
 module _ (w : List ℕ) (s : ℕ) (b c : List ℕ) (lb : length b ≡ planPlaces w * s) (lc : length c ≡ planGap w * s) where
   abbrev front : List (List ℕ)
@@ -85,7 +80,7 @@ module _ (w : List ℕ) (s : ℕ) (b c : List ℕ) (lb : length b ≡ planPlaces
 -- ---- the start
 pub start-length : (w : List ℕ) (s : ℕ) (information : List ℕ) → length (startOf w s information) ≡ slots w
 start-length w s information =
-    let z : List ℕ = replicate s 0 in with-length (replicate (slots w) z) (infoIn w) (packets s (infoCount w) information) ∙ length-replicate (slots w) z
+    let z : List ℕ = replicate s 0 in put-length (replicate (slots w) z) (infoIn w) (packets s (infoCount w) information) ∙ length-replicate (slots w) z
 
 -- the steps give from it what they give from the slots prepared
 pub start-alike : (w : List ℕ) (s : ℕ) (xs : List Step) (information b c : List ℕ) → length b ≡ planPlaces w * s → length c ≡ planGap w * s

@@ -1,5 +1,7 @@
 pub mod Accepted
+pub mod AnySize
 pub mod BufferLaws
+pub mod ByteLaws
 pub mod Checks
 pub mod ChecksLaws
 pub mod CodewordLaws

@@ -1,6 +1,6 @@
 -- Packets and their sums (document 01, first paragraph): "A block is n packets of s bytes, at places 0 to n − 1."
 use mathlib.Core.Path.{_≡_}
-use mathlib.Core.List.{List, [], _∷_, _++_}
+use mathlib.Core.List.{List, [], _∷_, _++_, map}
 use Prim.Native.Nat.{ℕ, zero, suc, _+_}
 use lib.ListN.{length, getD, take, drop, replicate}
 use Rattle.gf2.specs.Gf2.{XorGroup, add}
@@ -19,6 +19,10 @@ packets s (suc n) b = take s b ∷ packets s n (drop s b)
 abbrev pub joined : List (List ℕ) → List ℕ
 joined [] = []
 joined (p ∷ ps) = p ++ joined ps
+
+-- byte position j of a block: byte j of each of its n packets
+abbrev pub bytesAt : ℕ → ℕ → ℕ → List ℕ → List ℕ
+bytesAt s n j b = map (λ p. getD p j 0) (packets s n b)
 
 -- "the bytewise exclusive-or of its packets", over the places of a check
 abbrev pub packetSum : ℕ → List (List ℕ) → List ℕ → List ℕ

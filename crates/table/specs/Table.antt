@@ -3,7 +3,7 @@ use mathlib.Core.Bool.{Bool, true, not, _||_, _&&_}
 use mathlib.Core.List.{List, [], _∷_}
 use Prim.Native.Nat.{ℕ, suc, _+_}
 use lib.Dec.{eqb, ltb, leb}
-use lib.ListN.{length, getD, take, drop}
+use lib.ListN.{length, getD, set, take, drop}
 use Rattle.lists.specs.Lists.{allPass, anyOf}
 use Rattle.table.specs.FirstCause.{firstCause}
 
@@ -35,6 +35,10 @@ places t = getD t 1 0
 -- s, the bytes of a packet
 abbrev pub size : List ℕ → ℕ
 size t = getD t 2 0
+
+-- the same matrix with packets of s bytes (document 02, C-16: "We send the same matrix with 64, 256 and 1,024 bytes")
+abbrev pub atSize : ℕ → List ℕ → List ℕ
+atSize s t = set t 2 s
 
 -- m, the number of checks
 abbrev pub number : List ℕ → ℕ

@@ -4,15 +4,26 @@ use mathlib.Core.Bool.{Bool, true, false, cond, not, _||_, _&&_, true≢false}
 use mathlib.Core.List.{List, [], _∷_}
 use Prim.Native.Nat.{ℕ, suc, _+_, _-_, _<_, _≤_}
 use native.Mathlib.Omega.{arith}
-use borrow.Author.Tests.{ltb-true, ltb-false, leb-true, not-false}
+use borrow.Author.Tests.{ltb-true, ltb-false, le-ltb, leb-true, ne-eqb, not-false}
 use lib.Dec.{eqb, ltb, leb}
 use lib.ListN.{length, getD, take, drop, length-take, length-drop}
 use lib.Seq.{length-take-le}
-use Rattle.lists.specs.Tests.{eqb-true, eqb-false, eqb-lt, or-false-l, or-false-r, and-l, and-r}
+use Rattle.lists.specs.Tests.{eqb-true, eqb-false, eqb-lt, or-false-l, or-false-r, or-neither, and-l, and-r}
 use Rattle.lists.specs.Lists.{Distinct, Distinct.dnil, Distinct.dnew, has, anyOf, All, All.nil, All.cons}
-use Rattle.table.specs.Table.{ones, places, size, number, weights, onesCount, total, cutUp, checks, rising, tooShort, beyondLimits, badLengths, badPlaces, refusal}
+use Rattle.table.specs.Table.{ones, places, size, number, weights, onesCount, total, cutUp, checks, rising, outside, tooShort, beyondLimits, badLengths, badPlaces, refusal}
 use Rattle.lists.specs.ListLaws.{all-map, pass-all}
 
+-- ---- a number within its limits, both ways
+pub within : (most x : ℕ) → 1 ≤ x → x ≤ most → outside most x ≡ false
+within most x h k = or-neither (eqb x 0) (ltb most x) (ne-eqb x 0 (λ e. omega arith)) (le-ltb most x k)
+
+pub inside-low : (most x : ℕ) → outside most x ≡ false → 1 ≤ x
+inside-low most x h = let n = eqb-false x 0 (or-false-l (eqb x 0) (ltb most x) h) in omega arith
+
+pub inside-high : (most x : ℕ) → outside most x ≡ false → x ≤ most
+inside-high most x h = ltb-false most x (or-false-r (eqb x 0) (ltb most x) h)
+
+-- ---- an accepted table
 pub record Good (t : List ℕ) : Type 0 where
   pub some-places : 1 ≤ places t
   pub few-places : places t ≤ 1024

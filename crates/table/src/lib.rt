@@ -37,7 +37,7 @@ pub fn wide(x: u16) -> usize
 }
 
 // below 1 or above most
-fn outside(most: usize, x: usize) -> bool
+pub fn outside(most: usize, x: usize) -> bool
     ensures { λ r. ⌜ r ≡ isOutside most x ⌝ }
 {
     if x == 0 {

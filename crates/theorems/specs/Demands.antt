@@ -1,5 +1,5 @@
--- The demands on planning and then encoding, over the definitions of the calls, for every table that the planner accepts:
--- "the encoder gets the plan as the planner wrote it, nobody having changed it since".
+-- The demands on planning and then encoding, over the definitions of the calls, for every table that the planner accepts and every packet
+-- size, the table's own or another (document 02, C-16): "the encoder gets the plan as the planner wrote it, nobody having changed it since".
 use mathlib.Core.Path.{_≡_, refl, sym, ap, ap₂, _∙_, subst}
 use mathlib.Core.List.{List, [], _∷_}
 use Prim.Native.Nat.{ℕ, zero, suc, _+_, _-_, _*_, _<_, _≤_}
@@ -7,8 +7,10 @@ use native.Mathlib.Omega.{arith}
 use lib.ListN.{length, getD, take, drop}
 use lib.Seq.{take-all, take-at}
 use Rattle.lists.specs.ListLaws.{all-in, getD-has}
-use Rattle.table.specs.Table.{places, size, checks, refusal}
-use Rattle.table.specs.TableLaws.{Good, accepted}
+use Rattle.table.specs.AnySize.{codeword-at}
+use Rattle.table.specs.Codewords.{IsCodeword}
+use Rattle.table.specs.Table.{mostBytes, places, atSize, checks, refusal}
+use Rattle.table.specs.TableLaws.{Good, accepted, within}
 use Rattle.table.specs.Packets.{Packets, packets, joined, Codeword}
 use Rattle.table.specs.PacketLaws.{packets-length, packets-sized, packets-joined, packets-of, joined-length, packet-at}
 use Rattle.table.specs.PacketCall.{partAt}
@@ -35,39 +37,41 @@ handed t planBuffer work = take (planningAnswer t planBuffer work .length) (plan
 
 -- ---- demand 2
 -- what the block must be: n·s bytes, the k-th information packet at the k-th information place of the plan p, every check sums to zero
-pub record Carries (t p information b : List ℕ) : Type 0 where
-  pub long : length b ≡ places t * size t
-  pub carries : (k : ℕ) → k < infoCount p → partAt (size t) (getD (infoIn p) k 0) b ≡ partAt (size t) k information
-  pub codeword : Codeword (size t) (checks t) (packets (size t) (places t) b)
+pub record Carries (t p : List ℕ) (s : ℕ) (information b : List ℕ) : Type 0 where
+  pub long : length b ≡ places t * s
+  pub carries : (k : ℕ) → k < infoCount p → partAt s (getD (infoIn p) k 0) b ≡ partAt s k information
+  pub codeword : Codeword s (checks t) (packets s (places t) b)
 
--- lent buffers of the right lengths for the plan p, (n − M)·s, n·s and g·s, and a limit that means all its steps
-pub record ToTheLastStep (t p information blockBuffer scratchBuffer : List ℕ) (limit : ℕ) : Type 0 where
-  pub info-long : length information ≡ (places t - planKept p) * size t
-  pub block-long : length blockBuffer ≡ places t * size t
-  pub scratch-long : length scratchBuffer ≡ planGap p * size t
+-- a size within its limits, lent buffers of the right lengths for the plan p, (n − M)·s, n·s and g·s, and a limit that means all its steps
+pub record ToTheLastStep (t p : List ℕ) (s : ℕ) (information blockBuffer scratchBuffer : List ℕ) (limit : ℕ) : Type 0 where
+  pub some-bytes : 1 ≤ s
+  pub few-bytes : s ≤ mostBytes
+  pub info-long : length information ≡ (places t - planKept p) * s
+  pub block-long : length blockBuffer ≡ places t * s
+  pub scratch-long : length scratchBuffer ≡ planGap p * s
   pub all-steps : stepCount p ≤ limit
 
--- the encoding by the plan p is accepted, its block is as it must be, and no other block is
-pub record TheOneBlock (t p information blockBuffer scratchBuffer : List ℕ) (limit : ℕ) : Type 0 where
-  pub not-refused : encodeRefusal p information blockBuffer scratchBuffer ≡ 0
-  pub carries : Carries t p information (encodeBlockAfter p information blockBuffer scratchBuffer limit)
-  pub only : (b : List ℕ) → Carries t p information b → b ≡ encodeBlockAfter p information blockBuffer scratchBuffer limit
+-- the encoding by the plan p at s bytes a packet is accepted, its block is as it must be, and no other block is
+pub record TheOneBlock (t p : List ℕ) (s : ℕ) (information blockBuffer scratchBuffer : List ℕ) (limit : ℕ) : Type 0 where
+  pub not-refused : encodeRefusal p s information blockBuffer scratchBuffer ≡ 0
+  pub carries : Carries t p s information (encodeBlockAfter p s information blockBuffer scratchBuffer limit)
+  pub only : (b : List ℕ) → Carries t p s information b → b ≡ encodeBlockAfter p s information blockBuffer scratchBuffer limit
 
 -- ---- demand 3
 -- "After the last step of the planner's plan it counts every add step of that plan, and demand 2's block stands."
-pub record LastStep (t planBuffer work information blockBuffer scratchBuffer : List ℕ) (limit : ℕ) : Type 0 where
-  pub counted : encodeAnswer (handed t planBuffer work) information blockBuffer scratchBuffer limit .additions ≡ addSteps (stepsOf (handed t planBuffer work))
-  pub reported : encodeAnswer (handed t planBuffer work) information blockBuffer scratchBuffer limit .additions ≡ planningAnswer t planBuffer work .additions
-  pub block : TheOneBlock t (handed t planBuffer work) information blockBuffer scratchBuffer limit
+pub record LastStep (t planBuffer work : List ℕ) (s : ℕ) (information blockBuffer scratchBuffer : List ℕ) (limit : ℕ) : Type 0 where
+  pub counted : encodeAnswer (handed t planBuffer work) s information blockBuffer scratchBuffer limit .additions ≡ addSteps (stepsOf (handed t planBuffer work))
+  pub reported : encodeAnswer (handed t planBuffer work) s information blockBuffer scratchBuffer limit .additions ≡ planningAnswer t planBuffer work .additions
+  pub block : TheOneBlock t (handed t planBuffer work) s information blockBuffer scratchBuffer limit
 
--- W ones in the M kept checks, g set aside: the additions of planning and then encoding, whatever the buffers and the limit
+-- W ones in the M kept checks, g set aside: the additions of planning and then encoding, whatever the size, the buffers and the limit
 pub record AdditionBound (t p : List ℕ) : Type 0 where
   -- no kept check is empty, so that W − M is a number
   pub some-ones : planOf t .M ≤ planOf t .W
-  pub always : (information blockBuffer scratchBuffer : List ℕ) (limit : ℕ)
-      → encodeAnswer p information blockBuffer scratchBuffer limit .additions ≤ 2 * (planOf t .W - planOf t .M) + planOf t .g * (planOf t .g + 1)
-  pub four : planOf t .g * (planOf t .g + 1) ≤ 2 * (planOf t .W - planOf t .M) → (information blockBuffer scratchBuffer : List ℕ) (limit : ℕ)
-      → encodeAnswer p information blockBuffer scratchBuffer limit .additions ≤ 4 * (planOf t .W - planOf t .M)
+  pub always : (s : ℕ) (information blockBuffer scratchBuffer : List ℕ) (limit : ℕ)
+      → encodeAnswer p s information blockBuffer scratchBuffer limit .additions ≤ 2 * (planOf t .W - planOf t .M) + planOf t .g * (planOf t .g + 1)
+  pub four : planOf t .g * (planOf t .g + 1) ≤ 2 * (planOf t .W - planOf t .M) → (s : ℕ) (information blockBuffer scratchBuffer : List ℕ) (limit : ℕ)
+      → encodeAnswer p s information blockBuffer scratchBuffer limit .additions ≤ 4 * (planOf t .W - planOf t .M)
 
 -- the numbers of the rule
 pub record RuleNumbers (t : List ℕ) : Type 0 where
@@ -103,10 +107,10 @@ module _ (t : List ℕ) (ok : refusal t ≡ 0) where
   }
 
   module _ (few : planOf t .g ≤ mostAside) where
-    counted : (information b c : List ℕ) (limit : ℕ) → encodeAnswer (numbersOf t) information b c limit .additions ≤ addSteps (planOf t .steps)
+    counted : (s : ℕ) (information b c : List ℕ) (limit : ℕ) → encodeAnswer (numbersOf t) s information b c limit .additions ≤ addSteps (planOf t .steps)
     unfolding planOf numbersOf
-    counted information b c limit =
-        let p = answered (encodeRefusal (numbersOf t) information b c) (addSteps (stepsWithin (numbersOf t) limit)) in
+    counted s information b c limit =
+        let p = answered (encodeRefusal (numbersOf t) s information b c) (addSteps (stepsWithin (numbersOf t) limit)) in
         let q : addSteps (stepsWithin (numbersOf t) limit) ≤ addSteps (planOf t .steps) =
         subst (λ l. addSteps (take limit l) ≤ addSteps (planOf t .steps)) (sym (own-steps t ok few)) (fewer limit (planOf t .steps)) in
         omega arith
@@ -116,17 +120,14 @@ module _ (t : List ℕ) (ok : refusal t ≡ 0) where
     unfolding planOf numbersOf
     addition-bound = record {
       some-ones = kept-ones (places t) (checks t) (good .distinct) (good .low);
-      always = λ i b c limit. let p = counted i b c limit in let q = adds-most (places t) (checks t) (good .distinct) (good .low) in
+      always = λ s i b c limit. let p = counted s i b c limit in let q = adds-most (places t) (checks t) (good .distinct) (good .low) in
           let r = kept-ones (places t) (checks t) (good .distinct) (good .low) in omega arith;
-      four = λ h i b c limit. let p = counted i b c limit in let q = adds-bound (places t) (checks t) (good .distinct) (good .low) h in omega arith;
+      four = λ h s i b c limit. let p = counted s i b c limit in let q = adds-bound (places t) (checks t) (good .distinct) (good .low) h in omega arith;
     }
 
-    module _ (information blockBuffer scratchBuffer : List ℕ) (limit : ℕ) (lent : ToTheLastStep t (numbersOf t) information blockBuffer scratchBuffer limit) where
+    module _ (s : ℕ) (information blockBuffer scratchBuffer : List ℕ) (limit : ℕ) (lent : ToTheLastStep t (numbersOf t) s information blockBuffer scratchBuffer limit) where
       abbrev n : ℕ
       n = places t
-
-      abbrev s : ℕ
-      s = size t
 
       abbrev k : ℕ
       k = places t - planOf t .M
@@ -135,9 +136,10 @@ module _ (t : List ℕ) (ok : refusal t ≡ 0) where
       abbrev ps : List (List ℕ)
       ps = packets s k information
 
-      fits : encodeRefusal (numbersOf t) information blockBuffer scratchBuffer ≡ 0
+      fits : encodeRefusal (numbersOf t) s information blockBuffer scratchBuffer ≡ 0
       unfolding planOf numbersOf
-      fits = not-refused-at (numbersOf t) (length information) (length blockBuffer) (length scratchBuffer) (record {
+      fits = not-refused-at (numbersOf t) s (length information) (length blockBuffer) (length scratchBuffer) (record {
+        size = within mostBytes s (lent .some-bytes) (lent .few-bytes);
         plan = own-accepted t ok few;
         information = lent .info-long ∙ ap (λ x. x * s) (sym (own-places t ok few));
         block = lent .block-long;
@@ -145,12 +147,12 @@ module _ (t : List ℕ) (ok : refusal t ≡ 0) where
       })
 
       -- the slots are those of the rule's plan
-      slots-are : slotsAfter (numbersOf t) information limit ≡ encode n s (planOf t) ps
+      slots-are : slotsAfter (numbersOf t) s information limit ≡ encode n s (planOf t) ps
       unfolding planOf numbersOf
       slots-are = ap₂ (λ I l. carryOutAll s (atStart (n + planOf t .g) s I (packets s (infoCount (numbersOf t)) information)) (take limit l)) (own-info t ok few) (own-steps t ok few)
           ∙ ap₂ (λ c l. carryOutAll s (atStart (n + planOf t .g) s (planOf t .info) (packets s c information)) l) (own-places t ok few) (take-all limit (planOf t .steps) (subst (λ m. m ≤ limit) (own-count t ok few) (lent .all-steps)))
 
-      after : encodeBlockAfter (numbersOf t) information blockBuffer scratchBuffer limit ≡ joined (block n s (checks t) ps)
+      after : encodeBlockAfter (numbersOf t) s information blockBuffer scratchBuffer limit ≡ joined (block n s (checks t) ps)
       unfolding planOf numbersOf
       after = rw (fits, encodeBlockAfter) (ap (λ st. joined (take n st)) slots-are)
 
@@ -176,7 +178,7 @@ module _ (t : List ℕ) (ok : refusal t ≡ 0) where
       unfolding planOf numbersOf
       back = packets-of s n (made .long) (made .sized)
 
-      made-carries : Carries t (numbersOf t) information (joined (block n s (checks t) ps))
+      made-carries : Carries t (numbersOf t) s information (joined (block n s (checks t) ps))
       unfolding planOf numbersOf
       made-carries = record {
         long = joined-length s (made .sized) ∙ ap (λ m. m * s) (made .long);
@@ -186,7 +188,7 @@ module _ (t : List ℕ) (ok : refusal t ≡ 0) where
         codeword = subst (Codeword s (checks t)) (sym back) (made .zero-sums);
       }
 
-      taken : (b : List ℕ) → Carries t (numbersOf t) information b → Encodes n s (checks t) ps (packets s n b)
+      taken : (b : List ℕ) → Carries t (numbersOf t) s information b → Encodes n s (checks t) ps (packets s n b)
       unfolding planOf numbersOf
       taken b r = record {
         long = packets-length s n b;
@@ -197,11 +199,11 @@ module _ (t : List ℕ) (ok : refusal t ≡ 0) where
       }
 
       -- demand 2, planning and then encoding
-      pub the-one-block : TheOneBlock t (numbersOf t) information blockBuffer scratchBuffer limit
+      pub the-one-block : TheOneBlock t (numbersOf t) s information blockBuffer scratchBuffer limit
       unfolding planOf numbersOf
       the-one-block = record {
         not-refused = fits;
-        carries = subst (Carries t (numbersOf t) information) (sym after) made-carries;
+        carries = subst (Carries t (numbersOf t) s information) (sym after) made-carries;
         only = λ b r. sym (packets-joined s n b (r .long))
             ∙ ap joined (one-block n s (checks t) (good .distinct) (good .low) ps sized (packets-length s k information) (packets s n b) (taken b r)) ∙ sym after;
       }
@@ -218,11 +220,16 @@ module _ (t planBuffer work : List ℕ) (ok : planningRefusal t planBuffer work 
   pub plan-written : handed t planBuffer work ≡ numbersOf t
   plan-written = ap₂ take (ap (λ r. planningAnswerAt r t .length) ok) (rw (ok, planningPlanAfter)) ∙ take-at (numbersOf t) (drop (length (numbersOf t)) planBuffer) (length (numbersOf t)) refl
 
-  -- demand 2: planning and then encoding to the last step gives the one block
-  pub planning-then-encoding : (information blockBuffer scratchBuffer : List ℕ) (limit : ℕ) → ToTheLastStep t (handed t planBuffer work) information blockBuffer scratchBuffer limit
-      → TheOneBlock t (handed t planBuffer work) information blockBuffer scratchBuffer limit
-  planning-then-encoding i b c limit =
-      subst (λ p. ToTheLastStep t p i b c limit → TheOneBlock t p i b c limit) (sym plan-written) (the-one-block t table-ok few-aside i b c limit)
+  -- demand 2: planning and then encoding to the last step gives the one block, at any size
+  pub planning-then-encoding : (s : ℕ) (information blockBuffer scratchBuffer : List ℕ) (limit : ℕ) → ToTheLastStep t (handed t planBuffer work) s information blockBuffer scratchBuffer limit
+      → TheOneBlock t (handed t planBuffer work) s information blockBuffer scratchBuffer limit
+  planning-then-encoding s i b c limit =
+      subst (λ p. ToTheLastStep t p s i b c limit → TheOneBlock t p s i b c limit) (sym plan-written) (the-one-block t table-ok few-aside s i b c limit)
+
+  -- which is a codeword under the table of that size
+  pub encoding-codeword : (s : ℕ) (information blockBuffer scratchBuffer : List ℕ) (limit : ℕ) → ToTheLastStep t (handed t planBuffer work) s information blockBuffer scratchBuffer limit
+      → IsCodeword (atSize s t) (encodeBlockAfter (handed t planBuffer work) s information blockBuffer scratchBuffer limit)
+  encoding-codeword s i b c limit lent = let r = planning-then-encoding s i b c limit lent .carries in codeword-at s t table-ok _ .1 (r .long, r .codeword)
 
   -- demand 3: the bound
   pub additions-bounded : AdditionBound t (handed t planBuffer work)
@@ -233,13 +240,13 @@ module _ (t planBuffer work : List ℕ) (ok : planningRefusal t planBuffer work 
   additions-reported = ap (λ r. planningAnswerAt r t .additions) ok ∙ sym (ap (λ p. addSteps (stepsOf p)) plan-written ∙ ap addSteps (own-steps t table-ok few-aside))
 
   -- demand 3: the last step
-  pub all-counted : (information blockBuffer scratchBuffer : List ℕ) (limit : ℕ) → ToTheLastStep t (handed t planBuffer work) information blockBuffer scratchBuffer limit
-      → LastStep t planBuffer work information blockBuffer scratchBuffer limit
-  all-counted i b c limit lent = record { counted = every; reported = every ∙ sym additions-reported; block = one }
+  pub all-counted : (s : ℕ) (information blockBuffer scratchBuffer : List ℕ) (limit : ℕ) → ToTheLastStep t (handed t planBuffer work) s information blockBuffer scratchBuffer limit
+      → LastStep t planBuffer work s information blockBuffer scratchBuffer limit
+  all-counted s i b c limit lent = record { counted = every; reported = every ∙ sym additions-reported; block = one }
     where
-      one : TheOneBlock t (handed t planBuffer work) i b c limit
-      one = planning-then-encoding i b c limit lent
+      one : TheOneBlock t (handed t planBuffer work) s i b c limit
+      one = planning-then-encoding s i b c limit lent
 
-      every : encodeAnswer (handed t planBuffer work) i b c limit .additions ≡ addSteps (stepsOf (handed t planBuffer work))
-      every = count-within (handed t planBuffer work) i b c limit (one .not-refused)
-          ∙ ap addSteps (limit-all (handed t planBuffer work) limit (accepted-encoding (handed t planBuffer work) (length i) (length b) (length c) (one .not-refused) .plan) (lent .all-steps))
+      every : encodeAnswer (handed t planBuffer work) s i b c limit .additions ≡ addSteps (stepsOf (handed t planBuffer work))
+      every = count-within (handed t planBuffer work) s i b c limit (one .not-refused)
+          ∙ ap addSteps (limit-all (handed t planBuffer work) limit (accepted-encoding (handed t planBuffer work) s (length i) (length b) (length c) (one .not-refused) .plan) (lent .all-steps))

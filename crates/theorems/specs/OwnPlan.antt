@@ -4,11 +4,11 @@ use mathlib.Core.Bool.{Bool, true, false, cond, not, _||_, _&&_}
 use mathlib.Core.List.{List}
 use Prim.Native.Nat.{ℕ, _+_, _-_, _<_, _≤_}
 use native.Mathlib.Omega.{arith}
-use borrow.Author.Tests.{lt-ltb, le-ltb, le-leb, ne-eqb, eq-eqb}
+use borrow.Author.Tests.{lt-ltb, le-ltb, le-leb, eq-eqb}
 use lib.ListN.{length}
 use Rattle.lists.specs.Lists.{allPass, All, All.nil, All.cons}
-use Rattle.table.specs.Table.{mostPlaces, mostBytes, mostChecks, places, size, checks, refusal, outside, rising}
-use Rattle.table.specs.TableLaws.{Good, accepted}
+use Rattle.table.specs.Table.{mostPlaces, mostChecks, places, checks, refusal, rising}
+use Rattle.table.specs.TableLaws.{Good, accepted, within}
 use Rattle.plan.specs.Step.{unpack, unpackAll}
 use Rattle.plan.specs.LayoutLaws.{Sound}
 use Rattle.plan.specs.ReadBack.{numbers-length, info-back, count-back, steps-back, packed-good, packed-back}
@@ -26,9 +26,6 @@ or-no e f = rw (e, f)
 
 and-yes : {a b : Bool} → a ≡ true → b ≡ true → (a && b) ≡ true
 and-yes e f = rw (e, f)
-
-within : (most x : ℕ) → 1 ≤ x → x ≤ most → outside most x ≡ false
-within most x h k = or-no (ne-eqb x 0 (λ e. omega arith)) (le-ltb most x k)
 
 -- ---- the parts of a well-formed plan
 up-rising : (n : ℕ) {b : ℕ} {l : List ℕ} → Up b l → All (λ p. p < n) l → rising n b l ≡ true
@@ -58,19 +55,19 @@ module _ (t : List ℕ) (ok : refusal t ≡ 0) (few : planOf t .g ≤ mostAside)
   -- reading back
   pub own-info : infoIn (numbersOf t) ≡ P .info
   unfolding planOf numbersOf
-  own-info = info-back n (size t) (P .g) (P .M) (P .info) (P .steps)
+  own-info = info-back n (P .g) (P .M) (P .info) (P .steps)
 
   pub own-count : stepCount (numbersOf t) ≡ length (P .steps)
   unfolding planOf numbersOf
-  own-count = count-back n (size t) (P .g) (P .M) (P .info) (P .steps)
+  own-count = count-back n (P .g) (P .M) (P .info) (P .steps)
 
   pub own-length : length (numbersOf t) ≡ leastNumbers + length (P .info) + length (P .steps)
   unfolding planOf numbersOf
-  own-length = numbers-length n (size t) (P .g) (P .M) (P .info) (P .steps)
+  own-length = numbers-length n (P .g) (P .M) (P .info) (P .steps)
 
   pub own-steps : stepsOf (numbersOf t) ≡ P .steps
   unfolding planOf numbersOf
-  own-steps = ap unpackAll (steps-back n (size t) (P .g) (P .M) (P .info) (P .steps)) ∙ packed-back (n + P .g) (P .info) fits sounds
+  own-steps = ap unpackAll (steps-back n (P .g) (P .M) (P .info) (P .steps)) ∙ packed-back (n + P .g) (P .info) fits sounds
 
   pub own-places : infoCount (numbersOf t) ≡ n - P .M
   unfolding planOf numbersOf
@@ -91,11 +88,10 @@ module _ (t : List ℕ) (ok : refusal t ≡ 0) (few : planOf t .g ≤ mostAside)
       let m = steps-limit n (checks t) (good .distinct) (good .low) (good .few-ones) few in
       or-no (or-no (le-ltb (length (numbersOf t)) leastNumbers (omega arith)) refl)
       (or-no (or-no (within mostPlaces n (good .some-places) (good .few-places))
-      (or-no (within mostBytes (size t) (good .some-bytes) (good .few-bytes))
       (or-no (le-ltb mostAside (P .g) few)
       (or-no (le-ltb (P .M) (P .g) f)
       (or-no (le-ltb n (P .M) k)
-      (le-ltb mostChecks (P .M) (omega arith)))))))
+      (le-ltb mostChecks (P .M) (omega arith))))))
       (or-no (ap not (eq-eqb (length (P .info)) (n - P .M) c))
       (or-no (le-ltb (length (numbersOf t)) (stepsAt (numbersOf t)) (omega arith))
       (or-no (le-ltb mostSteps (stepCount (numbersOf t)) (omega arith))
@@ -106,7 +102,7 @@ module _ (t : List ℕ) (ok : refusal t ≡ 0) (few : planOf t .g ≤ mostAside)
   unfolding planOf numbersOf
   own-well-formed = and-yes (ap not counts)
       (and-yes (ap (rising n 0) own-info ∙ up-rising n (info-up n (checks t)) (info-low n (checks t) (good .distinct) (good .low)))
-      (ap₂ (λ I l. allPass (λ x. goodStep (n + P .g) I (unpack x)) l) own-info (steps-back n (size t) (P .g) (P .M) (P .info) (P .steps)) ∙ packed-good (n + P .g) (P .info) fits sounds))
+      (ap₂ (λ I l. allPass (λ x. goodStep (n + P .g) I (unpack x)) l) own-info (steps-back n (P .g) (P .M) (P .info) (P .steps)) ∙ packed-good (n + P .g) (P .info) fits sounds))
 
   -- so that the encoder never refuses it with 9
   pub own-accepted : planRefusal (numbersOf t) ≡ 0

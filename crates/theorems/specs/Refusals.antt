@@ -72,13 +72,13 @@ planning-refusals t planBuffer work =
     told zero = refl
     told (suc r) = refl
 
--- 9, then 5, as the encoder answers it
-pub encode-refusals : (w information block scratch : List ℕ) (limit : ℕ)
-    → RefusedBy (encodeAnswer w information block scratch limit .refusal) (encodeCauses w (length information) (length block) (length scratch))
+-- 2, then 9, then 5, as the encoder answers it
+pub encode-refusals : (w : List ℕ) (s : ℕ) (information block scratch : List ℕ) (limit : ℕ)
+    → RefusedBy (encodeAnswer w s information block scratch limit .refusal) (encodeCauses w s (length information) (length block) (length scratch))
 unfolding encodeRefusalAt
-encode-refusals w information block scratch limit =
-    subst (λ r. RefusedBy r (encodeCauses w (length information) (length block) (length scratch))) (sym (told (encodeRefusal w information block scratch) _))
-    (refused-by (encodeCauses w (length information) (length block) (length scratch)) refl)
+encode-refusals w s information block scratch limit =
+    subst (λ r. RefusedBy r (encodeCauses w s (length information) (length block) (length scratch))) (sym (told (encodeRefusal w s information block scratch) _))
+    (refused-by (encodeCauses w s (length information) (length block) (length scratch)) refl)
   where
     told : (r a : ℕ) → encodeAnswerAt r a .refusal ≡ r
     told zero a = refl

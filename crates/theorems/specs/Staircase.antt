@@ -15,8 +15,7 @@ use Rattle.lists.specs.ListLaws.{all-map}
 use Rattle.lists.specs.Lists.{from}
 use Rattle.lists.specs.Numbers.{from-at}
 use Rattle.table.specs.PacketCall.{partAt}
-use Rattle.table.specs.Table.{places, size, checks}
-use Rattle.table.specs.TableLaws.{accepted}
+use Rattle.table.specs.Table.{places, checks}
 use Rattle.making.specs.Sorted.{rising-low}
 use Rattle.staircase.specs.Ascending.{stairs-count}
 use Rattle.staircase.specs.Staircase.{staircaseChecks, staircaseRefusal, staircaseLent}
@@ -99,18 +98,19 @@ module _ (k n ones seed s : ℕ) (buffer : List ℕ) (made : staircaseRefusal k 
     refused = λ p w. lengths-decide t (length p) (length w) (facts .accepted) quiet-aside;
   }
 
-  -- "files go out in natural order": the block that planning and then encoding to the last step gives begins with the information
-  module _ (planBuffer work information blockBuffer scratchBuffer : List ℕ) (limit : ℕ) (planned : planningRefusal t planBuffer work ≡ 0)
-      (lent : ToTheLastStep t (handed t planBuffer work) information blockBuffer scratchBuffer limit) where
+  -- "files go out in natural order": the block that planning and then encoding to the last step gives, at any size z, begins with the
+  -- information
+  module _ (planBuffer work : List ℕ) (z : ℕ) (information blockBuffer scratchBuffer : List ℕ) (limit : ℕ) (planned : planningRefusal t planBuffer work ≡ 0)
+      (lent : ToTheLastStep t (handed t planBuffer work) z information blockBuffer scratchBuffer limit) where
     -- the plan and the block, as they were written
     abbrev p : List ℕ
     p = handed t planBuffer work
 
     abbrev sent : List ℕ
-    sent = encodeBlockAfter p information blockBuffer scratchBuffer limit
+    sent = encodeBlockAfter p z information blockBuffer scratchBuffer limit
 
-    one : TheOneBlock t p information blockBuffer scratchBuffer limit
-    one = planning-then-encoding t planBuffer work planned information blockBuffer scratchBuffer limit lent
+    one : TheOneBlock t p z information blockBuffer scratchBuffer limit
+    one = planning-then-encoding t planBuffer work planned z information blockBuffer scratchBuffer limit lent
 
     kept-are : planOf t .M ≡ n - k
     kept-are = natural .all-kept ∙ checks-count
@@ -126,24 +126,23 @@ module _ (k n ones seed s : ℕ) (buffer : List ℕ) (made : staircaseRefusal k 
         let a = left .above in
         omega arith
 
-    in-order : (j : ℕ) → j < k → partAt (size t) j sent ≡ partAt (size t) j information
+    in-order : (j : ℕ) → j < k → partAt z j sent ≡ partAt z j information
     in-order j h =
-        let z : 0 + j ≡ j = omega arith in
-        ap (λ x. partAt (size t) x sent) (sym (ap (λ l. getD l j 0) info-is ∙ from-at 0 k j h ∙ z)) ∙ one .carries .carries j (below j h)
+        let e : 0 + j ≡ j = omega arith in
+        ap (λ x. partAt z x sent) (sym (ap (λ l. getD l j 0) info-is ∙ from-at 0 k j h ∙ e)) ∙ one .carries .carries j (below j h)
 
-    information-long : length information ≡ k * size t
+    information-long : length information ≡ k * z
     information-long =
         let a = left .above in
         let q = facts .places-are in
         let m : planKept p ≡ n - k = ap planKept (plan-written t planBuffer work planned) ∙ own-kept t (facts .accepted) few ∙ kept-are in
-        let z : places t - planKept p ≡ k = omega arith in
-        lent .info-long ∙ ap (λ x. x * size t) z
+        let e : places t - planKept p ≡ k = omega arith in
+        lent .info-long ∙ ap (λ x. x * z) e
 
-    pub made-in-order : take (k * size t) sent ≡ information
+    pub made-in-order : take (k * z) sent ≡ information
     made-in-order =
         let a = left .above in
         let q = facts .places-are in
-        let g = accepted t (facts .accepted) in
-        let fits : k * size t ≤ places t * size t = mul-le-mul {n₂ = places t} {m₂ = size t} (omega arith) (omega arith) in
+        let fits : k * z ≤ places t * z = mul-le-mul {n₂ = places t} {m₂ = z} (omega arith) (omega arith) in
         let l = one .carries .long in
-        same-bytes (size t) k sent information (g .some-bytes) (omega arith) information-long in-order
+        same-bytes z k sent information (lent .some-bytes) (omega arith) information-long in-order

@@ -15,10 +15,11 @@ use Rattle.alist.specs.AlistText.{alistText, alistWriteRefusalAt}
 use Rattle.plan.specs.Layout.{mostSteps}
 use Rattle.plan.specs.Step.{addSteps}
 use Rattle.planner.specs.Planning.{planOf, numbersOf, planningRefusalAt, leastPlan, workWords}
-use Rattle.encoder.specs.Encoding.{encodeRefusalAt, encodeAnswer, encodeBlockAfter}
+use Rattle.encoder.specs.Encoding.{encodeRefusalAt, encodeAnswer, encodeBlockAfter, encodeScratchAfter}
 use Rattle.repair.specs.Repair.{repairRefusal, repairAnswer, repairBlockAfter, repairMapAfter}
 use Rattle.full.specs.Full.{fullRefusal, fullAnswer, fullBlockAfter, fullMapAfter}
 use Rattle.table.specs.Packets.{lowestNonzero}
+use Rattle.table.specs.Table.{atSize}
 use Rattle.verify.specs.Verify.{verifyRefusal, verifyAnswer}
 
 -- ---- the tables and the block of P2
@@ -27,6 +28,13 @@ tableA = 2 ∷ 7 ∷ 1 ∷ 3 ∷ 4 ∷ 4 ∷ 4 ∷ 12 ∷ 0 ∷ 2 ∷ 4 ∷ 6 �
 
 abbrev pub tableB : List ℕ
 tableB = 2 ∷ 4 ∷ 1 ∷ 3 ∷ 3 ∷ 3 ∷ 3 ∷ 9 ∷ 0 ∷ 1 ∷ 2 ∷ 0 ∷ 1 ∷ 3 ∷ 0 ∷ 2 ∷ 3 ∷ []
+
+-- B's plan behind its first section: place 1 is information; 15 steps, as planlist prints them
+abbrev restB : List ℕ
+restB = 1 ∷ 1 ∷ 15 ∷ 12288 ∷ 16789505 ∷ 8192 ∷ 16785411 ∷ 16384 ∷ 16793601 ∷ 16793602 ∷ 0 ∷ 16777220 ∷ 12288 ∷ 16789504 ∷ 16789505 ∷ 8192 ∷ 16785408 ∷ 16785411 ∷ []
+
+abbrev planB : List ℕ
+planB = 3 ∷ 4 ∷ 1 ∷ 3 ∷ restB
 
 -- A "with a fourth check 0 1 4 5 added"
 abbrev tableA4 : List ℕ
@@ -66,10 +74,15 @@ planning t = planningRefusalAt t leastPlan workWords ∷ []
 abbrev pub planned : List ℕ → List (List ℕ)
 planned t = planning t ∷ planOf t .own ∷ planOf t .info ∷ (planOf t .M ∷ planOf t .W ∷ planOf t .g ∷ addSteps (planOf t .steps) ∷ []) ∷ []
 
--- planning and then encoding to the last step: the planner's refusal, the encoder's and its additions, and the block
-abbrev pub encoded : List ℕ → List ℕ → List ℕ → List ℕ → List (List ℕ)
-encoded t information buffer scratch = let r = encodeAnswer (numbersOf t) information buffer scratch mostSteps in
-    planning t ∷ (r .refusal ∷ r .additions ∷ []) ∷ encodeBlockAfter (numbersOf t) information buffer scratch mostSteps ∷ []
+-- planning and then encoding to the last step, at s bytes a packet: the planner's refusal, the encoder's and its additions, and the block
+abbrev pub encoded : List ℕ → ℕ → List ℕ → List ℕ → List ℕ → List (List ℕ)
+encoded t s information buffer scratch = let r = encodeAnswer (numbersOf t) s information buffer scratch mostSteps in
+    planning t ∷ (r .refusal ∷ r .additions ∷ []) ∷ encodeBlockAfter (numbersOf t) s information buffer scratch mostSteps ∷ []
+
+-- encoding by the plan w: refusal and additions, the block and the scratch
+abbrev answered : List ℕ → ℕ → List ℕ → List ℕ → List ℕ → List (List ℕ)
+answered w s information buffer scratch = let r = encodeAnswer w s information buffer scratch mostSteps in
+    (r .refusal ∷ r .additions ∷ []) ∷ encodeBlockAfter w s information buffer scratch mostSteps ∷ encodeScratchAfter w s information buffer scratch mostSteps ∷ []
 
 -- repair: refusal, restored, still lost and additions, the check and its byte, the block and the map
 abbrev pub mended : List ℕ → List ℕ → List ℕ → List (List ℕ)
@@ -105,9 +118,9 @@ starred =
     -- P1: own places solved 6, 5, 3; information 0 1 2 4; g 0; 9 additions
     record { given = planned tableA; wanted = (0 ∷ []) ∷ (6 ∷ 5 ∷ 3 ∷ []) ∷ (0 ∷ 1 ∷ 2 ∷ 4 ∷ []) ∷ (3 ∷ 12 ∷ 0 ∷ 9 ∷ []) ∷ [] }
     -- P2: A with 01 02 04 08
-    ∷ record { given = encoded tableA (0x01 ∷ 0x02 ∷ 0x04 ∷ 0x08 ∷ []) (9 ∷ 9 ∷ 9 ∷ 9 ∷ 9 ∷ 9 ∷ 9 ∷ []) []; wanted = (0 ∷ []) ∷ (0 ∷ 9 ∷ []) ∷ block2 ∷ [] }
+    ∷ record { given = encoded tableA 1 (0x01 ∷ 0x02 ∷ 0x04 ∷ 0x08 ∷ []) (9 ∷ 9 ∷ 9 ∷ 9 ∷ 9 ∷ 9 ∷ 9 ∷ []) []; wanted = (0 ∷ []) ∷ (0 ∷ 9 ∷ []) ∷ block2 ∷ [] }
     -- P3: B with a5
-    ∷ record { given = encoded tableB (0xa5 ∷ []) (9 ∷ 9 ∷ 9 ∷ 9 ∷ []) (9 ∷ []); wanted = (0 ∷ []) ∷ (0 ∷ 9 ∷ []) ∷ (0x00 ∷ 0xa5 ∷ 0xa5 ∷ 0xa5 ∷ []) ∷ [] }
+    ∷ record { given = encoded tableB 1 (0xa5 ∷ []) (9 ∷ 9 ∷ 9 ∷ 9 ∷ []) (9 ∷ []); wanted = (0 ∷ []) ∷ (0 ∷ 9 ∷ []) ∷ (0x00 ∷ 0xa5 ∷ 0xa5 ∷ 0xa5 ∷ []) ∷ [] }
     -- P4: lost 3, 5, 6: all restored, 9 additions
     ∷ record { given = mended tableA (0x01 ∷ 0x02 ∷ 0x04 ∷ 0xff ∷ 0x08 ∷ 0xff ∷ 0xff ∷ []) (0 ∷ 0 ∷ 0 ∷ 1 ∷ 0 ∷ 1 ∷ 1 ∷ []); wanted = (0 ∷ 3 ∷ 0 ∷ 9 ∷ []) ∷ (0 ∷ 0 ∷ []) ∷ block2 ∷ (0 ∷ 0 ∷ 0 ∷ 2 ∷ 0 ∷ 2 ∷ 2 ∷ []) ∷ [] }
     -- P5: lost 2, 4, 5: none restored, 0 additions
@@ -119,7 +132,7 @@ starred =
     -- P8: 11 at place 0, none lost: refusal 8, by check 0 at byte 0
     ∷ record { given = mended tableA (0x11 ∷ 0x02 ∷ 0x04 ∷ 0x0e ∷ 0x08 ∷ 0x0b ∷ 0x0d ∷ []) (0 ∷ 0 ∷ 0 ∷ 0 ∷ 0 ∷ 0 ∷ 0 ∷ []); wanted = (8 ∷ 0 ∷ 0 ∷ 0 ∷ []) ∷ (0 ∷ 0 ∷ []) ∷ (0x11 ∷ 0x02 ∷ 0x04 ∷ 0x0e ∷ 0x08 ∷ 0x0b ∷ 0x0d ∷ []) ∷ (0 ∷ 0 ∷ 0 ∷ 0 ∷ 0 ∷ 0 ∷ 0 ∷ []) ∷ [] }
     -- P9: no information, block 00, 0 additions, bound 0
-    ∷ record { given = (planOf table9 .info) ∷ (bound table9 ∷ []) ∷ encoded table9 [] (9 ∷ []) []; wanted = [] ∷ (0 ∷ []) ∷ (0 ∷ []) ∷ (0 ∷ 0 ∷ []) ∷ (0x00 ∷ []) ∷ [] }
+    ∷ record { given = (planOf table9 .info) ∷ (bound table9 ∷ []) ∷ encoded table9 1 [] (9 ∷ []) []; wanted = [] ∷ (0 ∷ []) ∷ (0 ∷ []) ∷ (0 ∷ 0 ∷ []) ∷ (0x00 ∷ []) ∷ [] }
     -- P10: three information places, no step
     ∷ record { given = planning table10 ∷ planOf table10 .info ∷ (length (planOf table10 .steps) ∷ []) ∷ []; wanted = (0 ∷ []) ∷ (0 ∷ 1 ∷ 2 ∷ []) ∷ (0 ∷ []) ∷ [] }
     -- C-12: checks 0 1, 1 2 and 0, lost 0 and 1, 01 at place 2: refusal 8, by check 2 at byte 0
@@ -135,6 +148,21 @@ starred =
     ∷ record { given = fullyMended tableA (0x11 ∷ 0x02 ∷ 0x04 ∷ 0x0e ∷ 0x08 ∷ 0x0b ∷ 0x0d ∷ []) (0 ∷ 0 ∷ 0 ∷ 0 ∷ 0 ∷ 0 ∷ 0 ∷ []); wanted = (8 ∷ 0 ∷ 0 ∷ []) ∷ (0 ∷ 0 ∷ []) ∷ (0x11 ∷ 0x02 ∷ 0x04 ∷ 0x0e ∷ 0x08 ∷ 0x0b ∷ 0x0d ∷ []) ∷ (0 ∷ 0 ∷ 0 ∷ 0 ∷ 0 ∷ 0 ∷ 0 ∷ []) ∷ [] }
     -- C-15: P10's table, 3 0/0 0/0 0 0///// with / as line end, both ways
     ∷ record { given = texted table10; wanted = (0 ∷ 0 ∷ 18 ∷ []) ∷ (51 ∷ 32 ∷ 48 ∷ 10 ∷ 48 ∷ 32 ∷ 48 ∷ 10 ∷ 48 ∷ 32 ∷ 48 ∷ 32 ∷ 48 ∷ 10 ∷ 10 ∷ 10 ∷ 10 ∷ 10 ∷ []) ∷ table10 ∷ [] }
+    -- C-16: A's plan with packets of three bytes; byte position 0 is P2's case
+    ∷ record { given = encoded tableA 3 (0x01 ∷ 0x10 ∷ 0xff ∷ 0x02 ∷ 0x20 ∷ 0x00 ∷ 0x04 ∷ 0x40 ∷ 0xa5 ∷ 0x08 ∷ 0x80 ∷ 0x5a ∷ []) (replicate 21 9) []; wanted = (0 ∷ []) ∷ (0 ∷ 9 ∷ []) ∷ (0x01 ∷ 0x10 ∷ 0xff ∷ 0x02 ∷ 0x20 ∷ 0x00 ∷ 0x04 ∷ 0x40 ∷ 0xa5 ∷ 0x0e ∷ 0xe0 ∷ 0xff ∷ 0x08 ∷ 0x80 ∷ 0x5a ∷ 0x0b ∷ 0xb0 ∷ 0xa5 ∷ 0x0d ∷ 0xd0 ∷ 0x00 ∷ []) ∷ [] }
+    -- C-16: B's plan with packets of two bytes; byte position 0 is P3's case
+    ∷ record { given = encoded tableB 2 (0xa5 ∷ 0x01 ∷ []) (replicate 8 9) (9 ∷ 9 ∷ []); wanted = (0 ∷ []) ∷ (0 ∷ 9 ∷ []) ∷ (0x00 ∷ 0x00 ∷ 0xa5 ∷ 0x01 ∷ 0xa5 ∷ 0x01 ∷ 0xa5 ∷ 0x01 ∷ []) ∷ [] }
+    -- C-16: B's plan, number by number, and the same for the table with packets of 64 bytes
+    ∷ record { given = numbersOf tableB ∷ numbersOf (atSize 64 tableB) ∷ []; wanted = planB ∷ planB ∷ [] }
+    -- C-16: sizes 0 and 1,025 with an empty plan: refusal 2; size 1,024 with it: refusal 9
+    ∷ record { given = answered [] 0 [] (9 ∷ []) (9 ∷ []); wanted = (2 ∷ 0 ∷ []) ∷ (9 ∷ []) ∷ (9 ∷ []) ∷ [] }
+    ∷ record { given = answered [] 1025 [] (9 ∷ []) (9 ∷ []); wanted = (2 ∷ 0 ∷ []) ∷ (9 ∷ []) ∷ (9 ∷ []) ∷ [] }
+    ∷ record { given = answered [] 1024 [] (9 ∷ []) (9 ∷ []); wanted = (9 ∷ 0 ∷ []) ∷ (9 ∷ []) ∷ (9 ∷ []) ∷ [] }
+    -- C-16: B's plan in the old layout, 4, n, s, g, M, and with nothing but 4 for 3: refusal 9
+    ∷ record { given = answered (4 ∷ 4 ∷ 1 ∷ 1 ∷ 3 ∷ restB) 1 (0xa5 ∷ []) (9 ∷ 9 ∷ 9 ∷ 9 ∷ []) (9 ∷ []); wanted = (9 ∷ 0 ∷ []) ∷ (9 ∷ 9 ∷ 9 ∷ 9 ∷ []) ∷ (9 ∷ []) ∷ [] }
+    ∷ record { given = answered (4 ∷ 4 ∷ 1 ∷ 3 ∷ restB) 1 (0xa5 ∷ []) (9 ∷ 9 ∷ 9 ∷ 9 ∷ []) (9 ∷ []); wanted = (9 ∷ 0 ∷ []) ∷ (9 ∷ 9 ∷ 9 ∷ 9 ∷ []) ∷ (9 ∷ []) ∷ [] }
+    -- C-16: B's plan at size 2 with buffers for packets of one byte: refusal 5
+    ∷ record { given = answered planB 2 (0xa5 ∷ []) (9 ∷ 9 ∷ 9 ∷ 9 ∷ []) (9 ∷ []); wanted = (5 ∷ 0 ∷ []) ∷ (9 ∷ 9 ∷ 9 ∷ 9 ∷ []) ∷ (9 ∷ []) ∷ [] }
     ∷ []
 
 pub starred-cases : map (λ c. c .given) starred ≡ map (λ c. c .wanted) starred

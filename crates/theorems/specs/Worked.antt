@@ -10,7 +10,7 @@ use Rattle.theorems.specs.Starred.{Case, planned, encoded, mended}
 
 -- the plan of a table with one information place, its fitted places, and the encoding of the byte 1 with g bytes of scratch
 abbrev filled : List ℕ → List ℕ → List ℕ → List (List ℕ)
-filled t block scratch = planOf t .fitted ∷ planned t ++ encoded t (1 ∷ []) block scratch
+filled t block scratch = planOf t .fitted ∷ planned t ++ encoded t 1 (1 ∷ []) block scratch
 
 abbrev pub worked : List Case
 worked =

@@ -14,22 +14,23 @@ pub struct Encoding {
 #[no_mangle]
 pub extern "C" fn bs_encode(
     plan: &[u32],
+    size: usize,
     information: &[u8],
     block: &mut [u8],
     scratch: &mut [u8],
     limit: usize,
 ) -> Encoding
     ensures answer { λ r. ⌜
-        encoded r ≡ encodeAnswer (now (plan .entry)) (now (information .entry)) (now (block .entry)) (now (scratch .entry)) limit
+        encoded r ≡ encodeAnswer (now (plan .entry)) size (now (information .entry)) (now (block .entry)) (now (scratch .entry)) limit
         ⌝ }
     ensures block { λ _. ⌜
-        now (block .exit) ≡ encodeBlockAfter (now (plan .entry)) (now (information .entry)) (now (block .entry)) (now (scratch .entry)) limit
+        now (block .exit) ≡ encodeBlockAfter (now (plan .entry)) size (now (information .entry)) (now (block .entry)) (now (scratch .entry)) limit
         ⌝ }
     ensures scratch { λ _. ⌜
-        now (scratch .exit) ≡ encodeScratchAfter (now (plan .entry)) (now (information .entry)) (now (block .entry)) (now (scratch .entry)) limit
+        now (scratch .exit) ≡ encodeScratchAfter (now (plan .entry)) size (now (information .entry)) (now (block .entry)) (now (scratch .entry)) limit
         ⌝ }
 {
-    let r = encoder::encode(plan, information, block, scratch, limit);
+    let r = encoder::encode(plan, size, information, block, scratch, limit);
     Encoding {
         refusal: r.refusal,
         additions: r.additions,

@@ -13,40 +13,34 @@ shared-slice-read-wide c = let w = has-weights _ _ _ _ (c .before .before .befor
 wide-requires : tie.Need-wide-requires
 wide-requires c κs = search needs
 
-shared-slice-read-wide-2 : tie.Need-shared-slice-read-wide-2
-shared-slice-read-wide-2 c = let w = has-weights _ _ _ _ (c .before .before .before .before .before .before .before .before .before .before .before .before .pre .0 .located .table) in omega arith
-
-wide-requires-2 : tie.Need-wide-requires-2
-wide-requires-2 c κs = search needs
-
 write-head-requires : tie.Need-write-head-requires
-write-head-requires c κs = let s = c .before .before .before .before .before .before .before .before .before .before .before .before .before in head-fits (s .pre .0) (s .pre .1 .0) (s .pre .1 .1) (c .before .before .before .wide .ensures) (c .wide2 .ensures)
+write-head-requires c κs = let s = c .before .before .before .before .before .before .before .before .before .before .before in head-fits (s .pre .0) (s .pre .1 .0) (s .pre .1 .1) (c .before .wide .ensures)
 
 info-section-requires : tie.Need-info-section-requires
 info-section-requires c κs =
-    let s = c .before .before .before .before .before .before .before .before .before .before .before .before .before .before .before .before .before in
+    let s = c .before .before .before .before .before .before .before .before .before .before .before .before .before .before .before in
     let ph = s .pre .0 in
-    let e = c .before .before .before .before .before .before .before .wide .ensures in
-    (info-room (s .pre .0) (s .args .plan .now) (s .pre .1 .1) (c .before .before .before .before .before .before .before .wide .ensures) (c .before .before .before .before .wide2 .ensures) (c .before .before .before .write-head .ensures), (rw e (own-places ph), (rw e (fitted-below ph), rw e (few-places _ _ _ _ (ph .located .table)))))
+    let e = c .before .before .before .before .before .wide .ensures in
+    (info-room (s .pre .0) (s .args .plan .now) (s .pre .1 .1) (c .before .before .before .before .before .wide .ensures) (c .before .before .before .write-head .ensures), (rw e (own-places ph), (rw e (fitted-below ph), rw e (few-places _ _ _ _ (ph .located .table)))))
 
 step-section-requires : tie.Need-step-section-requires
 step-section-requires c κs =
-    let s = c .before .before .before .before .before .before .before .before .before .before .before .before .before .before .before .before .before .before .before .before .before in
-    (steps-room (s .pre .0) (s .args .plan .now) (s .pre .1 .1) (c .before .before .before .before .before .before .before .before .before .before .before .wide .ensures) (c .before .before .before .before .before .before .before .before .wide2 .ensures) (c .before .before .before .before .before .before .before .write-head .ensures) (c .before .before .before .info-section .ensures), (s .pre .0, steps-few (s .pre .0)))
+    let s = c .before .before .before .before .before .before .before .before .before .before .before .before .before .before .before .before .before .before .before in
+    (steps-room (s .pre .0) (s .args .plan .now) (s .pre .1 .1) (c .before .before .before .before .before .before .before .before .before .wide .ensures) (c .before .before .before .before .before .before .before .write-head .ensures) (c .before .before .before .info-section .ensures), (s .pre .0, steps-few (s .pre .0)))
 
-sub-t20 : tie.Need-sub-t20
-sub-t20 c = search needs
+sub-t24 : tie.Need-sub-t24
+sub-t24 c = search needs
 
-sub-t26 : tie.Need-sub-t26
-sub-t26 c = search needs
+sub-t25 : tie.Need-sub-t25
+sub-t25 c = search needs
 
 clears-requires : tie.Need-clears-requires
-clears-requires c κs = let p = c .before .before .before .before .before .before .before .before .before .before .before .before .before .before .before .before .before .before .before .before .before .before .before .before .pre in (taken-few (p .0), p .0 .few)
+clears-requires c κs = let p = c .before .before .before .before .before .before .before .before .before .before .before .before .before .before .before .before .before .before .before .before .before .before .pre in (taken-few (p .0), p .0 .few)
 
-sub-t28 : tie.Need-sub-t28
-sub-t28 c =
-    let s = c .before .before .before .before .before .before .before .before .before .before .before .before .before .before .before .before .before .before .before .before .before .before .before .before .before in
-    let e = steps-end (s .pre .0) (s .args .plan .now) (s .pre .1 .1) (c .before .before .before .before .before .before .before .before .before .before .before .before .before .before .before .wide .ensures) (c .before .before .before .before .before .before .before .before .before .before .before .before .wide2 .ensures) (c .before .before .before .before .before .before .before .before .before .before .before .write-head .ensures) (c .before .before .before .before .before .before .before .info-section .ensures) (c .before .before .before .step-section .ensures) in
+sub-t27 : tie.Need-sub-t27
+sub-t27 c =
+    let s = c .before .before .before .before .before .before .before .before .before .before .before .before .before .before .before .before .before .before .before .before .before .before .before in
+    let e = steps-end (s .pre .0) (s .args .plan .now) (s .pre .1 .1) (c .before .before .before .before .before .before .before .before .before .before .before .before .before .wide .ensures) (c .before .before .before .before .before .before .before .before .before .before .before .write-head .ensures) (c .before .before .before .before .before .before .before .info-section .ensures) (c .before .before .before .step-section .ensures) in
     let n = clears-count (s .pre .0) in
     let cl = c .clears .ensures in
     omega arith
@@ -56,11 +50,11 @@ same-length c = search needs
 
 returns : tie.Need-returns
 returns c =
-    let s = c .before .before .before .before .before .before .before .before .before .before .before .before .before .before .before .before .before .before .before .before .before .before .before .before .before in
-    let e = steps-end (s .pre .0) (s .args .plan .now) (s .pre .1 .1) (c .before .before .before .before .before .before .before .before .before .before .before .before .before .before .before .wide .ensures) (c .before .before .before .before .before .before .before .before .before .before .before .before .wide2 .ensures) (c .before .before .before .before .before .before .before .before .before .before .before .write-head .ensures) (c .before .before .before .before .before .before .before .info-section .ensures) (c .before .before .before .step-section .ensures) in
+    let s = c .before .before .before .before .before .before .before .before .before .before .before .before .before .before .before .before .before .before .before .before .before .before .before in
+    let e = steps-end (s .pre .0) (s .args .plan .now) (s .pre .1 .1) (c .before .before .before .before .before .before .before .before .before .before .before .before .before .wide .ensures) (c .before .before .before .before .before .before .before .before .before .before .before .write-head .ensures) (c .before .before .before .before .before .before .before .info-section .ensures) (c .before .before .before .step-section .ensures) in
     let n = clears-count (s .pre .0) in
     let cl = c .clears .ensures in
-    composed (s .pre .0) (s .args .plan .now) (s .pre .1 .1) (c .before .before .before .before .before .before .before .before .before .before .before .before .before .before .before .wide .ensures) (c .before .before .before .before .before .before .before .before .before .before .before .before .wide2 .ensures) (c .before .before .before .before .before .before .before .before .before .before .before .write-head .ensures) (c .before .before .before .before .before .before .before .info-section .ensures) (c .before .before .before .step-section .ensures) (s .pre .1 .0) (omega arith)
+    composed (s .pre .0) (s .args .plan .now) (s .pre .1 .1) (c .before .before .before .before .before .before .before .before .before .before .before .before .before .wide .ensures) (c .before .before .before .before .before .before .before .before .before .before .before .write-head .ensures) (c .before .before .before .before .before .before .before .info-section .ensures) (c .before .before .before .step-section .ensures) (s .pre .1 .0) (omega arith)
 
 pub write-plan-spec : {M : Type 1} → statement M
 write-plan-spec =
@@ -68,14 +62,12 @@ write-plan-spec =
     (tie.spec
     shared-slice-read-wide
     wide-requires
-    shared-slice-read-wide-2
-    wide-requires-2
     write-head-requires
     info-section-requires
     step-section-requires
-    sub-t20
-    sub-t26
+    sub-t24
+    sub-t25
     clears-requires
-    sub-t28
+    sub-t27
     same-length
     returns)

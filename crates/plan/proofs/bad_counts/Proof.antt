@@ -17,7 +17,7 @@ wide-requires : tie.Need-wide-requires
 wide-requires c κs = search needs
 
 returns-2 : tie.Need-returns-2
-returns-2 c = counts-first (c .before .before .before .before .before .args .w .now) (omega arith) (λ e. c .if2 .taken (c .before .wide .ensures ∙ e))
+returns-2 c = counts-first (c .before .before .before .before .before .args .w .now) (omega arith) (λ e. let t = c .if2 .taken in omega arith)
 
 bad-limits-requires : tie.Need-bad-limits-requires
 bad-limits-requires c κs = search needs

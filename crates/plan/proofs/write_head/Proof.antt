@@ -1,8 +1,8 @@
--- `plan::write_head` meets its contract: five numbers, one after the other.
+-- `plan::write_head` meets its contract: four numbers, one after the other.
 use native.Mathlib.Omega.{arith}
 use lib.ListN.{length-set}
 use Rattle.plan.specs.Layout.{headCount}
-use Rattle.plan.proofs.HeadWritten.{set-five}
+use Rattle.plan.proofs.HeadWritten.{set-four}
 use borrow.Author.Needs.{needs}
 use Rattle.plan.proofs.write_head.Statement.{statement}
 use Rattle.plan.proofs.write_head.Tie as tie
@@ -29,19 +29,13 @@ cast-w-4 : tie.Need-cast-w-4
 cast-w-4 c = search needs
 
 slice-write-w-4 : tie.Need-slice-write-w-4
-slice-write-w-4 c = simp length-set (omega arith)
-
-cast-w-5 : tie.Need-cast-w-5
-cast-w-5 c = search needs
-
-slice-write-w-5 : tie.Need-slice-write-w-5
-slice-write-w-5 c = search needs
+slice-write-w-4 c = search needs
 
 same-length : tie.Need-same-length
 same-length c = search needs
 
 returns : tie.Need-returns
-returns c = let a = c .args in set-five (a .w .now) headCount (a .n) (a .s) (a .g) (a .m) (c .pre .room)
+returns c = let a = c .args in set-four (a .w .now) headCount (a .n) (a .g) (a .m) (c .pre .room)
 
 pub write-head-spec : {M : Type 1} → statement M
 write-head-spec =
@@ -55,7 +49,5 @@ write-head-spec =
     slice-write-w-3
     cast-w-4
     slice-write-w-4
-    cast-w-5
-    slice-write-w-5
     same-length
     returns)
