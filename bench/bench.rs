@@ -136,6 +136,70 @@ fn calls_of(
     calls
 }
 
+// ---------------------------------------------------------- contradictions
+
+/// By how much the packets that are wrong are off, and how many of a hundred
+/// places are lost besides. One is wrong; two are, by something else; two are, by
+/// the same, so that all checks that fail have the same sum.
+const WRONG: [(&str, &[u8], usize); 6] = [
+    ("one", &[1], 0),
+    ("two", &[1, 2], 0),
+    ("two alike", &[1, 1], 0),
+    ("one", &[1], 20),
+    ("two", &[1, 2], 20),
+    ("two alike", &[1, 1], 20),
+];
+
+/// Microseconds, the ratio to the library's repair of the block as it was sent,
+/// the ratio to plain Rust, and plain Rust's to its own repair of the block as
+/// it was sent.
+#[cfg(receiver)]
+struct Contradiction {
+    time: f64,
+    to_sent: Ratio,
+    to_plain: Ratio,
+    plain_to_sent: Ratio,
+}
+
+#[cfg(receiver)]
+fn measure_wrong(call: &mut calls::Wrong, long: Duration) -> Contradiction {
+    let kinds: [(bool, fn(&mut calls::Wrong, bool)); 4] = [
+        (true, calls::Wrong::library),
+        (false, calls::Wrong::library),
+        (true, calls::Wrong::plain),
+        (false, calls::Wrong::plain),
+    ];
+    // Before each call the block is repaired as it was sent, so that its packets
+    // are as warm for all four.
+    let timed = |call: &mut calls::Wrong, (wrong, run): (bool, fn(&mut calls::Wrong, bool))| {
+        call.reset(false);
+        call.library(false);
+        call.reset(wrong);
+        let start = Instant::now();
+        run(call, wrong);
+        micros(start)
+    };
+    // Where one takes much longer than another, the machine takes more of it for
+    // other things: a quarter of as long is what each takes at least.
+    let times = kinds.map(|kind| (0..5).map(|_| timed(call, kind)).fold(f64::MAX, f64::min));
+    let longest = times.into_iter().fold(0.0, f64::max);
+    let many = times.map(|time| (longest / time / 4.0).max(1.0) as usize);
+    let rounds = rounds(long, || {
+        std::array::from_fn(|i| {
+            (0..many[i]).map(|_| timed(call, kinds[i])).sum::<f64>() / many[i] as f64
+        })
+    });
+    let ratio = |a: usize, b: usize| {
+        Ratio::of(rounds.iter().map(|times: &[f64; 4]| times[a] / times[b]))
+    };
+    Contradiction {
+        time: Ratio::of(rounds.iter().map(|times| times[0])).median,
+        to_sent: ratio(0, 1),
+        to_plain: ratio(0, 2),
+        plain_to_sent: ratio(2, 3),
+    }
+}
+
 // -------------------------------------------------------------------- marks
 
 /// The most that the ratios may be where n is 1,024 and the block is warm: to
@@ -159,13 +223,21 @@ fn marks_of(call: &str, kind: &str, s: usize) -> Option<(Option<[f64; 2]>, f64)>
     }
 }
 
+/// The most that repair with one wrong packet and 20 % lost may cost beside the
+/// block as it was sent: at s 64 a repair a place.
+fn mark_of_wrong(s: usize) -> f64 {
+    if s == 64 { 1024.0 } else { 300.0 }
+}
+
+fn mark_line(call: &str, kind: &str, s: usize, to: &str, mark: f64, ratio: Ratio) -> String {
+    let verdict = if ratio.median <= mark { "holds" } else { "missed" };
+    format!("{call:<12} {kind:<10} {s:>5}  {to:<14} {mark:>7.2}  {ratio:<25} {verdict}")
+}
+
 /// A line for each mark of a call at s 64 or 1,024.
 fn mark_lines(call: &str, kind: &str, s: usize, figures: &Figures) -> Vec<String> {
     let Some((limits, plain)) = marks_of(call, kind, s) else { return Vec::new() };
-    let line = |to: &str, mark: f64, ratio: Ratio| {
-        let verdict = if ratio.median <= mark { "holds" } else { "missed" };
-        format!("{call:<12} {kind:<10} {s:>5}  {to:<14} {mark:>5.2}  {ratio:<22} {verdict}")
-    };
+    let line = |to: &str, mark: f64, ratio: Ratio| mark_line(call, kind, s, to, mark, ratio);
     let by_limit = limits.zip(figures.limits).map(|(marks, [hot, _])| {
         line("pure xor", if s == 64 { marks[0] } else { marks[1] }, hot)
     });
@@ -182,6 +254,7 @@ fn mark_lines(call: &str, kind: &str, s: usize, figures: &Figures) -> Vec<String
 /// What is printed at the end.
 struct Report {
     figures: Vec<String>,
+    contradictions: Vec<String>,
     marks: Vec<String>,
 }
 
@@ -196,6 +269,13 @@ impl Report {
             of.time, of.plain
         ));
     }
+    #[cfg(receiver)]
+    fn wrong_row(&mut self, table: &str, wrong: &str, share: usize, s: usize, of: &Contradiction) {
+        let Contradiction { time, to_sent, to_plain, plain_to_sent } = of;
+        let line = format!("{table:<18} {wrong:<9} {share:>4} {s:>5} {time:>8.1}");
+        let ratios = format!("{to_sent:<27} {to_plain:<27} {plain_to_sent}");
+        self.contradictions.push(format!("{line}  {ratios}"));
+    }
     fn print(&self) {
         println!(
             "\n{:<18} {:<12} {:<5} {:>5} {:>8}  {:<22} {:<22} {}",
@@ -203,7 +283,19 @@ impl Report {
         );
         self.figures.iter().for_each(|line| println!("{line}"));
         println!(
-            "\n{:<12} {:<10} {:>5}  {:<14} {:>5}  {:<22} {}",
+            "\n{:<18} {:<9} {:>4} {:>5} {:>8}  {:<27} {:<27} {}",
+            "table",
+            "wrong",
+            "lost",
+            "s",
+            "us",
+            "to none wrong",
+            "to plain Rust",
+            "plain, to none wrong"
+        );
+        self.contradictions.iter().for_each(|line| println!("{line}"));
+        println!(
+            "\n{:<12} {:<10} {:>5}  {:<14} {:>7}  {:<25} {}",
             "call", "table", "s", "ratio to", "mark", "this run", "verdict"
         );
         self.marks.iter().for_each(|line| println!("{line}"));
@@ -211,7 +303,8 @@ impl Report {
 }
 
 fn main() {
-    let mut report = Report { figures: Vec::new(), marks: Vec::new() };
+    let mut report =
+        Report { figures: Vec::new(), contradictions: Vec::new(), marks: Vec::new() };
     let start = Instant::now();
     for (kind, n, m) in TABLES {
         let name = format!("{kind} {n} {m}");
@@ -231,6 +324,20 @@ fn main() {
                 if large && call != "plan" {
                     let cold = measure(&mut *with, s, false, millis(300));
                     report.row(&name, call, "cold", s, &cold);
+                }
+            }
+            #[cfg(receiver)]
+            for (wrong, off, share) in WRONG {
+                if marked && kind != "few" {
+                    let lent = Lent::new(&with_size(&table, s), &planned);
+                    let mut call = calls::Wrong::new(lent, share, off);
+                    let figures = measure_wrong(&mut call, millis(800));
+                    report.wrong_row(&name, wrong, share, s, &figures);
+                    if (wrong, share) == ("one", 20) {
+                        let (mark, ratio) = (mark_of_wrong(s), figures.to_sent);
+                        let line = mark_line("one wrong", kind, s, "none wrong", mark, ratio);
+                        report.marks.push(line);
+                    }
                 }
             }
         }

@@ -10,7 +10,7 @@
 pub use uplink::{Encode, Plan};
 
 #[cfg(receiver)]
-pub use receiver::{FullRepair, Repair, Verify};
+pub use receiver::{FullRepair, Repair, Verify, Wrong};
 
 #[cfg(tables)]
 pub use tables::{AlistRead, AlistWrite, Staircase};
@@ -474,6 +474,74 @@ mod receiver {
         }
         fn packets(&self) -> Vec<&[u8]> {
             vec![&self.lent.slots[..self.lent.bytes()]]
+        }
+    }
+
+    /// Repair of a block with wrong packets, beside that of the block as it was
+    /// sent with the same places lost.
+    pub struct Wrong {
+        lent: Lent,
+        received: Vec<u8>,
+        map: Vec<u8>,
+        /// Place, packet as sent, packet as received.
+        packets: Vec<(usize, Vec<u8>, Vec<u8>)>,
+        /// To the block with the wrong packets, and to the block as sent.
+        answer: model::Repaired,
+        accepted: model::Repaired,
+    }
+
+    impl Wrong {
+        /// So many of a hundred places are lost. Received packets are off at
+        /// their last byte, by each of these: one is blamed, several aren't. The
+        /// library leaves what plain Rust leaves.
+        pub fn new(mut lent: Lent, share: usize, off: &[u8]) -> Self {
+            let (received, bytes) = (received_map(&lent, share), lent.bytes());
+            let mut map = received.clone();
+            let accepted = plain::repair(&lent.table, &mut lent.slots[..bytes], &mut map);
+            assert_eq!(accepted.refusal, 0);
+
+            let places: Vec<usize> = (0..map.len()).filter(|p| received[*p] == 0).collect();
+            let packet = |(i, off): (usize, &u8)| {
+                let place = places[places.len() * (2 * i + 1) / 4];
+                let sent = lent.slots[place * lent.s..][..lent.s].to_vec();
+                let mut wrong = sent.clone();
+                wrong[lent.s - 1] ^= off;
+                (place, sent, wrong)
+            };
+            let packets: Vec<_> = off.iter().enumerate().map(packet).collect();
+
+            let mut call = Wrong { lent, received, map, packets, answer: accepted, accepted };
+            call.reset(true);
+            let block = &mut call.lent.slots[..bytes];
+            call.answer = plain::repair(&call.lent.table, block, &mut call.map);
+            let (block, map) = (block.to_vec(), call.map.clone());
+            match call.packets[..] {
+                [(place, ..)] => assert_eq!(map.iter().position(|b| *b == 3), Some(place)),
+                _ => assert_eq!(call.answer.refusal, 8),
+            }
+            call.reset(true);
+            call.library(true);
+            assert!(call.map == map && call.lent.slots[..bytes] == block, "another block");
+            call
+        }
+        /// Before each call; not measured.
+        pub fn reset(&mut self, wrong: bool) {
+            self.map.copy_from_slice(&self.received);
+            let Lent { slots, s, .. } = &mut self.lent;
+            for (place, as_sent, as_received) in &self.packets {
+                let packet = if wrong { as_received } else { as_sent };
+                slots[place * *s..][..*s].copy_from_slice(packet);
+            }
+        }
+        pub fn library(&mut self, wrong: bool) {
+            let answer = repair(&mut self.lent, &mut self.map);
+            assert_eq!(answer, if wrong { self.answer } else { self.accepted });
+        }
+        pub fn plain(&mut self, wrong: bool) {
+            let bytes = self.lent.bytes();
+            let Lent { table, slots, .. } = &mut self.lent;
+            let answer = plain::repair(black_box(table), &mut slots[..bytes], &mut self.map);
+            assert_eq!(answer, if wrong { self.answer } else { self.accepted });
         }
     }
 

@@ -118,13 +118,23 @@ pub fn verify(table: &[u16], block: &[u8]) -> Verified {
 // ----------------------------------------------------------------- repair
 
 /// What peeling gives: map bytes as they become, lost places left in each check,
-/// and the checks that restored a place.
+/// and the checks that restored a place, each with its place, in order.
 struct Peeled {
     state: Vec<u8>,
     unknown: Vec<u8>,
     used: Vec<bool>,
-    restored: u32,
+    turns: Vec<(u16, u16)>,
     additions: u32,
+}
+
+impl Peeled {
+    /// The checks without a lost place. One that restored a place sums to zero.
+    fn judged(&self) -> impl Iterator<Item = usize> + '_ {
+        (0..self.used.len()).filter(|c| self.unknown[*c] == 0 && !self.used[*c])
+    }
+    fn restored(&self) -> u32 {
+        self.turns.len() as u32
+    }
 }
 
 fn zero_lost(block: &mut [u8], s: usize, map: &[u8]) {
@@ -133,8 +143,10 @@ fn zero_lost(block: &mut [u8], s: usize, map: &[u8]) {
     }
 }
 
-fn peel(t: &Checks, block: &mut [u8], map: &[u8]) -> Peeled {
-    let s = t.s;
+/// Peeling by the map alone; what is to be done with a check's packets at its
+/// turn is given.
+#[inline]
+fn peel_by(t: &Checks, map: &[u8], mut restore: impl FnMut(&[u16], usize)) -> Peeled {
     // For each check the count of lost places; for each place its checks.
     let mut first = vec![0u16; t.n + 1];
     for p in t.places {
@@ -156,12 +168,12 @@ fn peel(t: &Checks, block: &mut [u8], map: &[u8]) -> Peeled {
     }
 
     let mut state = map.to_vec();
-    zero_lost(block, s, map);
     // Checks with one lost place, lowest first.
     let mut ready: BinaryHeap<Reverse<u16>> =
         (0..t.m).filter(|c| unknown[*c] == 1).map(|c| Reverse(c as u16)).collect();
     let mut used = vec![false; t.m];
-    let (mut restored, mut additions) = (0, 0);
+    let mut turns = Vec::with_capacity(t.m);
+    let mut additions = 0;
     while let Some(Reverse(c)) = ready.pop() {
         let c = c as usize;
         if unknown[c] != 1 {
@@ -169,13 +181,11 @@ fn peel(t: &Checks, block: &mut [u8], map: &[u8]) -> Peeled {
         }
         let check = t.check(c);
         let place = *check.iter().find(|p| state[**p as usize] == 1).unwrap() as usize;
-        for p in check.iter().filter(|p| **p as usize != place) {
-            add_slots(block, s, place, *p as usize);
-            additions += 1;
-        }
+        restore(check, place);
+        additions += check.len() as u32 - 1;
         state[place] = 2;
         used[c] = true;
-        restored += 1;
+        turns.push((c as u16, place as u16));
         for c in &of_place[first[place] as usize..first[place + 1] as usize] {
             unknown[*c as usize] -= 1;
             if unknown[*c as usize] == 1 {
@@ -183,15 +193,85 @@ fn peel(t: &Checks, block: &mut [u8], map: &[u8]) -> Peeled {
             }
         }
     }
-    Peeled { state, unknown, used, restored, additions }
+    Peeled { state, unknown, used, turns, additions }
 }
 
-/// The lowest check and byte that fail among the checks without a lost place. A
-/// check that restored a place sums to zero.
+fn peel(t: &Checks, block: &mut [u8], map: &[u8]) -> Peeled {
+    let s = t.s;
+    zero_lost(block, s, map);
+    peel_by(t, map, |check, place| {
+        for p in check.iter().filter(|p| **p as usize != place) {
+            add_slots(block, s, place, *p as usize);
+        }
+    })
+}
+
+/// The lowest check and byte that fail among the checks without a lost place.
 fn failing(t: &Checks, block: &[u8], peeled: &Peeled) -> Option<(usize, usize)> {
     let mut sum = [0; MAX_SIZE];
-    let mut judged = (0..t.m).filter(|c| peeled.unknown[*c] == 0 && !peeled.used[*c]);
-    judged.find_map(|c| Some((c, nonzero_in_sum(t.check(c), block, &mut sum[..t.s])?)))
+    let sum = &mut sum[..t.s];
+    peeled.judged().find_map(|c| Some((c, nonzero_in_sum(t.check(c), block, sum)?)))
+}
+
+/// The one received place that, lost too, comes back without a contradiction.
+///
+/// Once it has come back all other places are as before but for what they have
+/// of its packet. So the checks that fail have one and the same sum, and they
+/// are the checks that have the place in their sum, by itself or through
+/// restored ones. Sums are followed for 64 received places at a time, a bit each.
+fn bad_place(t: &Checks, block: &[u8], map: &[u8], peeled: &Peeled) -> Option<usize> {
+    let (mut sum, mut wrong) = ([0; MAX_SIZE], [0; MAX_SIZE]);
+    let (sum, wrong) = (&mut sum[..t.s], &mut wrong[..t.s]);
+    let (mut failing, mut right): (Vec<usize>, Vec<usize>) = (Vec::new(), Vec::new());
+    for c in peeled.judged() {
+        if nonzero_in_sum(t.check(c), block, sum).is_none() {
+            right.push(c);
+        } else if failing.is_empty() {
+            wrong.copy_from_slice(sum);
+            failing.push(c);
+        } else if *sum == *wrong {
+            failing.push(c);
+        } else {
+            return None;
+        }
+    }
+    let mut bad = None;
+    let mut through = [0u64; MAX_PLACES];
+    for from in (0..t.n).step_by(64) {
+        let some = from..t.n.min(from + 64);
+        through.fill(0);
+        let mut left = 0;
+        for p in some.filter(|p| map[*p] == 0) {
+            through[p] = 1 << (p - from);
+            left |= through[p];
+        }
+        let sum_of = |check: &[u16], through: &[u64; MAX_PLACES]| {
+            check.iter().fold(0, |sum, p| sum ^ through[*p as usize])
+        };
+        for (c, place) in &peeled.turns {
+            // The place itself has nothing yet.
+            through[*place as usize] = sum_of(t.check(*c as usize), &through);
+        }
+        for c in &failing {
+            left &= sum_of(t.check(*c), &through);
+        }
+        for c in &right {
+            if left == 0 {
+                break;
+            }
+            left &= !sum_of(t.check(*c), &through);
+        }
+        while left != 0 {
+            let p = from + left.trailing_zeros() as usize;
+            left &= left - 1;
+            let mut lost_too = map.to_vec();
+            lost_too[p] = 1;
+            if peel_by(t, &lost_too, |_, _| {}).state[p] == 2 && bad.replace(p).is_some() {
+                return None;
+            }
+        }
+    }
+    bad
 }
 
 pub fn repair(table: &[u16], block: &mut [u8], map: &mut [u8]) -> Repaired {
@@ -205,14 +285,19 @@ pub fn repair(table: &[u16], block: &mut [u8], map: &mut [u8]) -> Repaired {
     if map.iter().any(|b| *b > 1) {
         return Repaired::refused(7);
     }
-    let peeled = peel(&t, block, map);
+    let mut peeled = peel(&t, block, map);
     if let Some((check, byte)) = failing(&t, block, &peeled) {
-        zero_lost(block, t.s, map);
-        return Repaired { check: check as u32, byte: byte as u32, ..Repaired::refused(8) };
+        let Some(bad) = bad_place(&t, block, map, &peeled) else {
+            zero_lost(block, t.s, map);
+            return Repaired { check: check as u32, byte: byte as u32, ..Repaired::refused(8) };
+        };
+        map[bad] = 1;
+        peeled = peel(&t, block, map);
+        peeled.state[bad] = 3;
     }
     map.copy_from_slice(&peeled.state);
     let lost = map.iter().filter(|b| **b == 1).count() as u32;
-    let Peeled { restored, additions, .. } = peeled;
+    let (restored, additions) = (peeled.restored(), peeled.additions);
     Repaired { refusal: 0, restored, lost, additions, check: 0, byte: 0 }
 }
 
@@ -339,7 +424,7 @@ pub fn full_repair(
         work.fill(0);
         return FullyRepaired::refused(8);
     };
-    let restored = peeled.restored + settle(&t, block, &mut peeled.state, &leads, work);
+    let restored = peeled.restored() + settle(&t, block, &mut peeled.state, &leads, work);
     map.copy_from_slice(&peeled.state);
     zero_lost(block, t.s, map);
     work.fill(0);

@@ -1,23 +1,23 @@
 /* Repairs a block that lost three packets, then verifies it. Then repairs one
- * where no check has a single lost place. Then finds where two packets differ
- * that should be equal. */
+ * where no check has a single lost place. Then one with a wrong packet, and one
+ * with two. Then finds where two packets differ that should be equal. */
 
 #include <stdio.h>
 #include <string.h>
 
 #include "receiver.h"
 
+/* Seven packets of one byte, three checks of four places each. */
+static const uint16_t table[] = {
+    2, 7, 1,
+    3, 4, 4, 4,
+    12, 0, 2, 4, 6, 1, 2, 5, 6, 3, 4, 5, 6,
+};
+static const size_t table_len = sizeof table / sizeof table[0];
+static const uint8_t sent[7] = {0x01, 0x02, 0x04, 0x0e, 0x08, 0x0b, 0x0d};
+
 static int repair_and_verify(void)
 {
-    /* Seven packets of one byte, three checks of four places each. */
-    static const uint16_t table[] = {
-        2, 7, 1,
-        3, 4, 4, 4,
-        12, 0, 2, 4, 6, 1, 2, 5, 6, 3, 4, 5, 6,
-    };
-    static const uint8_t sent[7] = {0x01, 0x02, 0x04, 0x0e, 0x08, 0x0b, 0x0d};
-    const size_t table_len = sizeof table / sizeof table[0];
-
     /* Places 3, 5 and 6 didn't arrive. */
     uint8_t block[7] = {0x01, 0x02, 0x04, 0, 0x08, 0, 0};
     uint8_t map[7] = {0, 0, 0, 1, 0, 1, 1};
@@ -43,16 +43,8 @@ static int repair_and_verify(void)
 
 static int repair_fully(void)
 {
-    /* The table and the block sent as above; places 2, 4 and 6 didn't arrive.
-     * Each check has lost two places or more. */
-    static const uint16_t table[] = {
-        2, 7, 1,
-        3, 4, 4, 4,
-        12, 0, 2, 4, 6, 1, 2, 5, 6, 3, 4, 5, 6,
-    };
-    static const uint8_t sent[7] = {0x01, 0x02, 0x04, 0x0e, 0x08, 0x0b, 0x0d};
+    /* Places 2, 4 and 6 didn't arrive. Each check has lost two places or more. */
     static uint64_t work[8192];
-    const size_t table_len = sizeof table / sizeof table[0];
     const size_t work_len = sizeof work / sizeof work[0];
     uint8_t block[7] = {0x01, 0x02, 0, 0x0e, 0, 0x0b, 0};
     uint8_t map[7] = {0, 0, 1, 0, 1, 0, 1};
@@ -76,28 +68,67 @@ static int repair_fully(void)
     return 0;
 }
 
+static int blame_a_place(void)
+{
+    /* All seven arrived, but place 0 has 11 where 01 was sent. Without it no
+     * packets contradict, and the others restore it; of no other place is that
+     * true. So it is marked 3. */
+    uint8_t block[7] = {0x11, 0x02, 0x04, 0x0e, 0x08, 0x0b, 0x0d};
+    uint8_t map[7] = {0};
+
+    bs_repaired repaired = bs_repair(table, table_len, block, sizeof block, map, sizeof map);
+    if (repaired.refusal != 0 || repaired.restored != 1 || map[0] != 3 ||
+        memcmp(block, sent, sizeof sent) != 0) {
+        printf("receiver.c: a wrong packet: refusal %u, mark %u\n",
+               (unsigned)repaired.refusal, (unsigned)map[0]);
+        return 1;
+    }
+    /* Whoever can't risk that the blame fell on a right packet looks for a 3. */
+    const uint8_t *blamed = memchr(map, 3, sizeof map);
+    printf("receiver.c: packets contradicted: place %u blamed, and restored as %02x\n",
+           (unsigned)(blamed - map), (unsigned)block[0]);
+    return 0;
+}
+
+static int refuse_two_wrong(void)
+{
+    /* Place 3 is wrong too: no single place can be blamed. */
+    uint8_t block[7] = {0x11, 0x02, 0x04, 0x0f, 0x08, 0x0b, 0x0d};
+    uint8_t map[7] = {0};
+
+    bs_repaired repaired = bs_repair(table, table_len, block, sizeof block, map, sizeof map);
+    if (repaired.refusal != 8 || block[0] != 0x11 || map[0] != 0) {
+        printf("receiver.c: two wrong packets: refusal %u\n", (unsigned)repaired.refusal);
+        return 1;
+    }
+    printf("receiver.c: two wrong packets: check %u fails at byte %u\n",
+           (unsigned)repaired.check, (unsigned)repaired.byte);
+    return 0;
+}
+
 static int find_the_byte(void)
 {
     /* Two packets of eight bytes, each sent twice: a check for each pair. */
-    static const uint16_t table[] = {
+    static const uint16_t pairs[] = {
         2, 4, 8,
         2, 2, 2,
         4, 0, 1, 2, 3,
     };
-    const size_t table_len = sizeof table / sizeof table[0];
+    const size_t pairs_len = sizeof pairs / sizeof pairs[0];
 
-    /* All four arrived, but the copies of the second packet differ. */
+    /* All four arrived, but the copies of the second packet differ. Either may
+     * be the wrong one, so that none is blamed. */
     uint8_t block[33] = "54 11 N 54 11 N 007 53 E007 58 E";
     uint8_t map[4] = {0, 0, 0, 0};
 
-    bs_verified verified = bs_verify(table, table_len, block, 32);
+    bs_verified verified = bs_verify(pairs, pairs_len, block, 32);
     if (verified.refusal != 0 || verified.codeword != 0 ||
         verified.check != 1 || verified.byte != 5) {
         printf("receiver.c: verification told check %u, byte %u\n",
                (unsigned)verified.check, (unsigned)verified.byte);
         return 1;
     }
-    bs_repaired repaired = bs_repair(table, table_len, block, 32, map, sizeof map);
+    bs_repaired repaired = bs_repair(pairs, pairs_len, block, 32, map, sizeof map);
     if (repaired.refusal != 8 || repaired.check != 1 || repaired.byte != 5) {
         printf("receiver.c: repair answered %u, check %u, byte %u\n",
                (unsigned)repaired.refusal, (unsigned)repaired.check, (unsigned)repaired.byte);
@@ -110,5 +141,6 @@ static int find_the_byte(void)
 
 int main(void)
 {
-    return repair_and_verify() != 0 || repair_fully() != 0 || find_the_byte() != 0;
+    return repair_and_verify() != 0 || repair_fully() != 0 || blame_a_place() != 0
+        || refuse_two_wrong() != 0 || find_the_byte() != 0;
 }

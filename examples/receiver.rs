@@ -1,6 +1,6 @@
 //! Repairs a block that lost three packets, then verifies it. Then repairs one
-//! where no check has a single lost place. Then finds where two packets differ
-//! that should be equal.
+//! where no check has a single lost place. Then one with a wrong packet, and one
+//! with two. Then finds where two packets differ that should be equal.
 
 #[repr(C)]
 struct Repaired {
@@ -70,7 +70,8 @@ enum Unrepaired {
 }
 
 /// Restores lost packets; the numbers of restored and still lost places and
-/// of additions.
+/// of additions. A map byte of 3 says that packets contradicted and that this
+/// place was blamed, which may have been right.
 fn repair(
     table: &[u16],
     block: &mut [u8],
@@ -141,35 +142,32 @@ fn wrong(what: String) -> ! {
     std::process::exit(1)
 }
 
-fn repair_and_verify() {
-    // Seven packets of one byte, three checks of four places each.
-    let table = [2, 7, 1, 3, 4, 4, 4, 12, 0, 2, 4, 6, 1, 2, 5, 6, 3, 4, 5, 6];
-    let sent = [0x01, 0x02, 0x04, 0x0e, 0x08, 0x0b, 0x0d];
+/// Seven packets of one byte, three checks of four places each.
+const TABLE: [u16; 20] = [2, 7, 1, 3, 4, 4, 4, 12, 0, 2, 4, 6, 1, 2, 5, 6, 3, 4, 5, 6];
+const SENT: [u8; 7] = [0x01, 0x02, 0x04, 0x0e, 0x08, 0x0b, 0x0d];
 
+fn repair_and_verify() {
     // Places 3, 5 and 6 didn't arrive.
     let mut block = [0x01, 0x02, 0x04, 0, 0x08, 0, 0];
     let mut map = [0, 0, 0, 1, 0, 1, 1];
 
-    let repaired = repair(&table, &mut block, &mut map);
-    let verified = verify(&table, &block);
+    let repaired = repair(&TABLE, &mut block, &mut map);
+    let verified = verify(&TABLE, &block);
     let fifth = packet(7, 1, 5, &block);
-    if repaired != Ok((3, 0, 9)) || block != sent || verified != Ok(None) || fifth != Ok(&[0x0b]) {
+    if repaired != Ok((3, 0, 9)) || block != SENT || verified != Ok(None) || fifth != Ok(&[0x0b]) {
         wrong(format!("{repaired:?}, {block:02x?}, {verified:?}, {fifth:?}"));
     }
     println!("receiver.rs: 3 restored, 0 lost, 9 additions; packet 5 is {:02x}", block[5]);
 }
 
 fn repair_fully() {
-    // The table and the block sent as above; places 2, 4 and 6 didn't arrive.
-    // Each check has lost two places or more.
-    let table = [2, 7, 1, 3, 4, 4, 4, 12, 0, 2, 4, 6, 1, 2, 5, 6, 3, 4, 5, 6];
-    let sent = [0x01, 0x02, 0x04, 0x0e, 0x08, 0x0b, 0x0d];
+    // Places 2, 4 and 6 didn't arrive. Each check has lost two places or more.
     let mut block = [0x01, 0x02, 0, 0x0e, 0, 0x0b, 0];
     let mut map = [0, 0, 1, 0, 1, 0, 1];
 
-    let repaired = repair(&table, &mut block, &mut map);
-    let full = full_repair(&table, &mut block, &mut map);
-    if repaired != Ok((0, 3, 0)) || full != Ok((3, 0)) || block != sent {
+    let repaired = repair(&TABLE, &mut block, &mut map);
+    let full = full_repair(&TABLE, &mut block, &mut map);
+    if repaired != Ok((0, 3, 0)) || full != Ok((3, 0)) || block != SENT {
         wrong(format!("{repaired:?}, {full:?}, {block:02x?}"));
     }
     println!(
@@ -178,15 +176,45 @@ fn repair_fully() {
     );
 }
 
+fn blame_a_place() {
+    // All seven arrived, but place 0 has 11 where 01 was sent. Without it no
+    // packets contradict, and the others restore it; of no other place is that
+    // true. So it is marked 3.
+    let mut block = [0x11, 0x02, 0x04, 0x0e, 0x08, 0x0b, 0x0d];
+    let mut map = [0; 7];
+
+    let repaired = repair(&TABLE, &mut block, &mut map);
+    let blamed = map.iter().position(|mark| *mark == 3);
+    if repaired != Ok((1, 0, 3)) || block != SENT || blamed != Some(0) {
+        wrong(format!("{repaired:?}, {block:02x?}, {map:?}"));
+    }
+    println!("receiver.rs: packets contradicted: place 0 blamed, and restored as {:02x}", block[0]);
+}
+
+fn refuse_two_wrong() {
+    // Place 3 is wrong too: no single place can be blamed.
+    let received = [0x11, 0x02, 0x04, 0x0f, 0x08, 0x0b, 0x0d];
+    let mut block = received;
+    let mut map = [0; 7];
+
+    let repaired = repair(&TABLE, &mut block, &mut map);
+    let contradicts = Unrepaired::Contradicts { check: 0, byte: 0 };
+    if repaired != Err(contradicts) || block != received || map != [0; 7] {
+        wrong(format!("{repaired:?}, {block:02x?}, {map:?}"));
+    }
+    println!("receiver.rs: two wrong packets: check 0 fails at byte 0");
+}
+
 fn find_the_byte() {
     // Two packets of eight bytes, each sent twice: a check for each pair.
-    let table = [2, 4, 8, 2, 2, 2, 4, 0, 1, 2, 3];
+    let pairs = [2, 4, 8, 2, 2, 2, 4, 0, 1, 2, 3];
 
-    // All four arrived, but the copies of the second packet differ.
+    // All four arrived, but the copies of the second packet differ. Either may
+    // be the wrong one, so that none is blamed.
     let mut block = *b"54 11 N 54 11 N 007 53 E007 58 E";
 
-    let verified = verify(&table, &block);
-    let repaired = repair(&table, &mut block, &mut [0; 4]);
+    let verified = verify(&pairs, &block);
+    let repaired = repair(&pairs, &mut block, &mut [0; 4]);
     let contradicts = Unrepaired::Contradicts { check: 1, byte: 5 };
     if verified != Ok(Some((1, 5))) || repaired != Err(contradicts) {
         wrong(format!("{verified:?}, {repaired:?}"));
@@ -197,5 +225,7 @@ fn find_the_byte() {
 fn main() {
     repair_and_verify();
     repair_fully();
+    blame_a_place();
+    refuse_two_wrong();
     find_the_byte();
 }

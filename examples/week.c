@@ -1,7 +1,7 @@
 /* The week in one program, over all three libraries: makes a staircase table,
  * plans it, encodes a file, loses packets, repairs the block and verifies it.
- * On the bench a wrong byte is found. One plan serves packets of 64, 256 and
- * 1,024 bytes. */
+ * On the bench a wrong byte is found, and its packet restored; two wrong
+ * packets are refused. One plan serves packets of 64, 256 and 1,024 bytes. */
 
 #include <stdio.h>
 #include <string.h>
@@ -66,6 +66,41 @@ static int make_plan(matrix m, bs_planned *planned)
     return 0;
 }
 
+/* On the bench: the block that was sent, with a wrong byte at the end of its
+ * last packet, which lies in the last check alone. Verification finds it, and
+ * repair blames that place. 0 if all went well; told is what verification said. */
+static int one_wrong(size_t length, size_t packets, size_t size, bs_verified *told)
+{
+    block[packets * size - 1] ^= 0x01;
+    *told = bs_verify(table, length, block, packets * size);
+    if (told->refusal != 0 || told->codeword != 0 || told->byte != size - 1)
+        return failed("a wrong byte was found at", told->byte);
+
+    memset(map, 0, packets);
+    bs_repaired repaired = bs_repair(table, length, block, packets * size, map, packets);
+    if (repaired.refusal != 0 || repaired.restored != 1)
+        return failed("a wrong packet was refused", repaired.refusal);
+    if (map[packets - 1] != 3 || memcmp(block, sent, packets * size) != 0)
+        return failed("a wrong packet wasn't blamed, mark", map[packets - 1]);
+    return 0;
+}
+
+/* The same with a wrong byte at the start of the first packet too: repair
+ * refuses, and tells what verification does. 0 if all went well. */
+static int two_wrong(size_t length, size_t packets, size_t size)
+{
+    block[0] ^= 0x01;
+    block[packets * size - 1] ^= 0x01;
+    memset(map, 0, packets);
+    bs_verified told = bs_verify(table, length, block, packets * size);
+    bs_repaired repaired = bs_repair(table, length, block, packets * size, map, packets);
+    if (repaired.refusal != 8)
+        return failed("two wrong packets: refusal", repaired.refusal);
+    if (repaired.check != told.check || repaired.byte != told.byte)
+        return failed("two wrong packets: check", repaired.check);
+    return 0;
+}
+
 /* Carries one file from the uplink to the receiver, by the plan, with packets
  * of so many bytes. Every step-th packet is lost. 0 if all went well. */
 static int carry(matrix m, bs_planned planned, size_t size, size_t step)
@@ -108,17 +143,16 @@ static int carry(matrix m, bs_planned planned, size_t size, size_t step)
     if (memcmp(block, sent, packets * size) != 0)
         return failed("another block came back, lost", lost);
 
-    /* The bench. The last packet lies in the last check alone. */
-    block[packets * size - 1] ^= 0x01;
-    verified = bs_verify(table, made.length, block, packets * size);
-    if (verified.refusal != 0 || verified.codeword != 0 || verified.check != planned.kept - 1)
+    if (one_wrong(made.length, packets, size, &verified) != 0
+        || two_wrong(made.length, packets, size) != 0)
+        return 1;
+    if (verified.check != planned.kept - 1)
         return failed("a wrong byte was found in check", verified.check);
-    if (verified.byte != size - 1)
-        return failed("a wrong byte was found at", verified.byte);
 
     printf("week.c: %u packets of %u bytes, %u checks, %u ones; encoded with %u additions;\n"
            "        %u lost, %u restored with %u additions; the file came back in natural order;\n"
-           "        a wrong byte was found in check %u at byte %u\n",
+           "        a wrong byte was found in check %u at byte %u, and its packet restored;\n"
+           "        two wrong packets were refused\n",
            (unsigned)packets, (unsigned)size, (unsigned)planned.kept, (unsigned)planned.ones,
            (unsigned)encoded.additions, lost, (unsigned)repaired.restored,
            (unsigned)repaired.additions, (unsigned)verified.check, (unsigned)verified.byte);

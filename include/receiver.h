@@ -25,7 +25,8 @@
  *      4  a place not below n, or not ascending in its check
  *      5  a buffer of wrong length
  *      7  a byte of the lost map over 1
- *      8  the received packets contradict each other; of bs_full_repair: no
+ *      8  of bs_repair: the received packets contradict each other, and not
+ *         exactly one place can be blamed for it; of bs_full_repair: no
  *         codeword agrees with them
  *     10  a place not below n in bs_packet
  *
@@ -46,7 +47,7 @@ extern "C" {
 
 typedef struct {
     uint32_t refusal;
-    uint32_t restored;  /* places restored */
+    uint32_t restored;  /* places restored, a blamed one too */
     uint32_t lost;      /* places still lost */
     uint32_t additions; /* packets added: weight - 1 for each check used */
     uint32_t check;     /* with 8 the lowest check that fails; else 0 */
@@ -56,19 +57,41 @@ typedef struct {
 /* Restores lost packets. block has n * s bytes. map has n bytes: 0 received,
  * 1 lost. While some check has exactly one lost place, the lowest such check
  * restores it. What stays lost is the largest stopping set. Bytes that lie at
- * lost places beforehand don't count.
+ * lost places beforehand don't count. If afterwards a check without a lost
+ * place doesn't sum to zero, the received packets contradict each other.
  *
- * Accepted: map bytes of restored places become 2, their packets are in the
- * block, and places still lost hold zero bytes. Received places are kept.
+ * Then a place may be blamed. A received place is a suspect if the same
+ * repair, with this place marked lost too, restores it and meets no
+ * contradiction. If there is exactly one suspect, the call is accepted with
+ * that repair, and the place is marked 3. If there is none, or more than one,
+ * the call is refused with 8. Where nothing contradicts, no place is blamed.
+ *
+ * Accepted: map bytes of restored places become 2, that of the blamed place
+ * becomes 3, all others stay 0 or 1. Packets of restored places and of the
+ * blamed one are in the block, and places still lost hold zero bytes. All
+ * other received places are kept. The blamed place counts as restored, and
+ * additions are those of the repair with it marked lost. Its packet is another
+ * than the one that came, which is gone.
+ *
+ * A 3 doesn't say that this packet was wrong: the blame can fall on a right
+ * one. All that is promised is that every check without a lost place sums to
+ * zero and that received packets change at that place alone. For example:
+ * checks 1 2, 0 1 2 3 and 2 3, four zero bytes sent, places 2 and 3 lost, and
+ * 01 came at place 1. Place 0 is marked 3 and all four bytes become 01, which
+ * is a codeword, but not the one that was sent. A loader that can't risk this
+ * takes a block with a 3 in its map for one that isn't repaired, and waits for
+ * the next pass. If one packet alone is wrong, and its place would be restored
+ * if it were lost too, the blame falls on no other place.
+ *
  * Refusals: 1 to 5, 7 and 8. After 8 every place that map says is lost holds
  * zero bytes; map and received places are kept.
  *
- * With 8 check and byte tell of the block as restored, before lost places
- * become zero. check is the lowest check that fails: of those then without a
- * lost place, the first whose packets don't sum to zero. byte is the position,
- * 0 to s - 1, of the lowest byte of that sum that isn't zero. So 0 and 0 say
- * that check 0 fails at byte 0. If the call is accepted, or refused with
- * another number, both are 0. */
+ * With 8 check and byte tell of the repair in which no place is blamed: of
+ * the block as restored, before lost places become zero. check is the lowest
+ * check that fails: of those then without a lost place, the first whose
+ * packets don't sum to zero. byte is the position, 0 to s - 1, of the lowest
+ * byte of that sum that isn't zero. So 0 and 0 say that check 0 fails at byte
+ * 0. If the call is accepted, or refused with another number, both are 0. */
 bs_repaired bs_repair(const uint16_t *table, size_t table_len,
                       uint8_t *block, size_t block_len,
                       uint8_t *map, size_t map_len);
@@ -83,23 +106,26 @@ typedef struct {
 
 /* Restores every lost packet that the received ones decide: a place is
  * restored exactly if all codewords that agree with the received packets
- * agree there. So it restores what bs_repair restores, with the same packets,
- * and more where that stops. block and map are as for bs_repair. work has
- * exactly 8,192 64-bit words, as the planner's; what it holds doesn't count,
- * and neither do bytes at lost places.
+ * agree there. It blames no place. Where it is accepted, bs_repair would be
+ * too, and would blame none; so it restores what bs_repair restores, with the
+ * same packets, and more where that stops. block and map are as for bs_repair.
+ * work has exactly 8,192 64-bit words, as the planner's; what it holds doesn't
+ * count, and neither do bytes at lost places.
  *
  * Accepted: map bytes of restored places become 2, their packets are in the
  * block, and places still lost hold zero bytes. Received places are kept.
  * work is zero. Where nothing stays lost the block is a codeword.
  * Refusals: 1 to 5, 7 and 8. 8 says that no codeword agrees with the received
- * packets: wherever bs_repair answers 8, and also where only several checks
- * together contradict; check and byte are 0. After 8 every place that map
- * says is lost holds zero bytes, map and received places are kept, and work
- * is zero. After any other refusal all buffers are as they were.
+ * packets: wherever bs_repair answers 8 or blames a place, and also where only
+ * several checks together contradict; check and byte are 0. After 8 every
+ * place that map says is lost holds zero bytes, map and received places are
+ * kept, and work is zero. After any other refusal all buffers are as they
+ * were.
  *
- * A map that a repair has marked is refused with 7: to go on with more
- * packets, set the 2s back to 1, or to 0 to take restored packets for
- * received ones. */
+ * A map that a repair has marked is refused with 7, by both calls: to go on
+ * with more packets, set the 2s back to 1, or to 0 to take restored packets
+ * for received ones. Set a 3 back to 1: the place is lost, as the repair that
+ * marked it took it. */
 bs_fully_repaired bs_full_repair(const uint16_t *table, size_t table_len,
                                  uint8_t *block, size_t block_len,
                                  uint8_t *map, size_t map_len,

@@ -6,7 +6,7 @@ mod harness;
 mod model;
 
 use gen::Rng;
-use harness::{holds, same, Lent, Run};
+use harness::{equal, holds, same, Lent, Run};
 use model::{FullyRepaired, Part, Repaired, Table, Verified};
 
 #[link(name = "receiver", kind = "static")]
@@ -36,8 +36,8 @@ extern "C" {
 
 // ------------------------------------------------ one call, both ways
 
-/// The library's answer, block and map, if they are the model's.
-fn repair(
+/// The library's answer, block and map; it wrote nowhere else.
+fn repair_alone(
     rng: &mut Rng,
     table: &[u16],
     block: &[u8],
@@ -56,13 +56,105 @@ fn repair(
             lent_map.len(),
         )
     };
-    let (mut block, mut map) = (block.to_vec(), map.to_vec());
-    let expected = model::repair(table, &mut block, &mut map);
-    same("repair", &answer, &expected)?;
     lent_table.kept("repair, table")?;
-    lent_block.holds("repair, block", &block)?;
-    lent_map.holds("repair, map", &map)?;
-    Ok((answer, block, map))
+    lent_block.guarded("repair, block")?;
+    lent_map.guarded("repair, map")?;
+    Ok((answer, lent_block.content().to_vec(), lent_map.content().to_vec()))
+}
+
+/// The library's answer, block and map, if they are the model's, and what holds
+/// of every repair holds.
+fn repair(
+    rng: &mut Rng,
+    table: &[u16],
+    block: &[u8],
+    map: &[u8],
+) -> Result<(Repaired, Vec<u8>, Vec<u8>), String> {
+    let (answer, after, map_after) = repair_alone(rng, table, block, map)?;
+    let (mut expected_block, mut expected_map) = (block.to_vec(), map.to_vec());
+    let expected = model::repair(table, &mut expected_block, &mut expected_map);
+    same("repair", &answer, &expected)?;
+    equal("repair, block", &after, &expected_block)?;
+    equal("repair, map", &map_after, &expected_map)?;
+    holds_of_repair(table, (block, map), &answer, (&after, &map_after))?;
+    Ok((answer, after, map_after))
+}
+
+/// What holds of every repair, seen from outside: of the answer, and of block
+/// and map before and after.
+fn holds_of_repair(
+    table: &[u16],
+    before: (&[u8], &[u8]),
+    answer: &Repaired,
+    after: (&[u8], &[u8]),
+) -> Result<(), String> {
+    if ![0, 8].contains(&answer.refusal) {
+        same("refused", answer, &Repaired::refused(answer.refusal))?;
+        return holds("refused, all kept", before == after);
+    }
+    let ((block, map), (block_after, map_after)) = (before, after);
+    let (n, s) = (table[1] as usize, table[2] as usize);
+    for p in 0..n {
+        let packet = packet_of(block_after, s, p);
+        let kept = packet == packet_of(block, s, p);
+        let as_marked = match (map[p], map_after[p]) {
+            (0, 0) => kept,
+            (0, 3) => !kept,
+            (1, 1) => packet.iter().all(|b| *b == 0),
+            (1, 2) => true,
+            _ => false,
+        };
+        holds(&format!("place {p}, {} became {}", map[p], map_after[p]), as_marked)?;
+    }
+    if answer.refusal == 8 {
+        same("8, counts", answer, &contradicts(answer.check, answer.byte))?;
+        return holds("8, map kept", map_after == map);
+    }
+    let marked = |byte: u8| map_after.iter().filter(|b| **b == byte).count() as u32;
+    holds("one 3 at most", marked(3) <= 1)?;
+    let Repaired { restored, lost, additions, .. } = *answer;
+    same("counts", &(restored, lost), &(marked(2) + marked(3), marked(1)))?;
+    same("accepted", answer, &ok(restored, lost, additions))?;
+    for (c, check) in model::look_over(table).unwrap().checks.iter().enumerate() {
+        let mut sum = vec![0; s];
+        for p in check {
+            sum.iter_mut().zip(packet_of(block_after, s, *p)).for_each(|(a, b)| *a ^= b);
+        }
+        let lost = check.iter().any(|p| map_after[*p] == 1);
+        holds(&format!("check {c} sums to zero"), lost || sum.iter().all(|b| *b == 0))?;
+    }
+    Ok(())
+}
+
+/// C-17's rule from outside: the library is asked again with each received place
+/// marked lost too. An answer without a 3 is the old repair's, and so are block
+/// and map; one with a 3, or 8, says that the old repair contradicts.
+fn by_trial(rng: &mut Rng, table: &[u16], block: &[u8], map: &[u8]) -> Result<(), String> {
+    let (answer, after, map_after) = repair_alone(rng, table, block, map)?;
+    if answer.refusal == 0 && !map_after.contains(&3) {
+        return Ok(());
+    }
+    let mut suspects = Vec::new();
+    for p in (0..map.len()).filter(|p| map[*p] == 0) {
+        let mut lost_too = map.to_vec();
+        lost_too[p] = 1;
+        let (answer, after, mut map_after) = repair_alone(rng, table, block, &lost_too)?;
+        if answer.refusal == 0 && !map_after.contains(&3) && map_after[p] == 2 {
+            map_after[p] = 3;
+            suspects.push((answer, after, map_after));
+        }
+    }
+    match suspects.pop() {
+        Some(only) if suspects.is_empty() => {
+            same("one suspect", &answer, &only.0)?;
+            equal("one suspect, block", &after, &only.1)?;
+            equal("one suspect, map", &map_after, &only.2)
+        }
+        last => {
+            let count = suspects.len() + last.is_some() as usize;
+            same(&format!("{count} suspects"), &answer.refusal, &8)
+        }
+    }
 }
 
 /// The library's answer, block and map, if they and the work are the model's.
@@ -422,12 +514,133 @@ fn brute_byte_case(rng: &mut Rng) -> Result<(), String> {
 
         let map = lose(rng, t.n);
         age(rng, &mut block, t.s, &map);
-        let (answer, _, _) = repair(rng, &words, &block, &map)?;
-        let expected = match model::contradictions(&t, &places_lost(&map), &block).first() {
-            None => ok(answer.restored, answer.lost, answer.additions),
-            Some((check, byte)) => contradicts(*check, *byte),
-        };
-        same("repair", &answer, &expected)?;
+        as_sets_say(rng, &t, &block, &map)?;
+    }
+    Ok(())
+}
+
+/// Repair, with the rule of the one bad packet, by each place as a sum of
+/// received ones.
+fn as_sets_say(rng: &mut Rng, t: &Table, block: &[u8], map: &[u8]) -> Result<(), String> {
+    let (answer, after, map_after) = repair(rng, &gen::words(t), block, map)?;
+    let lost = places_lost(map);
+    let accepted = ok(answer.restored, answer.lost, answer.additions);
+    let (expected, bad) = match model::contradictions(t, &lost, block).first() {
+        None => (accepted, None),
+        Some((check, byte)) => match model::suspects_by_sets(t, &lost, block)[..] {
+            [bad] => (accepted, Some(bad)),
+            _ => (contradicts(*check, *byte), None),
+        },
+    };
+    same("answer by sets", &answer, &expected)?;
+    same("bad place by sets", &map_after.iter().position(|b| *b == 3), &bad)?;
+    if answer.refusal == 8 {
+        return Ok(());
+    }
+    let lost: Vec<usize> = lost.into_iter().chain(bad).collect();
+    for (p, through) in model::peeled(t, &lost).iter().enumerate() {
+        let sum = |b: usize| through.iter().flatten().fold(0, |sum, q| sum ^ block[q * t.s + b]);
+        let packet: Vec<u8> = (0..t.s).map(sum).collect();
+        same("packet by sets", &packet_of(&after, t.s, p).to_vec(), &packet)?;
+        same("known by sets", &(map_after[p] != 1), &through.is_some())?;
+    }
+    Ok(())
+}
+
+// ---------------------------------------------- random cases, one bad packet
+
+/// Some packets of a block wrong: one; several, each by itself; all by the same
+/// difference, so that another may come out as the bad one; or each at bytes of
+/// its own.
+fn corrupt_some(rng: &mut Rng, block: &mut [u8], s: usize, received: &[usize]) {
+    let many = rng.range(2, 3).min(received.len());
+    let mut places = received.to_vec();
+    rng.shuffle(&mut places);
+    match rng.below(8) {
+        0..=3 => corrupt(rng, block, s, places[0]),
+        4 => places[..many].iter().for_each(|p| corrupt(rng, block, s, *p)),
+        5 | 6 => {
+            let mut difference = vec![0; s];
+            corrupt(rng, &mut difference, s, 0);
+            for p in &places[..many] {
+                let packet = &mut block[p * s..(p + 1) * s];
+                packet.iter_mut().zip(&difference).for_each(|(a, b)| *a ^= b);
+            }
+        }
+        _ => {
+            let bytes = rng.some_below(s, many);
+            let turned = rng.below(many);
+            let wrong = places.iter().cycle().skip(turned).zip(bytes);
+            wrong.for_each(|(p, byte)| block[p * s + byte] ^= rng.range(1, 255) as u8);
+        }
+    }
+}
+
+/// A codeword with wrong packets among those received. Each received place is
+/// tried, so large tables are seldom.
+fn blame_case(rng: &mut Rng) -> Result<(), String> {
+    let t = loop {
+        let t = if rng.once_in(2) { gen::table(rng) } else { gen::half_rate(rng) };
+        if t.n <= 128 || rng.once_in(24) {
+            break t;
+        }
+    };
+    let words = gen::words(&t);
+    let codeword = gen::codeword(rng, &t);
+    let share = rng.pick(&[0, 0, 5, 10, 20, 30, 40]);
+    let map: Vec<u8> = (0..t.n).map(|_| (rng.below(100) < share) as u8).collect();
+    let received: Vec<usize> = (0..t.n).filter(|p| map[*p] == 0).collect();
+    if received.is_empty() {
+        return Ok(());
+    }
+    let mut block = codeword.clone();
+    corrupt_some(rng, &mut block, t.s, &received);
+    let right = |p: &usize| packet_of(&block, t.s, *p) == packet_of(&codeword, t.s, *p);
+    let wrong: Vec<usize> = (0..t.n).filter(|p| !right(p)).collect();
+    age(rng, &mut block, t.s, &map);
+    let (answer, after, map_after) = repair(rng, &words, &block, &map)?;
+    if t.n <= 40 {
+        by_trial(rng, &words, &block, &map)?;
+    }
+
+    // One is wrong, and if it is lost it comes back: it is blamed, and nobody
+    // else. Then everything is as if it had been lost.
+    if let [bad] = wrong[..] {
+        let mut lost_too = map.clone();
+        lost_too[bad] = 1;
+        let (second, codeword, mut as_if) = repair_alone(rng, &words, &codeword, &lost_too)?;
+        same("packets of one codeword", &second.refusal, &0)?;
+        if as_if[bad] == 2 && answer.refusal == 0 {
+            as_if[bad] = 3;
+            same("as if lost", &answer, &second)?;
+            equal("as if lost, block", &after, &codeword)?;
+            equal("as if lost, map", &map_after, &as_if)?;
+        } else if as_if[bad] == 2 {
+            same("seen", &answer.refusal, &8)?;
+        }
+    }
+    Ok(())
+}
+
+/// Small tables: each received place tried with the library.
+fn brute_blame_case(rng: &mut Rng) -> Result<(), String> {
+    let mut t = gen::small_table(rng, 12, 10);
+    t.s = rng.range(1, 3);
+    let words = gen::words(&t);
+    for _ in 0..8 {
+        let map = if rng.once_in(2) { vec![0; t.n] } else { lose(rng, t.n) };
+        let received: Vec<usize> = (0..t.n).filter(|p| map[*p] == 0).collect();
+        if received.is_empty() {
+            continue;
+        }
+        let mut block = gen::codeword(rng, &t);
+        corrupt_some(rng, &mut block, t.s, &received);
+        age(rng, &mut block, t.s, &map);
+        let (answer, _, map_after) = repair(rng, &words, &block, &map)?;
+        let seen = answer.refusal == 8 || map_after.contains(&3);
+        let contradictions = model::contradictions(&t, &places_lost(&map), &block);
+        same("contradiction seen", &seen, &!contradictions.is_empty())?;
+        by_trial(rng, &words, &block, &map)?;
     }
     Ok(())
 }
@@ -589,7 +802,7 @@ fn brute_full_case(rng: &mut Rng) -> Result<(), String> {
 }
 
 fn random_case(rng: &mut Rng, number: u64) -> Result<(), String> {
-    match number % 22 {
+    match number % 25 {
         0..=6 => repair_case(rng),
         7..=9 => verify_case(rng),
         10..=12 => damaged_case(rng),
@@ -600,7 +813,9 @@ fn random_case(rng: &mut Rng, number: u64) -> Result<(), String> {
         18 => full_case(rng),
         19 => full_refused_case(rng),
         20 => stalled_case(rng),
-        _ => brute_full_case(rng),
+        21 => brute_full_case(rng),
+        22 | 23 => blame_case(rng),
+        _ => brute_blame_case(rng),
     }
 }
 
@@ -693,9 +908,10 @@ fn fixed_cases(run: &mut Run) {
     run.fixed("P7", repaired(a4, &old(&lost), &lost, ok(3, 0, 9), &p2));
     let mut wrong = p2;
     wrong[0] = 0x11;
-    run.fixed("P8", repaired(a, &wrong, &[], contradicts(0, 0), &wrong));
+    run.fixed("P8", left_by(a, &wrong, &[], ok(1, 0, 3), &[3, 0, 0, 0, 0, 0, 0], &p2));
     run.fixed("P8, verified", verified(a, &wrong, fails(0, 0)));
-    // Refusal 8 after restoring: every lost place becomes zero.
+    // Refusal 8 after restoring, as 0 and 2 are suspects: every lost place
+    // becomes zero.
     wrong[3] = 0xee;
     wrong[5] = 0xee;
     let mut after = wrong;
@@ -706,7 +922,7 @@ fn fixed_cases(run: &mut Run) {
     run.fixed("P9, verified", verified(&single, &[0], CODEWORD));
     run.fixed("P9, not zero", verified(&single, &[1], fails(0, 0)));
     run.fixed("P9, lost", repaired(&single, &[9], &[0], ok(1, 0, 0), &[0]));
-    run.fixed("P9, contradicts", repaired(&single, &[9], &[], contradicts(0, 0), &[9]));
+    run.fixed("P9, blamed", left_by(&single, &[9], &[], ok(1, 0, 0), &[3], &[0]));
     let no_checks: Vec<u16> = vec![2, 3, 1, 0, 0];
     run.fixed("P10, verified", verified(&no_checks, &[1, 2, 3], CODEWORD));
     run.fixed("P10, lost", repaired(&no_checks, &[1, 2, 3], &[1], ok(0, 1, 0), &[1, 0, 3]));
@@ -756,6 +972,11 @@ fn fixed_cases(run: &mut Run) {
     order("5 before 7", &[2, 2, 1, 1, 2, 2, 0, 1], 3, &[2, 0], 5);
     order("7 before 8", &[2, 3, 1, 2, 1, 1, 2, 0, 1], 3, &[0, 0, 2], 7);
     order("8", &[2, 3, 1, 2, 1, 1, 2, 0, 1], 3, &[0, 0, 1], 8);
+    for byte in [2, 3, 4, 128, 255] {
+        let table = [2, 3, 1, 2, 1, 1, 2, 0, 1];
+        order(&format!("7 for {byte}"), &table, 3, &[1, 1, byte], 7);
+        order(&format!("7 before 8 for {byte}"), &table, 3, &[0, 0, byte], 7);
+    }
 
     let mut part = |name: &str, n, s, place, len, expected: Part| {
         let got = packet(&mut Rng::new(0, 0), n, s, place, &vec![7; len]);
@@ -796,7 +1017,8 @@ fn aged(block: &[u8], s: usize, lost: &[usize]) -> Vec<u8> {
 }
 
 /// Refusal 8 tells this check and byte; so does verification if nothing is
-/// lost. Lost places hold old bytes before, zero bytes after.
+/// lost. Lost places hold old bytes before, zero bytes after. There isn't exactly
+/// one suspect.
 fn told(
     (n, s): (usize, usize),
     checks: &[&[usize]],
@@ -806,7 +1028,7 @@ fn told(
 ) -> Result<(), String> {
     let (table, after) = bench(n, s, checks, bytes);
     let block = aged(&after, s, lost);
-    repaired(&table, &block, lost, contradicts(check, byte), &after)?;
+    left_by(&table, &block, lost, contradicts(check, byte), &map_of(n, lost), &after)?;
     if lost.is_empty() {
         verified(&table, &block, fails(check, byte))?;
     }
@@ -851,18 +1073,29 @@ const DEPTHS: [(usize, &[usize], u32); 32] = [
 ];
 
 fn depth_cases(run: &mut Run) {
-    let checks: [&[usize]; 3] = [&[0, 1], &[1, 2], &[0]];
+    // Places 2 and 3 lie in the same check: neither is blamed. Without 3 place 2
+    // is.
+    let checks: [&[usize]; 3] = [&[0, 1], &[1, 2, 3], &[0]];
+    let alone: [&[usize]; 3] = [&[0, 1], &[1, 2], &[0]];
     for (s, depths, lowest) in DEPTHS {
         let bytes: Vec<Byte> = depths.iter().map(|b| (2, *b, 1)).collect();
         // Check 1 restores place 1, then check 0 place 0: check 2 fails. Taken
         // in one sweep, check 2 would restore place 0, and check 0 would fail.
         run.fixed(
             &format!("size {s}, bytes {depths:?}, lost 0 and 1"),
-            told((3, s), &checks, &[0, 1], &bytes, (2, lowest)),
+            told((4, s), &checks, &[0, 1], &bytes, (2, lowest)),
         );
         run.fixed(
             &format!("size {s}, bytes {depths:?}, none lost"),
-            told((3, s), &checks, &[], &bytes, (1, lowest)),
+            told((4, s), &checks, &[], &bytes, (1, lowest)),
+        );
+        run.fixed(
+            &format!("size {s}, bytes {depths:?}, lost 0 and 1, blamed"),
+            blamed((3, s), &alone, &[0, 1], &bytes, ok(3, 0, 2), &[2, 2, 3], &[]),
+        );
+        run.fixed(
+            &format!("size {s}, bytes {depths:?}, none lost, blamed"),
+            blamed((3, s), &alone, &[], &bytes, ok(1, 0, 1), &[0, 0, 3], &[]),
         );
     }
 }
@@ -871,11 +1104,11 @@ fn told_cases(run: &mut Run) {
     run.fixed(
         "C-12",
         repaired(
-            &[2, 3, 1, 3, 2, 2, 1, 5, 0, 1, 1, 2, 0],
-            &[0xee, 0xee, 0x01],
+            &[2, 4, 1, 3, 2, 3, 1, 6, 0, 1, 1, 2, 3, 0],
+            &[0xee, 0xee, 0x01, 0x02],
             &[0, 1],
             contradicts(2, 0),
-            &[0, 0, 0x01],
+            &[0, 0, 0x01, 0x02],
         ),
     );
     run.fixed(
@@ -905,21 +1138,21 @@ fn told_cases(run: &mut Run) {
             (0, 90),
         ),
     );
-    let four: [&[usize]; 4] = [&[0], &[1], &[2], &[3]];
-    run.fixed("the last of four", told((4, 3), &four, &[], &[(3, 2, 1)], (3, 2)));
+    let four: [&[usize]; 4] = [&[0], &[1], &[2], &[3, 4]];
+    run.fixed("the last of four", told((5, 3), &four, &[], &[(3, 2, 1)], (3, 2)));
     run.fixed(
         "the last two of four",
-        told((4, 3), &four, &[], &[(2, 1, 1), (3, 0, 1)], (2, 1)),
+        told((5, 3), &four, &[], &[(2, 1, 1), (3, 0, 1)], (2, 1)),
     );
     let mut many: Vec<&[usize]> = vec![&[]; 256];
-    many.push(&[0]);
-    run.fixed("check 256", told((2, 100), &many, &[], &[(0, 70, 1)], (256, 70)));
+    many.push(&[0, 2]);
+    run.fixed("check 256", told((4, 100), &many, &[], &[(0, 70, 1)], (256, 70)));
     many.resize(511, &[]);
-    many.push(&[1]);
-    run.fixed("check 511", told((2, 1024), &many, &[], &[(1, 1023, 1)], (511, 1023)));
+    many.push(&[1, 3]);
+    run.fixed("check 511", told((4, 1024), &many, &[], &[(1, 1023, 1)], (511, 1023)));
     run.fixed(
         "checks 256 and 511",
-        told((2, 1024), &many, &[], &[(1, 5, 1), (0, 900, 1)], (256, 900)),
+        told((4, 1024), &many, &[], &[(1, 5, 1), (0, 900, 1)], (256, 900)),
     );
 
     // A check with a lost place isn't judged, whatever its other packets are.
@@ -930,8 +1163,8 @@ fn told_cases(run: &mut Run) {
     run.fixed(
         "a lower check has lost places, restored ones contradict",
         told(
-            (6, 100),
-            &[&[2, 4, 5], &[0, 1], &[1, 2], &[0]],
+            (7, 100),
+            &[&[2, 4, 5], &[0, 1], &[1, 2, 6], &[0]],
             &[0, 1, 4, 5],
             &[(2, 70, 1)],
             (3, 70),
@@ -952,8 +1185,8 @@ fn told_cases(run: &mut Run) {
     run.fixed(
         "a chain of restored packets",
         told(
-            (4, 100),
-            &[&[0, 1], &[1, 2], &[2, 3], &[3]],
+            (5, 100),
+            &[&[0, 1, 4], &[1, 2], &[2, 3], &[3]],
             &[1, 2, 3],
             &[(0, 66, 0x40)],
             (3, 66),
@@ -976,23 +1209,361 @@ fn untold_cases(run: &mut Run) {
     run.fixed("a codeword, nothing lost", repaired(&table, &whole, &[], ok(0, 0, 0), &whole));
 
     // Check 1 fails at byte 1, but another cause comes first.
-    let (table, block) = bench(3, 2, &[&[0], &[1], &[0, 2]], &[(1, 1, 7)]);
-    run.fixed("no other cause", told((3, 2), &[&[0], &[1], &[0, 2]], &[], &[(1, 1, 7)], (1, 1)));
+    let checks: [&[usize]; 3] = [&[0], &[1, 3], &[0, 2]];
+    let (table, block) = bench(4, 2, &checks, &[(1, 1, 7)]);
+    run.fixed("no other cause", told((4, 2), &checks, &[], &[(1, 1, 7)], (1, 1)));
     let with = |at: usize, word: u16| {
         let mut words = table.clone();
         words[at] = word;
         words
     };
     let longer = [&table[..], &[2]].concat();
-    let map = [0; 3];
+    let map = [0; 4];
     run.fixed("untold with 1", refused_by_both(&table[..4], &block, &map, 1));
     run.fixed("untold with 2", refused_by_both(&with(0, 3), &block, &map, 2));
     run.fixed("untold with 3", refused_by_both(&longer, &block, &map, 3));
-    run.fixed("untold with 4", refused_by_both(&with(11, 3), &block, &map, 4));
+    run.fixed("untold with 4", refused_by_both(&with(12, 4), &block, &map, 4));
     run.fixed("untold with 5", refused_by_both(&table, &[&block[..], &[0]].concat(), &map, 5));
-    run.fixed("untold with 5 for the map", refused(&table, &block, &map[..2], 5));
-    run.fixed("untold with 7", refused(&table, &block, &[0, 0, 2], 7));
-    run.fixed("untold with 7, some lost", refused(&table, &block, &[1, 0, 255], 7));
+    run.fixed("untold with 5 for the map", refused(&table, &block, &map[..3], 5));
+    run.fixed("untold with 7", refused(&table, &block, &[0, 0, 2, 0], 7));
+    run.fixed("untold with 7, some lost", refused(&table, &block, &[1, 0, 255, 0], 7));
+}
+
+// ------------------------------------------- fixed cases, one bad packet
+
+/// Old bytes lie at lost places. Afterwards map and block are these, and trial
+/// of each place says so.
+fn left_by(
+    table: &[u16],
+    block: &[u8],
+    lost: &[usize],
+    answer: Repaired,
+    map_after: &[u8],
+    block_after: &[u8],
+) -> Result<(), String> {
+    let mut rng = Rng::new(0, 0);
+    let (n, s) = (table[1] as usize, table[2] as usize);
+    let (block, map) = (aged(block, s, lost), map_of(n, lost));
+    let (got, after, marked) = repair(&mut rng, table, &block, &map)?;
+    same("answer", &got, &answer)?;
+    same("map", &marked, &map_after.to_vec())?;
+    equal("block", &after, block_after)?;
+    by_trial(&mut rng, table, &block, &map)
+}
+
+/// The same for blocks of zeros but for some bytes.
+fn blamed(
+    (n, s): (usize, usize),
+    checks: &[&[usize]],
+    lost: &[usize],
+    bytes: &[Byte],
+    answer: Repaired,
+    map_after: &[u8],
+    bytes_after: &[Byte],
+) -> Result<(), String> {
+    let (table, block) = bench(n, s, checks, bytes);
+    left_by(&table, &block, lost, answer, map_after, &zeros_but(n, s, bytes_after))
+}
+
+/// Table A, a codeword of this size, and the same with some bytes off.
+fn a_off(s: usize, off: &[Byte]) -> (Vec<u16>, Vec<u8>, Vec<u8>) {
+    let t = Table { s, ..model::look_over(A).unwrap() };
+    let sent = gen::codeword(&mut Rng::new(17, s as u64), &t);
+    let mut block = sent.clone();
+    off.iter().for_each(|(place, byte, value)| block[place * s + byte] ^= value);
+    (gen::words(&t), sent, block)
+}
+
+/// Bytes of one place are off: it is blamed, and all is as it was sent.
+fn one_off(s: usize, place: usize, bytes: &[usize]) -> Result<(), String> {
+    let value = |byte: usize| 1 + (byte % 255) as u8;
+    let off: Vec<Byte> = bytes.iter().map(|byte| (place, *byte, value(*byte))).collect();
+    let (table, sent, block) = a_off(s, &off);
+    let mut map = [0; 7];
+    map[place] = 3;
+    left_by(&table, &block, &[], ok(1, 0, 3), &map, &sent)
+}
+
+/// Bytes of several places are off: nobody is blamed.
+fn several_off(s: usize, off: &[Byte], (check, byte): (u32, u32)) -> Result<(), String> {
+    let (table, _, block) = a_off(s, off);
+    left_by(&table, &block, &[], contradicts(check, byte), &[0; 7], &block)
+}
+
+fn blame_cases(run: &mut Run) {
+    // Several places of P2 off.
+    let mut p2 = |name: &str, off: &[(usize, u8)], bad: Option<(usize, u8)>, answer: Repaired| {
+        let (mut block, mut map) = (P2, [0; 7]);
+        off.iter().for_each(|(place, value)| block[*place] ^= value);
+        let mut after = block;
+        if let Some((place, value)) = bad {
+            after[place] ^= value;
+            map[place] = 3;
+        }
+        run.fixed(&format!("P2, {name}"), left_by(A, &block, &[], answer, &map, &after));
+    };
+    let one = ok(1, 0, 3);
+    p2("0 and 1 off by the same: 2", &[(0, 0x10), (1, 0x10)], Some((2, 0x10)), one);
+    p2("2 and 3 off by the same: 6", &[(2, 7), (3, 7)], Some((6, 7)), one);
+    p2("0, 1 and 3 off by the same: 6", &[(0, 7), (1, 7), (3, 7)], Some((6, 7)), one);
+    p2("0, 1 and 2 off by the same: a codeword", &[(0, 7), (1, 7), (2, 7)], None, ok(0, 0, 0));
+    p2("0 and 1 off", &[(0, 0x10), (1, 0x11)], None, contradicts(0, 0));
+    p2("1 and 3 off", &[(1, 0x10), (3, 0x01)], None, contradicts(1, 0));
+    p2("0, 1 and 3 off", &[(0, 0x10), (1, 0x10), (3, 0x11)], None, contradicts(0, 0));
+    p2("5 and 6 off", &[(5, 1), (6, 2)], None, contradicts(0, 0));
+    for place in 0..7 {
+        for value in [0x01, 0x10, 0x80, 0xff] {
+            p2(&format!("{place} off by {value}"), &[(place, value)], Some((place, value)), one);
+        }
+    }
+
+    // More places beside those of table A: one in no check, two that stay lost.
+    let a = model::look_over(A).unwrap().checks;
+    let eight = model::table_words(8, 1, &a);
+    let (p8, p2) = ([0x11, 0x02, 0x04, 0x0e, 0x08, 0x0b, 0x0d], P2);
+    let then = |block: [u8; 7], more: &[u8]| [&block[..], more].concat();
+    for (name, block, lost, answer, map, after) in [
+        ("alone off", then(p2, &[7]), vec![], ok(0, 0, 0), [0, 0], then(p2, &[7])),
+        ("off too", then(p8, &[7]), vec![], ok(1, 0, 3), [3, 0], then(p2, &[7])),
+        ("lost too", then(p8, &[7]), vec![7], ok(1, 1, 3), [3, 1], then(p2, &[0])),
+        ("lost alone", then(p2, &[7]), vec![7], ok(0, 1, 0), [0, 1], then(p2, &[0])),
+    ] {
+        let map = [map[0], 0, 0, 0, 0, 0, 0, map[1]];
+        let result = left_by(&eight, &block, &lost, answer, &map, &after);
+        run.fixed(&format!("a place in no check, {name}"), result);
+    }
+    let ten = model::table_words(10, 1, &[a, vec![vec![7, 8, 9], vec![7, 8]]].concat());
+    let (block, after) = (then(p8, &[1, 2, 4]), then(p2, &[0, 0, 4]));
+    let map = [3, 0, 0, 0, 0, 0, 0, 1, 1, 0];
+    run.fixed("two stay lost", left_by(&ten, &block, &[7, 8], ok(1, 2, 3), &map, &after));
+
+    // A packet that is right is blamed: if the wrong one is lost, nothing comes
+    // back.
+    let right: [&[usize]; 3] = [&[1, 2], &[0, 1, 2, 3], &[2, 3]];
+    for (s, b) in [(1, 0), (100, 70)] {
+        let after: Vec<Byte> = (0..4).map(|place| (place, b, 5)).collect();
+        run.fixed(
+            &format!("a right packet blamed, size {s}"),
+            blamed((4, s), &right, &[2, 3], &[(1, b, 5)], ok(3, 0, 5), &[3, 0, 2, 2], &after),
+        );
+    }
+    run.fixed(
+        "the wrong packet doesn't come back",
+        told((4, 2), &[&[0, 1], &[1, 2], &[0, 1, 2, 3], &[3]], &[1, 2], &[(0, 1, 5)], (2, 1)),
+    );
+
+    // One suspect, two, all.
+    run.fixed("a pair", told((2, 3), &[&[0, 1]], &[], &[(0, 2, 5)], (0, 2)));
+    run.fixed("three alike", told((3, 3), &[&[0, 1, 2]], &[], &[(1, 2, 5)], (0, 2)));
+    let nested: [&[usize]; 2] = [&[0, 1], &[0, 1, 2]];
+    run.fixed("0 and 1 alike", told((3, 1), &nested, &[], &[(0, 0, 5)], (0, 0)));
+    run.fixed(
+        "0 and 1 alike, 2 by itself",
+        blamed((3, 1), &nested, &[], &[(2, 0, 5)], ok(1, 0, 2), &[0, 0, 3], &[]),
+    );
+    let single: [&[usize]; 2] = [&[0], &[0, 1]];
+    run.fixed(
+        "weight 1, place 0",
+        blamed((2, 1), &single, &[], &[(0, 0, 5)], ok(1, 0, 0), &[3, 0], &[]),
+    );
+    run.fixed(
+        "weight 1, place 1",
+        blamed((2, 1), &single, &[], &[(1, 0, 5)], ok(1, 0, 1), &[0, 3], &[]),
+    );
+    let mut many: Vec<&[usize]> = vec![&[]; 511];
+    many.push(&[1]);
+    run.fixed(
+        "check 511, blamed",
+        blamed((2, 1024), &many, &[], &[(1, 1023, 1)], ok(1, 0, 0), &[0, 3], &[]),
+    );
+    let same_checks: Vec<&[usize]> = vec![&[1]; 512];
+    run.fixed(
+        "512 checks alike",
+        blamed((2, 100), &same_checks, &[], &[(1, 70, 1)], ok(1, 0, 0), &[0, 3], &[]),
+    );
+
+    // Restored by another check than the lowest that failed, in which the place
+    // isn't.
+    run.fixed(
+        "by another check",
+        blamed(
+            (6, 100),
+            &[&[1, 2], &[2, 3], &[1, 2, 3, 4], &[0, 1], &[0, 5]],
+            &[1, 2, 3],
+            &[(0, 70, 9)],
+            ok(4, 0, 4),
+            &[3, 2, 2, 2, 0, 0],
+            &[],
+        ),
+    );
+
+    // A chain of 63 lost places, fed from one end or from the other.
+    let mut chain: Vec<Vec<usize>> = (0..65).map(|p| vec![p, p + 1]).collect();
+    chain.push(vec![0, 66]);
+    let chain: Vec<&[usize]> = chain.iter().map(|check| &check[..]).collect();
+    let lost: Vec<usize> = (1..64).collect();
+    for bad in [0, 64] {
+        let mut map: Vec<u8> = map_of(67, &lost).into_iter().map(|b| 2 * b).collect();
+        map[bad] = 3;
+        let result = blamed((67, 2), &chain, &lost, &[(bad, 1, 9)], ok(64, 0, 64), &map, &[]);
+        run.fixed(&format!("a chain, place {bad} wrong"), result);
+    }
+
+    // Five copies: what most of those received say, if one says otherwise.
+    let pairs: Vec<Vec<usize>> =
+        (0..5).flat_map(|p| (p + 1..5).map(move |q| vec![p, q])).collect();
+    let copies = model::table_words(5, 2, &pairs);
+    let of = |values: [u8; 5]| -> Vec<u8> { values.iter().flat_map(|v| [0x33, *v]).collect() };
+    for (values, lost, answer, map, after) in [
+        ([9, 5, 5, 5, 5], vec![], ok(1, 0, 1), [3, 0, 0, 0, 0], [5; 5]),
+        ([5, 5, 9, 5, 5], vec![], ok(1, 0, 1), [0, 0, 3, 0, 0], [5; 5]),
+        ([5, 5, 5, 5, 9], vec![1], ok(2, 0, 2), [0, 2, 0, 0, 3], [5; 5]),
+        ([9, 5, 5, 0, 0], vec![3, 4], ok(3, 0, 3), [3, 0, 0, 2, 2], [5; 5]),
+        ([9, 9, 5, 0, 0], vec![3, 4], ok(3, 0, 3), [0, 0, 3, 2, 2], [9; 5]),
+        ([0, 0, 5, 9, 5], vec![0, 1], ok(3, 0, 3), [2, 2, 0, 3, 0], [5; 5]),
+        ([9, 9, 5, 5, 5], vec![], contradicts(1, 1), [0; 5], [9, 9, 5, 5, 5]),
+        ([9, 8, 5, 5, 5], vec![], contradicts(0, 1), [0; 5], [9, 8, 5, 5, 5]),
+        ([9, 5, 5, 5, 8], vec![], contradicts(0, 1), [0; 5], [9, 5, 5, 5, 8]),
+        ([5, 5, 5, 9, 9], vec![], contradicts(2, 1), [0; 5], [5, 5, 5, 9, 9]),
+    ] {
+        let result = left_by(&copies, &of(values), &lost, answer, &map, &of(after));
+        run.fixed(&format!("five copies, {values:?}, lost {lost:?}"), result);
+    }
+    // Two received: each could be the wrong one.
+    for (lost, check) in [([2, 3, 4], 0), ([0, 1, 3], 3), ([0, 2, 4], 2)] {
+        let block = of([9, 5, 7, 4, 3]);
+        let (map, after) = (map_of(5, &lost), zeroed(&block, 2, &lost));
+        let result = left_by(&copies, &block, &lost, contradicts(check, 1), &map, &after);
+        run.fixed(&format!("five copies, lost {lost:?}"), result);
+    }
+}
+
+/// Table A with packets of every size.
+fn blame_size_cases(run: &mut Run) {
+    // Bare buffers: a few.
+    let step = if harness::bare() { 93 } else { 1 };
+    for s in (1..=1024).step_by(step) {
+        let some = Rng::new(17, s as u64).some_below(s, 3);
+        let all: Vec<usize> = (0..s).collect();
+        let bytes = match s % 5 {
+            0 => &[0],
+            1 => &[s - 1],
+            2 => &[s / 2],
+            3 => &some[..],
+            _ => &all[..],
+        };
+        run.fixed(&format!("size {s}, one off"), one_off(s, s % 7, bytes));
+    }
+    for s in [1, 2, 8, 63, 64, 65, 100, 128, 129, 1000, 1023, 1024] {
+        for place in 0..7 {
+            for mut bytes in [vec![0], vec![s - 1], vec![s / 2], vec![0, s / 2, s - 1]] {
+                bytes.dedup();
+                let name = format!("size {s}, place {place} off at {bytes:?}");
+                run.fixed(&name, one_off(s, place, &bytes));
+            }
+        }
+        for (a, b) in [(0, s - 1), (s - 1, 0), (s / 2, s - 1), (s / 2, 0)] {
+            if a == b {
+                continue;
+            }
+            let low = a.min(b) as u32;
+            let mut several = |name: &str, off: &[Byte], told: (u32, u32)| {
+                let name = format!("size {s}, bytes {a} and {b}, {name}");
+                run.fixed(&name, several_off(s, off, told));
+            };
+            // By byte a alone place 0 would be blamed; by byte b another, or
+            // nobody.
+            several("0 and 1", &[(0, a, 5), (1, b, 5)], (0, a as u32));
+            several("0 and 6", &[(0, a, 5), (6, b, 5)], (0, low));
+            several("0, and 0 and 1", &[(0, a, 5), (0, b, 5), (1, b, 5)], (0, low));
+            several("0, and 1 and 3", &[(0, a, 5), (1, b, 5), (3, b, 6)], (0, a as u32));
+            // 0 and 1 off by the same at both: 2 blamed. At one of the bytes
+            // they are off by something else: nobody.
+            let (table, _, block) = a_off(s, &[(0, a, 5), (1, a, 5), (0, b, 6), (1, b, 6)]);
+            let mut after = block.clone();
+            after[2 * s + a] ^= 5;
+            after[2 * s + b] ^= 6;
+            let map = [0, 0, 3, 0, 0, 0, 0];
+            let result = left_by(&table, &block, &[], ok(1, 0, 3), &map, &after);
+            run.fixed(&format!("size {s}, bytes {a} and {b}, 0 and 1 by the same"), result);
+            let other = [(0, a, 5), (1, a, 5), (0, b, 6), (1, b, 7)];
+            let result = several_off(s, &other, (0, low));
+            run.fixed(&format!("size {s}, bytes {a} and {b}, 0 and 1 by another"), result);
+        }
+    }
+}
+
+/// Tables at the limits: one packet wrong among those received, blamed, and all
+/// else as it was sent; then two.
+fn blame_limit_cases(run: &mut Run) {
+    for (name, s, share) in [
+        ("regular", 1024, 20),
+        ("staircase", 1024, 0),
+        ("regular", 64, 0),
+        ("staircase", 3, 20),
+        ("heavy", 3, 0),
+    ] {
+        if harness::bare() && (s == 1024 || share > 0) {
+            continue;
+        }
+        let mut rng = Rng::new(17, s as u64);
+        let t = Table { n: 1024, s, checks: limit_checks(&mut rng, name) };
+        let words = gen::words(&t);
+        let sent = gen::codeword(&mut rng, &t);
+        let map = map_of(t.n, &rng.some_below(t.n, t.n * share / 100));
+        let received: Vec<usize> = (0..t.n).filter(|p| map[*p] == 0).collect();
+        let (first, last) = (received[0], received[received.len() - 1]);
+        let middle = received[received.len() / 2];
+        let off = |places: &[usize]| {
+            let mut block = sent.clone();
+            places.iter().for_each(|p| block[(p + 1) * s - 1] ^= 1 + (p % 2) as u8);
+            block
+        };
+        let bad = if s == 1024 { vec![last] } else { vec![first, middle, last] };
+        for bad in bad {
+            let result = repair(&mut rng, &words, &off(&[bad]), &map);
+            let result = result.and_then(|(_, after, marked)| {
+                same("blamed", &marked.iter().position(|b| *b == 3), &Some(bad))?;
+                equal("block", &after, &zeroed(&sent, s, &places_lost(&marked)))
+            });
+            run.fixed(&format!("{name}, size {s}, place {bad} wrong"), result);
+        }
+        if s < 1024 {
+            let result = repair(&mut rng, &words, &off(&[first, last]), &map)
+                .and_then(|(answer, _, _)| same("refusal", &answer.refusal, &8));
+            run.fixed(&format!("{name}, size {s}, two wrong"), result);
+        }
+    }
+}
+
+/// A bad packet that could be found, but another cause comes first.
+fn blame_refusal_cases(run: &mut Run) {
+    let block = [0x11, 0x02, 0x04, 0x0e, 0x08, 0x0b, 0x0d];
+    let with = |at: usize, word: u16| {
+        let mut words = A.to_vec();
+        words[at] = word;
+        words
+    };
+    let longer = |bytes: &[u8]| [bytes, &[0]].concat();
+    let map = [0; 7];
+    run.fixed("P8 with 1", refused(&A[..4], &block, &map, 1));
+    run.fixed("P8 with 2", refused(&with(0, 3), &block, &map, 2));
+    run.fixed("P8 with 3", refused(&A[..19], &block, &map, 3));
+    run.fixed("P8 with 4", refused(&with(19, 7), &block, &map, 4));
+    run.fixed("P8 with 5, block longer", refused(A, &longer(&block), &map, 5));
+    run.fixed("P8 with 5, block shorter", refused(A, &block[..6], &map, 5));
+    run.fixed("P8 with 5, map longer", refused(A, &block, &longer(&map), 5));
+    run.fixed("P8 with 5, map shorter", refused(A, &block, &map[..6], 5));
+    run.fixed("P8 with 5 and 7", refused(A, &block[..6], &[3; 7], 5));
+    for (place, byte) in (0..7).zip([2, 3, 4, 3, 128, 255, 3]) {
+        let mut map = map;
+        map[place] = byte;
+        run.fixed(&format!("P8 with 7 for {byte}"), refused(A, &block, &map, 7));
+    }
+    // After P8 has been answered its map is refused; with the 3 set back to 0
+    // nothing is left to do.
+    let again = repaired(A, &P2, &[], ok(0, 0, 0), &P2);
+    run.fixed("P8 again", refused(A, &P2, &[3, 0, 0, 0, 0, 0, 0], 7).and(again));
 }
 
 // ------------------------------------------------- fixed cases, full repair
@@ -1159,6 +1730,15 @@ fn size_cases(run: &mut Run) {
     }
 }
 
+/// Checks of 1,024 places.
+fn limit_checks(rng: &mut Rng, name: &str) -> Vec<Vec<usize>> {
+    match name {
+        "regular" => gen::regular(rng, 1024, 512, 3),
+        "staircase" => gen::staircase(rng, 1024, 512, 3),
+        _ => (0..96).map(|_| rng.some_below(1024, 64)).collect(),
+    }
+}
+
 /// A table at the limits, with packets of one codeword.
 fn limit_cases(run: &mut Run) {
     for (name, s, share) in [("regular", 1024, 45), ("staircase", 64, 47), ("heavy", 3, 40)] {
@@ -1166,12 +1746,7 @@ fn limit_cases(run: &mut Run) {
             continue;
         }
         let mut rng = Rng::new(14, s as u64);
-        let checks = match name {
-            "regular" => gen::regular(&mut rng, 1024, 512, 3),
-            "staircase" => gen::staircase(&mut rng, 1024, 512, 3),
-            _ => (0..96).map(|_| rng.some_below(1024, 64)).collect(),
-        };
-        let t = Table { n: 1024, s, checks };
+        let t = Table { n: 1024, s, checks: limit_checks(&mut rng, name) };
         let block = gen::codeword(&mut rng, &t);
         let map = map_of(t.n, &rng.some_below(t.n, t.n * share / 100));
         let mut wrong = block.clone();
@@ -1183,7 +1758,8 @@ fn limit_cases(run: &mut Run) {
     }
 }
 
-/// Every loss pattern of a table, against all codewords.
+/// Every loss pattern of a table: full repair against all codewords, repair
+/// against sets and by trial.
 fn every_pattern(table: &[u16], block: &[u8]) -> Result<(), String> {
     let mut rng = Rng::new(14, 0);
     let t = model::look_over(table).unwrap();
@@ -1195,6 +1771,8 @@ fn every_pattern(table: &[u16], block: &[u8]) -> Result<(), String> {
         let mut block = block.to_vec();
         age(&mut rng, &mut block, t.s, &map);
         as_codewords_say(&mut rng, &t, &codewords, &block, &map)
+            .and_then(|_| as_sets_say(&mut rng, &t, &block, &map))
+            .and_then(|_| by_trial(&mut rng, table, &block, &map))
             .map_err(|what| format!("lost {:?}: {what}", places_lost(&map)))?;
     }
     Ok(())
@@ -1209,6 +1787,11 @@ fn pattern_cases(run: &mut Run) {
     tables.extend(VECTORS.map(|(table, block)| (table.to_vec(), block.to_vec())));
     let two_b = gen::side_by_side(&vec![gen::table_b(); 2]);
     tables.push((model::table_words(two_b.0, 1, &two_b.1), vec![0, 1, 1, 1, 0, 0, 0, 0]));
+    // Ways to say five times the same.
+    let copies = [[0, 1], [1, 2], [2, 3], [3, 4], [0, 4], [0, 2]].map(|pair| pair.to_vec());
+    tables.push((model::table_words(5, 1, &copies), vec![0x5a; 5]));
+    let right = [vec![1, 2], vec![0, 1, 2, 3], vec![2, 3]];
+    tables.push((model::table_words(4, 1, &right), vec![0; 4]));
     for (i, (table, block)) in tables.iter().enumerate() {
         run.fixed(&format!("every pattern of table {i}"), every_pattern(table, block));
         for p in 0..block.len() {
@@ -1277,11 +1860,15 @@ fn full_refusal_cases(run: &mut Run) {
 }
 
 fn main() {
-    let mut run = Run::from_arguments(7300);
+    let mut run = Run::from_arguments(8300);
     fixed_cases(&mut run);
     depth_cases(&mut run);
     told_cases(&mut run);
     untold_cases(&mut run);
+    blame_cases(&mut run);
+    blame_size_cases(&mut run);
+    blame_limit_cases(&mut run);
+    blame_refusal_cases(&mut run);
     full_cases(&mut run);
     contradiction_cases(&mut run);
     size_cases(&mut run);

@@ -44,6 +44,18 @@ lose() {
     awk -v first=$2 -v count=$3 'BEGIN { for (p = 0; p < 64; p++) print (p >= first && p < first + count) }' | bytes >map
 }
 
+# spoil BLOCK PLACE BYTE: this byte of the place's packet becomes ff
+spoil() {
+    printf '\377' | dd of="$1" bs=1 seek=$(($2 * size + $3)) conv=notrunc 2>/dev/null
+}
+
+# blames PLACE COUNTS BLOCK: repair must blame the place, print the counts, and bring the block back as it was sent
+blames() {
+    said "repair_file $3" "packets contradicted: place $1 blamed, and restored from the others
+$2" "$("$bin/repair_file" table "$3" map)"
+    cmp "$3" block.aa
+}
+
 # refuses WORDS PROGRAM ARGUMENT..: the program must say the words on standard error, and neither print nor write the file none
 refuses() {
     words=$1
@@ -154,18 +166,36 @@ said 'full_repair_file' 'restored 20 lost 0' "$("$bin/full_repair_file" table fu
 cmp full block.aa
 echo 'stalled: packets 10 to 29 lost, 3 restored by repair, 20 by full repair'
 
-# A wrong byte, 37 of the last packet, which lies in the last check alone: verification and refusal 8 tell both. No place is marked
-# lost, so that the block keeps what it holds.
-printf '\377' | dd of=block.aa bs=1 seek=$((63 * size + 37)) conv=notrunc 2>/dev/null
+# A wrong byte, 37 of the last packet, which lies in the last check alone, and nothing lost. Verification tells check and byte; full repair, which
+# blames nobody, refuses; repair blames the place and restores its packet. The map with its 3 isn't taken again.
 cp block.aa damaged
+spoil damaged 63 37
+cp damaged as_it_came
 head -c 64 /dev/zero >map
 said 'verify_file, damaged' 'check 23 fails at byte 37' "$("$bin/verify_file" table damaged)"
-said 'repair_file, damaged' '' "$("$bin/repair_file" table damaged map 2>errors)"
-said 'repair_file, damaged' 'refused 8: check 23 fails at byte 37' "$(cat errors)"
-cmp damaged block.aa
-echo "damaged: $(cat errors)"
-said 'full_repair_file, damaged' '' "$("$bin/full_repair_file" table damaged map 2>errors)"
-said 'full_repair_file, damaged' 'refused 8: no codeword agrees with the received packets' "$(cat errors)"
-cmp damaged block.aa
+refuses 'refused 8: no codeword agrees with the received packets' full_repair_file table damaged map
+cmp damaged as_it_came
+blames 63 'restored 1 lost 0 additions 6' damaged
+refuses 'refused 7' repair_file table damaged map
+echo 'damaged: check 23 fails at byte 37; place 63 blamed and restored'
+
+# Ten packets lost and one wrong: eleven come back. The map has 3 at the one and 2 at the ten.
+cp block.aa damaged
+lose damaged 17 10
+spoil damaged 0 5
+blames 0 'restored 11 lost 0 additions 65' damaged
+awk 'BEGIN { for (p = 0; p < 64; p++) print (p == 0 ? 3 : p >= 17 && p < 27 ? 2 : 0) }' | bytes | cmp - map
+echo 'damaged: packets 17 to 26 lost and a wrong byte in packet 0; place 0 blamed, all restored'
+
+# Two wrong packets: 8 stays, with the lowest check that fails. No place is marked lost, so that the block keeps what it holds.
+cp block.aa damaged
+spoil damaged 63 37
+spoil damaged 0 5
+cp damaged as_it_came
+head -c 64 /dev/zero >map
+refuses 'refused 8: check 0 fails at byte 5' repair_file table damaged map
+cmp damaged as_it_came
+head -c 64 /dev/zero | cmp - map
+echo "two wrong packets: $(cat errors)"
 
 echo "received: the same $(wc -c <received) bytes"

@@ -13,7 +13,7 @@ use Rattle.decided.specs.Packed.{listOf-length}
 use Rattle.decided.specs.PeeledLaws.{given, given-block}
 use Rattle.decided.specs.Words.{Word}
 use Rattle.erasure.specs.OutcomeLaws.{part-joined, tally-lost, none-lost}
-use Rattle.erasure.specs.Restoring.{isLost, lostPlaces, tally}
+use Rattle.erasure.specs.Restoring.{isLost, lostPlaces, tally, AgreeThere}
 use Rattle.lists.specs.ListLaws.{all-append, all-take, all-drop, all-map}
 use Rattle.lists.specs.Lists.{All, All.nil, All.cons}
 use Rattle.table.specs.Codewords.{IsCodeword}
@@ -22,10 +22,6 @@ use Rattle.table.specs.PacketLaws.{packets-length, packets-sized, packets-of, j
 use Rattle.table.specs.Packets.{Packets, packets, joined, packetSum}
 use Rattle.table.specs.Table.{places, size, checks, refusal}
 use Rattle.table.specs.TableLaws.{accepted}
-
--- the same packet in b and w wherever the map doesn't say lost
-abbrev pub AgreeThere : List ℕ → List ℕ → List ℕ → List ℕ → Type 0
-AgreeThere t b map w = (p : ℕ) → p < places t → isLost map p ≡ false → partAt (size t) p b ≡ partAt (size t) p w
 
 -- ---- bytes of a block and of its packets
 packets-all : {P : ℕ → Type 0} (s n : ℕ) {b : List ℕ} → All P b → All (λ x. All P x) (packets s n b)

@@ -1,12 +1,11 @@
 -- The sizes of buffers.
-use mathlib.Core.Path.{_≡_, sym}
+use mathlib.Core.Path.{_≡_}
 use mathlib.Core.Bool.{false}
 use mathlib.Core.List.{List}
 use Prim.Native.Nat.{ℕ, _*_, _≤_}
 use native.Mathlib.Nat.{mul-le-mul, mul-le-mul-right}
 use native.Mathlib.Omega.{arith}
-use lib.ListN.{length, take, replicate, length-replicate}
-use lib.Seq.{length-take-le}
+use lib.ListN.{length}
 use Rattle.table.specs.Table.{mostBytes, outside}
 use Rattle.table.specs.TableLaws.{inside-high}
 use Rattle.plan.specs.Layout.{leastNumbers, planRefusal, planPlaces, planGap, infoCount}
@@ -28,7 +27,3 @@ sizes w s h k =
       information = mul-le-mul-right s (omega (arith, c .info));
       scratch = mul-le-mul-right s (omega (arith, c .aside-kept, c .kept-places));
     }
-
--- a part of a buffer whose bytes are all the same
-pub part-of-same : (n k v : ℕ) → n ≤ k → n ≡ length (take n (replicate k v))
-part-of-same n k v h = sym (length-take-le n (replicate k v) (rw length-replicate h))

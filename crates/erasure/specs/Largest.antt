@@ -1,5 +1,5 @@
 -- The largest stopping set among the lost places: there is one and only one, and it is what stays lost.
-use mathlib.Core.Path.{_≡_, refl, sym, _∙_}
+use mathlib.Core.Path.{_≡_, refl, sym, ap, _∙_}
 use mathlib.Core.Bool.{Bool, true, true≢false, false≢true}
 use mathlib.Core.List.{List, [], _∷_}
 use mathlib.Core.Logic.{_≢_}
@@ -10,6 +10,7 @@ use lib.Dec.{eqb}
 use lib.ListN.{length, set}
 use Rattle.erasure.specs.Restoring.{State, lostPlaces, ready, restoring, repaired, outcome, isLost, Stopping, Largest}
 use Rattle.erasure.specs.Stopping.{never, stops, lostIn}
+use Rattle.lists.specs.ListLaws.{all-map, all-of, filter-same}
 use Rattle.lists.specs.Lists.{All.nil, All.cons}
 use Rattle.lists.specs.Tests.{eqb-false, byOpt, byBool}
 use Rattle.table.specs.Packets.{packets}
@@ -73,6 +74,16 @@ stays-lost t b map l = left (places t) t (packets (size t) (places t) b) map l
 -- there is one, for every table and every map
 pub largest-exists : (t map : List ℕ) → (L : ℕ → Bool) × Largest t map L
 largest-exists t map = (isLost (repaired (length map) (size t) (checks t) [] map .map), left (length map) t [] map refl)
+
+-- by another test for the same places
+pub largest-same : (t map : List ℕ) (L K : ℕ → Bool) → ((p : ℕ) → L p ≡ K p) → Largest t map L → Largest t map K
+largest-same t map L K e l = record {
+  among = record {
+    stopping = all-map (λ c ne z. ne (ap length (filter-same L K (all-of e c)) ∙ z)) (l .among .stopping);
+    lost = λ p h. l .among .lost p (e p ∙ h);
+  };
+  holds = λ S a p h. sym (e p) ∙ l .holds S a p h;
+}
 
 -- and only one
 pub largest-only : (t map : List ℕ) (L K : ℕ → Bool) → Largest t map L → Largest t map K → (p : ℕ) → L p ≡ K p

@@ -1,7 +1,10 @@
+pub mod Alike
 pub mod ContradictionLaws
+pub mod EachByte
 pub mod Largest
 pub mod LostLaws
 pub mod OldBytes
+pub mod OldRepair
 pub mod OutcomeLaws
 pub mod Restoring
 pub mod RestoringLaws

@@ -16,6 +16,13 @@ use Rattle.table.specs.Checks.{Places}
 use Rattle.erasure.specs.Restoring.{lostPlaces, isLost}
 use Rattle.erasure.specs.RestoringLaws.{lost-inside}
 
+-- ---- by the map's byte
+pub not-lost : (map : List ℕ) (p : ℕ) → getD map p 0 ≡ 0 → isLost map p ≡ false
+not-lost map p e = ap (λ x. eqb x 1) e
+
+pub is-lost : (map : List ℕ) (p : ℕ) → getD map p 0 ≡ 1 → isLost map p ≡ true
+is-lost map p e = ap (λ x. eqb x 1) e
+
 pub drop-next : (l : List ℕ) (i : ℕ) → i < length l → drop i l ≡ getD l i 0 ∷ drop (i + 1) l
 drop-next l i h = rw (add-one, drop-cons l i 0)
 

@@ -6,11 +6,10 @@ use Prim.Native.Nat.{ℕ, suc, _<_}
 use native.Mathlib.Omega.{arith}
 use lib.Dec.{eqb}
 use lib.ListN.{length, getD, replicate}
-use Rattle.table.specs.PacketCall.{partAt}
 use Rattle.table.specs.PacketLaws.{packets-length, packet-at}
 use Rattle.table.specs.Packets.{packets}
 use Rattle.table.specs.Table.{places, size, checks}
-use Rattle.erasure.specs.Restoring.{isLost, restoring, zeroLost, outcome}
+use Rattle.erasure.specs.Restoring.{isLost, restoring, zeroLost, outcome, AgreeThere}
 
 -- a packet that is lost, or the same in both
 packet-alike : (lost : Bool) (z x y : List ℕ) → (lost ≡ false → x ≡ y) → cond lost z x ≡ cond lost z y
@@ -31,7 +30,7 @@ zero-alike s (m ∷ ms) (x ∷ b) (y ∷ c) l h = ap₂ _∷_
     (packet-alike (eqb m 1) (replicate s 0) x y (λ e. h 0 (omega arith) e))
     (zero-alike s ms b c (omega arith) (λ p k e. h (suc p) (omega arith) e))
 
-module _ (t b c map : List ℕ) (same : (p : ℕ) → p < places t → isLost map p ≡ false → partAt (size t) p b ≡ partAt (size t) p c) where
+module _ (t b c map : List ℕ) (same : AgreeThere t b map c) where
   -- before the first turn
   pub old-bytes-cleared : zeroLost (size t) map (packets (size t) (places t) b) ≡ zeroLost (size t) map (packets (size t) (places t) c)
   old-bytes-cleared = zero-alike (size t) map (packets (size t) (places t) b) (packets (size t) (places t) c)

@@ -2,12 +2,12 @@
 use mathlib.Core.Path.{_≡_, refl, sym, ap, _∙_}
 use mathlib.Core.Bool.{cond}
 use mathlib.Core.List.{List, [], _∷_}
-use Prim.Native.Nat.{ℕ, zero, suc, _*_, _<_, _≤_}
+use Prim.Native.Nat.{ℕ, zero, suc, _-_, _*_, _<_, _≤_}
 use native.Mathlib.Omega.{arith}
 use lib.Dec.{eqb}
 use lib.ListN.{length, getD, replicate, length-replicate}
 use Rattle.lists.specs.Tests.{eqb-comm, byOpt, byBool}
-use Rattle.lists.specs.Lists.{filter, All.nil, All.cons}
+use Rattle.lists.specs.Lists.{filter, All, All.nil, All.cons}
 use Rattle.table.specs.PacketCall.{partAt}
 use Rattle.table.specs.PacketLaws.{packets-length, packets-sized, packets-of, packet-at}
 use Rattle.table.specs.Packets.{Packets, packets, joined}
@@ -16,7 +16,7 @@ use Rattle.table.specs.TableLaws.{accepted}
 use Rattle.erasure.specs.Restoring.{State, lostPlaces, ready, restoring, zeroLost, tally, outcome}
 use Rattle.erasure.specs.RestoringLaws.{ready-lost, restoring-length, restoring-sized}
 use Rattle.erasure.specs.Stopping.{lostIn, no-lost, restore-one}
-use Rattle.erasure.specs.Tally.{restoredIn}
+use Rattle.erasure.specs.Tally.{restoredIn, restored-and-lost}
 use Rattle.erasure.specs.Values.{zeroLost-length}
 
 -- counted either way
@@ -66,6 +66,11 @@ restoring-fewer (suc k) s cs m = byOpt (ready (m .map) cs)
 
 pub tally-fewer : (t b map : List ℕ) → tally 1 (outcome t b map .map) ≤ tally 1 map
 tally-fewer t b map = rw (tally-lost (outcome t b map .map), tally-lost map) (restoring-fewer (places t) (size t) (checks t) _)
+
+-- of a map of bytes 0 and 1, lost before less lost after are those marked 2
+pub tally-two : (t b map : List ℕ) → All (λ x. x ≤ 1) map → tally 1 map - tally 1 (outcome t b map .map) ≡ tally 2 (outcome t b map .map)
+tally-two t b map a = rw (tally-lost map, tally-lost (outcome t b map .map), tally-restored (outcome t b map .map))
+    (omega (arith, restored-and-lost (places t) (size t) (checks t) (packets (size t) (places t) b) map a))
 
 -- no lost place among none
 pub none-lost : (lost c : List ℕ) → lostIn lost ≡ 0 → length (lostPlaces lost c) ≡ 0

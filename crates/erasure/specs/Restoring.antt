@@ -3,13 +3,14 @@
 use mathlib.Core.Bool.{Bool, true, false, cond}
 use mathlib.Core.List.{List, [], _∷_}
 use mathlib.Core.Option.{Option, none, some}
-use Prim.Native.Nat.{ℕ, zero, suc, _+_, _-_}
+use Prim.Native.Nat.{ℕ, zero, suc, _+_, _-_, _<_}
 use lib.Dec.{eqb}
 use lib.ListN.{length, getD, set, replicate}
 use mathlib.Core.Logic.{_≢_}
 use mathlib.Core.Path.{_≡_}
 use Rattle.faults.specs.Faults.{Fault, failing, noFault}
 use Rattle.lists.specs.Lists.{filter, minus, All}
+use Rattle.table.specs.PacketCall.{partAt}
 use Rattle.table.specs.Packets.{packets, joined, packetSum}
 use Rattle.table.specs.Table.{places, size, checks}
 
@@ -80,6 +81,10 @@ contradicting t b map = contradiction (size t) (checks t) (outcome t b map)
 -- nothing contradicts
 abbrev pub agreeing : List ℕ → List ℕ → List ℕ → Bool
 agreeing t b map = noFault (contradicting t b map)
+
+-- the same packet in b and w at every place that isn't lost
+abbrev pub AgreeThere : List ℕ → List ℕ → List ℕ → List ℕ → Type 0
+AgreeThere t b map w = (p : ℕ) → p < places t → isLost map p ≡ false → partAt (size t) p b ≡ partAt (size t) p w
 
 -- what is told: restored is lost before less lost after; where received packets contradict, counts 0, and the check that fails with its byte
 pub record Counts : Type 0 where

@@ -33,12 +33,16 @@ restoring-tally (suc k) s cs m = byOpt (ready (m .map) cs)
     rw (r, restoring) (restoring-tally k s cs _ ∙ (omega arith)))
     (λ r. rw (r, restoring))
 
+pub repaired-tally : (n s : ℕ) (cs b : List (List ℕ)) (lost : List ℕ)
+    → restoredIn (repaired n s cs b lost .map) + lostIn (repaired n s cs b lost .map) ≡ restoredIn lost + lostIn lost
+repaired-tally n s cs b lost = restoring-tally n s cs _
+
 -- at the start there is none
-none-restored : {l : List ℕ} → All (λ x. x ≤ 1) l → restoredIn l ≡ 0
+pub none-restored : {l : List ℕ} → All (λ x. x ≤ 1) l → restoredIn l ≡ 0
 none-restored nil = refl
 none-restored (cons {x = x} h a) = byBool (eqb x 2) (λ e. let q = eqb-true x 2 e in absurd (omega arith)) (λ e. rw (e, restoredIn) (none-restored a))
 
 -- for a map of bytes 0 and 1
 pub restored-and-lost : (n s : ℕ) (cs b : List (List ℕ)) (lost : List ℕ) → All (λ x. x ≤ 1) lost
     → restoredIn (repaired n s cs b lost .map) + lostIn (repaired n s cs b lost .map) ≡ lostIn lost
-restored-and-lost n s cs b lost h = restoring-tally n s cs _ ∙ let z = none-restored h in omega arith
+restored-and-lost n s cs b lost h = repaired-tally n s cs b lost ∙ let z = none-restored h in omega arith

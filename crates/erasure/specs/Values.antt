@@ -3,7 +3,7 @@ use mathlib.Core.Path.{_≡_, refl, sym, ap, ap₂, _∙_, subst}
 use mathlib.Core.Bool.{Bool, true, false, cond, not, true≢false, false≢true}
 use mathlib.Core.List.{List, [], _∷_, map}
 use mathlib.Core.Logic.{_≢_}
-use Prim.Native.Nat.{ℕ, zero, suc, _-_, _<_}
+use Prim.Native.Nat.{ℕ, zero, suc, _-_, _<_, _≤_}
 use native.Mathlib.Nat.{suc-inj}
 use native.Mathlib.Omega.{arith}
 use lib.Dec.{eqb}
@@ -13,15 +13,15 @@ use lib.Seq.{ext-getD, getD-set-same, getD-set-other}
 use Rattle.gf2.specs.Gf2.{XorGroup, sumOver, add}
 use Rattle.lists.specs.Lists.{bxor, has, par, filter, minus, All, All.nil, All.cons}
 use Rattle.gf2.specs.Group.{eq-zero}
-use Rattle.lists.specs.ListLaws.{all-filter, all-zip, filter-in, all-in, all-getD, getD-zeros, par-has, all-map}
+use Rattle.lists.specs.ListLaws.{all-filter, all-zip, filter-in, filter-none, all-in, all-getD, all-of, getD-zeros, par-has, all-map}
 use Rattle.table.specs.PacketLaws.{view, sum-view}
 use Rattle.lists.specs.Tests.{eqb-true, eqb-false, eqb-self, byOpt, byBool}
 use Rattle.table.specs.Packets.{packetSum, Packets}
 use Rattle.erasure.specs.ContradictionLaws.{Sums, of-sums}
 use Rattle.erasure.specs.Largest.{restoring-within}
-use Rattle.erasure.specs.Restoring.{State, lostPlaces, ready, restoring, repaired, zeroLost, consistent, isLost}
+use Rattle.erasure.specs.Restoring.{State, lostPlaces, ready, restoring, repaired, zeroLost, consistent, isLost, Stopping}
 use Rattle.gf2.specs.Places.{sum-apart}
-use Rattle.erasure.specs.Stopping.{ready-all, first-lost}
+use Rattle.erasure.specs.Stopping.{filter-mono, ready-all, first-lost}
 
 -- ---- a check with no lost place, or with one
 pub none-passes : (f : ℕ → Bool) (c : List ℕ) → length (filter f c) ≡ 0 → All (λ p. f p ≡ false) c
@@ -118,13 +118,14 @@ module _ (n s : ℕ) (cs b : List (List ℕ)) (lost : List ℕ) where
   pub left-zero : (p : ℕ) → p < length b → isLost (repaired n s cs b lost .map) p ≡ true → getD (repaired n s cs b lost .block) p [] ≡ replicate s 0
   left-zero p l h = restoring-left n s cs _ p h ∙ zeroLost-zero s lost b p l (restoring-within n s cs _ p h)
 
--- ---- with a codeword behind it
-module _ (n s : ℕ) (cs : List (List ℕ)) (low : All (λ c. All (λ p. p < n) c) cs)
-    (word : List (List ℕ)) (long : length word ≡ n) (sized : Packets s word) (zeros : All (λ c. packetSum s word c ≡ replicate s 0) cs) where
-  -- n packets, and the word's wherever the map does not say lost
+-- ---- with a word behind it whose sum is zero over every check without a place of S, a stopping set among the lost places
+module _ (n s : ℕ) (cs : List (List ℕ)) (low : All (λ c. All (λ p. p < n) c) cs) (S : ℕ → Bool) (stopping : Stopping cs S)
+    (word : List (List ℕ)) (long : length word ≡ n) (sized : Packets s word) (zeros : All (λ c. length (filter S c) ≡ 0 → packetSum s word c ≡ replicate s 0) cs) where
+  -- n packets, the word's wherever the map does not say lost, and S is lost
   record Agrees (m : State) : Type 0 where
     size : length (m .block) ≡ n
     same : (p : ℕ) → p < n → isLost (m .map) p ≡ false → getD (m .block) p [] ≡ getD word p []
+    within : (p : ℕ) → S p ≡ true → isLost (m .map) p ≡ true
 
   -- a place of a check is the sum of the others
   word-at : (c : List ℕ) (q : ℕ) → All (λ p. p < n) c → packetSum s word c ≡ replicate s 0 → par q c ≡ true → q < n → packetSum s word (minus c (q ∷ [])) ≡ getD word q []
@@ -135,39 +136,69 @@ module _ (n s : ℕ) (cs : List (List ℕ)) (low : All (λ c. All (λ p. p < n) 
       (ap (λ t. bitXor t (sumOver XorGroup (view word j) (minus c (q ∷ [])))) (sym (ap (λ t. cond t (view word j q) 0) h))
       ∙ sym (sum-apart XorGroup (view word j) q c) ∙ sym (sum-view s sized lw .1 j) ∙ ap (λ v. getD v j 0) z ∙ getD-zeros s j)))
 
-  -- each restored packet is the codeword's
+  -- a check with at most one lost place has none of S
+  apart-from : (m : State) → Agrees m → (c : List ℕ) → length (filter S c) ≢ 1 → length (lostPlaces (m .map) c) ≤ 1 → length (filter S c) ≡ 0
+  apart-from m g c ne l = let k = filter-mono S (isLost (m .map)) (g .within) c in omega arith
+
+  -- each restored packet is the word's
   restoring-agrees : (k : ℕ) (m : State) → Agrees m → Agrees (restoring k s cs m)
   restoring-agrees zero m g = g
   restoring-agrees (suc k) m g = byOpt (ready (m .map) cs)
-      (λ c r. let w = ready-all (m .map) (all-zip low zeros) c r in
+      (λ c r. let w = ready-all (m .map) (all-zip low (all-zip zeros stopping)) c r in
       let q = getD (lostPlaces (m .map) c) 0 0 in
       let o = one-passes (isLost (m .map)) c (w .1) in
+      let free : length (filter S c) ≡ 0 = apart-from m g c (w .0 .1 .1) (let e = w .1 in omega arith) in
       let l : q < n = all-in (λ p. p < n) q (par-has q c (o .0)) (w .0 .0) in
+      let out : S q ≡ false = all-in (λ p. S p ≡ false) q (par-has q c (o .0)) (none-passes S c free) in
       let others : All (λ p. getD (m .block) p [] ≡ getD word p []) (minus c (q ∷ [])) =
       all-map (λ p t. g .same p (t .0 .0) (t .0 .1 (not-self p q (t .1)))) (filter-in (λ p. not (has p (q ∷ []))) (all-zip (w .0 .0) (o .1))) in
       rw (r, restoring) (restoring-agrees k _ (record {
         size = length-set (m .block) q _ ∙ g .size;
         same = λ p h u. byBool (eqb p q)
             (λ e. subst (λ x. getD (set (m .block) q (packetSum s (m .block) (minus c (q ∷ [])))) x [] ≡ getD word x []) (sym (eqb-true p q e))
-            (getD-set-same (m .block) q _ [] (omega (arith, g .size)) ∙ sum-agree s (m .block) word others ∙ word-at c q (w .0 .0) (w .0 .1) (o .0) l))
+            (getD-set-same (m .block) q _ [] (omega (arith, g .size)) ∙ sum-agree s (m .block) word others ∙ word-at c q (w .0 .0) (w .0 .1 .0 free) (o .0) l))
             (λ e. getD-set-other (m .block) q p _ [] (eqb-false p q e) ∙ g .same p h (ap (λ v. eqb v 1) (sym (getD-set-other (m .map) q p 2 0 (eqb-false p q e))) ∙ u));
+        within = λ p e. ap (λ v. eqb v 1) (getD-set-other (m .map) q p 2 0 (λ z. true≢false (sym e ∙ ap S z ∙ out))) ∙ g .within p e;
       })))
       (λ r. rw (r, restoring) g)
 
-  module _ (b : List (List ℕ)) (lost : List ℕ) (size : length b ≡ n) (agree : (p : ℕ) → p < n → isLost lost p ≡ false → getD b p [] ≡ getD word p []) where
+  module _ (b : List (List ℕ)) (lost : List ℕ) (lost-too : (p : ℕ) → S p ≡ true → isLost lost p ≡ true)
+      (size : length b ≡ n) (agree : (p : ℕ) → p < n → isLost lost p ≡ false → getD b p [] ≡ getD word p []) where
     -- the end of repair
     end : Agrees (repaired n s cs b lost)
-    end = restoring-agrees n _ (record { size = zeroLost-length s lost b ∙ size; same = λ p l h. zeroLost-kept s lost b p h ∙ agree p l h })
+    end = restoring-agrees n _ (record { size = zeroLost-length s lost b ∙ size; same = λ p l h. zeroLost-kept s lost b p h ∙ agree p l h; within = lost-too })
 
-    -- every restored packet is the codeword's (and every received one)
-    pub restored : (p : ℕ) → p < n → isLost (repaired n s cs b lost .map) p ≡ false → getD (repaired n s cs b lost .block) p [] ≡ getD word p []
-    restored = end .same
+    -- every restored packet is the word's (and every received one)
+    restored-near : (p : ℕ) → p < n → isLost (repaired n s cs b lost .map) p ≡ false → getD (repaired n s cs b lost .block) p [] ≡ getD word p []
+    restored-near = end .same
 
     -- every check without a lost place sums to zero ..
-    pub sums-zero : Sums s cs (repaired n s cs b lost)
+    sums-zero : Sums s cs (repaired n s cs b lost)
     sums-zero = all-map (λ c r h. sum-agree s (repaired n s cs b lost .block) word
-        (all-map (λ p t. restored p (t .0) (t .1)) (all-zip (r .0) (none-passes (isLost (repaired n s cs b lost .map)) c h))) ∙ r .1) (all-zip low zeros)
+        (all-map (λ p t. restored-near p (t .0) (t .1)) (all-zip (r .0) (none-passes (isLost (repaired n s cs b lost .map)) c h)))
+        ∙ r .1 .0 (apart-from (repaired n s cs b lost) end c (r .1 .1) (omega arith))) (all-zip low (all-zip zeros stopping))
 
     -- .. so nothing contradicts
-    pub no-contradiction : consistent s cs (repaired n s cs b lost) ≡ true
-    no-contradiction = of-sums s (repaired n s cs b lost) sums-zero
+    pub near-agrees : consistent s cs (repaired n s cs b lost) ≡ true
+    near-agrees = of-sums s (repaired n s cs b lost) sums-zero
+
+-- ---- with a codeword behind it: no check is left out
+module _ (n s : ℕ) (cs : List (List ℕ)) (low : All (λ c. All (λ p. p < n) c) cs)
+    (word : List (List ℕ)) (long : length word ≡ n) (sized : Packets s word) (zeros : All (λ c. packetSum s word c ≡ replicate s 0) cs)
+    (b : List (List ℕ)) (lost : List ℕ) (size : length b ≡ n) (agree : (p : ℕ) → p < n → isLost lost p ≡ false → getD b p [] ≡ getD word p []) where
+  nowhere : ℕ → Bool
+  nowhere p = false
+
+  none-stops : Stopping cs nowhere
+  unfolding nowhere
+  none-stops = all-of (λ c e. let z = ap length (filter-none (λ p. false) (all-of (λ p. refl) c)) in omega arith) cs
+
+  -- every restored packet is the codeword's (and every received one)
+  pub restored : (p : ℕ) → p < n → isLost (repaired n s cs b lost .map) p ≡ false → getD (repaired n s cs b lost .block) p [] ≡ getD word p []
+  unfolding nowhere
+  restored = restored-near n s cs low nowhere none-stops word long sized (all-map (λ c z e. z) zeros) b lost (λ p e. absurd (false≢true e)) size agree
+
+  -- nothing contradicts
+  pub no-contradiction : consistent s cs (repaired n s cs b lost) ≡ true
+  unfolding nowhere
+  no-contradiction = near-agrees n s cs low nowhere none-stops word long sized (all-map (λ c z e. z) zeros) b lost (λ p e. absurd (false≢true e)) size agree

@@ -9,15 +9,16 @@ use Rattle.decided.specs.Decided.{clashes, solvedBlock, solvedMap}
 use Rattle.decided.specs.Peeling.{stays-received}
 use Rattle.decided.specs.PeeledLaws.{peeled-clashes, peeled-block, peeled-map, still-zero, contradicted-clashes}
 use Rattle.eliminate.specs.Eliminating.{NoneLost, ZeroLost, Solves}
-use Rattle.erasure.specs.ContradictionLaws.{told, sums-of}
+use Rattle.erasure.specs.ContradictionLaws.{sums-of}
 use Rattle.erasure.specs.OutcomeLaws.{start-length, start-sized, outcome-length, outcome-sized}
-use Rattle.erasure.specs.Restoring.{Counts, zeroLost, isLost, outcome, contradicting, agreeing, blockIf, mapIf}
+use Rattle.erasure.specs.Restoring.{zeroLost, isLost, outcome, agreeing, blockIf, mapIf}
 use Rattle.erasure.specs.Values.{received-kept, zeroLost-kept}
 use Rattle.full.specs.Deciding.{Decides}
 use Rattle.full.specs.Full.{clashing}
 use Rattle.lists.specs.ListLaws.{all-map}
 use Rattle.lists.specs.Tests.{not-same}
 use Rattle.restore.specs.Mending.{Mends}
+use Rattle.restore.specs.MendsLaws.{agrees-told}
 use Rattle.restore.specs.declared.Mended.{Mended}
 use Rattle.table.specs.Accepted.{Accepted}
 use Rattle.table.specs.PacketLaws.{packets-of}
@@ -28,13 +29,10 @@ module _ (t : List ℕ) (m n s : ℕ) (k : Accepted t m n s) (b l : List ℕ) (l
   fits : length b ≡ places t * size t
   fits = lb ∙ ap₂ _*_ (k .places-are) (k .size-is)
 
-  agreed : d .agrees ≡ agreeing t b l
-  agreed = ap (λ (x : Counts). x .agrees) (done .report) ∙ told (contradicting t b l) l (outcome t b l) .0
-
   -- the turns find nothing that contradicts: they leave their outcome
   module _ (holds : d .agrees ≡ true) where
     agree : agreeing t b l ≡ true
-    agree = sym agreed ∙ holds
+    agree = sym (agrees-told t b l d b₂ l₂ done) ∙ holds
 
     map-then : l₂ ≡ outcome t b l .map
     map-then = done .map-is ∙ ap (λ v. mapIf v t b l) agree
@@ -87,7 +85,7 @@ module _ (t : List ℕ) (m n s : ℕ) (k : Accepted t m n s) (b l : List ℕ) (l
   -- the turns find that something contradicts
   pub contradicted : d .agrees ≡ false → (r : Bool) → r ≡ false → Decides t b l r b₂ l₂
   contradicted fails r e =
-      let fail : agreeing t b l ≡ false = sym agreed ∙ fails in
+      let fail : agreeing t b l ≡ false = sym (agrees-told t b l d b₂ l₂ done) ∙ fails in
       let left : packets (size t) (places t) b₂ ≡ zeroLost (size t) l (packets (size t) (places t) b) = ap (packets (size t) (places t)) (done .block-is ∙ ap (λ v. blockIf v t b l) fail)
       ∙ packets-of (size t) (places t) (start-length t b l (k .accepted) fits) (start-sized t b l (k .accepted) fits) in
       record {

@@ -6,29 +6,25 @@ use Prim.Native.Nat.{ℕ, _<_}
 use lib.Dec.{eqb}
 use lib.ListN.{getD}
 use Rattle.decided.specs.Decided.{decided, value, clashes}
-use Rattle.decided.specs.DecidedTheorems.{AgreeThere, none-agrees, one-agrees, all-have, decided-exactly}
+use Rattle.decided.specs.DecidedTheorems.{none-agrees, one-agrees, all-have, decided-exactly}
 use Rattle.decided.specs.PeeledLaws.{beyond-peeling}
-use Rattle.erasure.specs.Restoring.{isLost, outcome}
+use Rattle.erasure.specs.Restoring.{isLost, outcome, AgreeThere}
 use Rattle.lists.specs.Lists.{All}
 use Rattle.repair.specs.Repair.{Fitting, Agree}
-use Rattle.repair.specs.RepairLaws.{bytes-all}
-use Rattle.repair.specs.RepairTheorems.{lost-byte}
+use Rattle.repair.specs.RepairTheorems.{agree-there}
 use Rattle.table.specs.Codewords.{IsCodeword}
 use Rattle.table.specs.PacketCall.{partAt}
 use Rattle.table.specs.Packets.{packets}
 use Rattle.table.specs.Table.{places, size, checks}
 
 module _ (t b map : List ℕ) (f : Fitting t b map) where
-  -- received and not lost are the same
-  pub agree-there : (w : List ℕ) → Agree t b map w → AgreeThere t b map w
-  agree-there w a p h e = a p h (lost-byte (bytes-all map (f .map-bytes)) p e)
-
+  -- not lost and received are the same
   pub there-agree : (w : List ℕ) → AgreeThere t b map w → Agree t b map w
   there-agree w a p h e = a p h (ap (λ x. eqb x 1) e)
 
   -- "refusal 8 means that no codeword agrees with them"
   pub clash-word : clashes (size t) (checks t) (packets (size t) (places t) b) map ≡ true → (w : List ℕ) → IsCodeword t w → Agree t b map w → ⊥
-  clash-word h w c a = none-agrees t b map (f .table) (f .block) h w c (agree-there w a)
+  clash-word h w c a = none-agrees t b map (f .table) (f .block) h w c (agree-there t b map f w a)
 
   -- else one of bytes does
   pub calm-one : clashes (size t) (checks t) (packets (size t) (places t) b) map ≡ false → All (λ x. x < 256) b
@@ -38,7 +34,7 @@ module _ (t b map : List ℕ) (f : Fitting t b map) where
   -- a decided place: "all codewords that agree with the received packets agree there", and have its packet
   pub has-value : (p : ℕ) → p < places t → decided map (checks t) p ≡ true → (w : List ℕ) → IsCodeword t w → Agree t b map w
       → partAt (size t) p w ≡ value (size t) (checks t) (packets (size t) (places t) b) map p
-  has-value p h d w c a = all-have t b map (f .table) (f .block) p h d w c (agree-there w a)
+  has-value p h d w c a = all-have t b map (f .table) (f .block) p h d w c (agree-there t b map f w a)
 
   -- and the other way: a lost place where all of bytes agree is decided
   pub exactly-decided : clashes (size t) (checks t) (packets (size t) (places t) b) map ≡ false → All (λ x. x < 256) b → (p : ℕ) → p < places t → getD map p 0 ≡ 1

@@ -3,23 +3,26 @@ use mathlib.Core.Path.{_≡_, refl, sym, ap, ap₂, _∙_, subst}
 use mathlib.Core.Bool.{Bool, true, false, cond, _||_}
 use mathlib.Core.List.{List, [], _∷_, _++_, map as each}
 use mathlib.Core.Logic.{_≢_, _⊎_, inl, inr, _↔_}
+use mathlib.Core.Option.{none, some}
 use Prim.Native.Nat.{ℕ, zero, suc, _+_, _^_, _<_}
 use native.Mathlib.Omega.{arith}
 use borrow.Author.Tests.{ne-eqb}
 use lib.Dec.{eqb}
 use lib.ListN.{length, getD, replicate}
-use lib.Seq.{ext-getD}
+use Rattle.blame.specs.Blame.{blamed}
+use Rattle.blame.specs.BlameLaws.{agreed-none, blamed-contradicts}
 use Rattle.decided.specs.AfterLaws.{after-decided, after-lost, after-received, mark-decided, mark-lost, mark-received, marks-at}
 use Rattle.decided.specs.Counted.{counted}
 use Rattle.decided.specs.Decided.{lostRow, decided, someOf, clashesAt, packetAfter, markAfter, solvedBlock, solvedMap}
 use Rattle.decided.specs.DecidedTheorems.{after-sums, after-part, after-right, after-whole}
 use Rattle.decided.specs.PeeledLaws.{calm-agrees, contradicted-clashes}
 use Rattle.erasure.specs.OldBytes.{old-bytes-cleared}
-use Rattle.erasure.specs.OutcomeLaws.{tally-lost, start-length, start-sized, outcome-length, outcome-sized, part-joined}
-use Rattle.erasure.specs.Restoring.{isLost, lostPlaces, zeroLost, tally, outcome}
+use Rattle.erasure.specs.LostLaws.{not-lost, is-lost}
+use Rattle.erasure.specs.OldRepair.{part-is as old-part, cleared-kept, cleared-zero}
+use Rattle.erasure.specs.OutcomeLaws.{tally-lost}
+use Rattle.erasure.specs.Restoring.{isLost, lostPlaces, zeroLost, tally, outcome, agreeing, blockIf, mapIf}
 use Rattle.erasure.specs.Stopping.{no-lost}
-use Rattle.erasure.specs.Values.{zeroLost-kept, zeroLost-zero}
-use Rattle.full.specs.AgreeLaws.{agree-there, clash-word, calm-one, has-value, exactly-decided, old-decided}
+use Rattle.full.specs.AgreeLaws.{clash-word, calm-one, has-value, exactly-decided, old-decided}
 use Rattle.full.specs.Full.{clashing, fullRefusal, fullAnswerAt, fullAnswer, fullBlockAfter, fullMapAfter, fullWorkAfter, FittingAll, Possible, OneThere}
 use Rattle.full.specs.FullLaws.{fitting-refusal, accepted-fits, clashing-fits, block-accepted, block-clashing, block-refused, map-accepted, map-refused, answer-accepted, answer-refused, work-accepted, work-clashing, work-refused}
 use Rattle.gf2.specs.Gf2.{maskFor}
@@ -28,12 +31,11 @@ use Rattle.lists.specs.Lists.{All}
 use Rattle.lists.specs.Numbers.{from-all}
 use Rattle.lists.specs.Tests.{byBool, eqb-true, eqb-false}
 use Rattle.repair.specs.Repair.{wrongLengths, byteOver, repairRefusal, repairBlockAfter, repairMapAfter, Agree}
-use Rattle.repair.specs.RepairLaws.{bytes-all, byte-at}
-use Rattle.repair.specs.RepairTheorems.{not-lost, is-lost}
-use Rattle.repair.specs.RepairLaws as old
+use Rattle.repair.specs.RepairLaws.{bytes-all, byte-at, agreed-refusal, contradicted-fits}
+use Rattle.repair.specs.RepairTheorems.{agree-there, plainly}
 use Rattle.table.specs.Codewords.{IsCodeword}
 use Rattle.table.specs.PacketCall.{partAt}
-use Rattle.table.specs.PacketLaws.{packets-length, packets-joined, packet-at}
+use Rattle.table.specs.PacketLaws.{packet-at, same-packets}
 use Rattle.table.specs.Packets.{packets, joined, packetSum}
 use Rattle.table.specs.FirstCause.{firstCause, wrongLength}
 use Rattle.table.specs.Table.{places, size, checks, tableCauses, workWords}
@@ -138,18 +140,22 @@ module _ (t b map work : List ℕ) (ok : fullRefusal t b map work ≡ 0) where
   }
 
   -- ---- beside the old repair
-  -- what full repair accepts the old repair accepts
-  pub old-accepts : repairRefusal t b map ≡ 0
-  old-accepts = old.fitting-refusal t b map (fits .old) ∙ ap (λ (v : Bool). cond v 0 8) (calm-agrees t b map (fits .old .table) (fits .old .block) calm)
+  -- what full repair accepts the old repair accepts ..
+  pub old-accepts : agreeing t b map ≡ true
+  old-accepts = calm-agrees t b map (fits .old .table) (fits .old .block) calm
 
-  -- what the old one restores full repair restores, with the same packet
+  -- .. so repair accepts it too, and blames nobody
+  pub nobody-blamed : (repairRefusal t b map ≡ 0) × (blamed t b map ≡ none)
+  nobody-blamed = (agreed-refusal t b map (fits .old) old-accepts, agreed-none t b map old-accepts)
+
+  -- what repair restores full repair restores, with the same packet
   pub restores-alike : (p : ℕ) → p < places t → getD map p 0 ≡ 1 → getD (repairMapAfter t b map) p 0 ≡ 2
       → (getD (fullMapAfter t b map work) p 0 ≡ 2) × (partAt (size t) p (fullBlockAfter t b map work) ≡ partAt (size t) p (repairBlockAfter t b map))
   restores-alike p h e two =
-      let mark : getD (outcome t b map .map) p 0 ≡ 2 = ap (λ l. getD l p 0) (sym (old.map-accepted t b map old-accepts)) ∙ two in
+      let plain = plainly t b map (fits .old) (nobody-blamed .1) in
+      let mark : getD (outcome t b map .map) p 0 ≡ 2 = ap (λ l. getD l p 0) (sym (plain .marks ∙ ap (λ v. mapIf v t b map) old-accepts)) ∙ two in
       let r = old-decided t b map (fits .old) calm p h e (ap (λ x. eqb x 1) mark) in
-      let part = ap (partAt (size t) p) (old.block-accepted t b map old-accepts)
-      ∙ part-joined (size t) (places t) (outcome t b map .block) (outcome-length t b map (fits .old .table) (fits .old .block)) (outcome-sized t b map (fits .old .table) (fits .old .block)) p h in (
+      let part = ap (partAt (size t) p) (plain .block ∙ ap (λ v. blockIf v t b map) old-accepts) ∙ old-part t b map (fits .old .table) (fits .old .block) p h in (
         mark-is p h ∙ mark-decided (checks t) map p (is-lost map p e) (r .0),
         part-is p h ∙ after-decided (size t) (checks t) (packets (size t) (places t) b) map p (is-lost map p e) (r .0) ∙ r .1 ∙ sym part,
       )
@@ -226,9 +232,15 @@ module _ (t b map work : List ℕ) (f : FittingAll t b map work) where
         (λ e. let o = calm-one t b map (f .old) e bytes in absurd (none (o .0) (record { word = o .1 .0; agree = o .1 .1 .0; bytes = o .1 .1 .1 })))),
   )
 
-  -- where the old repair refuses with 8, so does full repair
-  pub refuses-alike : repairRefusal t b map ≡ 8 → fullRefusal t b map work ≡ 8
-  refuses-alike h = clash-refused (contradicted-clashes t b map (f .old .table) (f .old .block) (old.contradicted-fits t b map h .1))
+  -- where the old repair contradicts, full repair refuses with 8: both where repair does and where it blames a place
+  pub refuses-alike : agreeing t b map ≡ false → fullRefusal t b map work ≡ 8
+  refuses-alike h = clash-refused (contradicted-clashes t b map (f .old .table) (f .old .block) h)
+
+  pub eight-alike : repairRefusal t b map ≡ 8 → fullRefusal t b map work ≡ 8
+  eight-alike h = refuses-alike (contradicted-fits t b map h .1 .0)
+
+  pub blamed-refused : (p : ℕ) → blamed t b map ≡ some p → fullRefusal t b map work ≡ 8
+  blamed-refused p h = refuses-alike (blamed-contradicts t b map p h)
 
   module _ (w : List ℕ) (word : IsCodeword t w) (agree : Agree t b map w) where
     -- a codeword agrees
@@ -239,37 +251,28 @@ module _ (t b map work : List ℕ) (f : FittingAll t b map work) where
     right p h e = ap (partAt (size t) p) (block-accepted t b map work passes)
         ∙ after-right t b map (f .old .table) (f .old .block) w word (agree-there t b map (f .old) w agree) p h e
 
-    same-packets : fullAnswer t b map work .lost ≡ 0 → packets (size t) (places t) (fullBlockAfter t b map work) ≡ packets (size t) (places t) w
-    same-packets z =
-        let k = packets-length (size t) (places t) (fullBlockAfter t b map work) in
-        let free = no-lost (solvedMap (places t) (checks t) map) (sym (tally-lost (solvedMap (places t) (checks t) map)) ∙ none-left t b map work passes z) in
-        ext-getD [] _ _ (k ∙ sym (packets-length (size t) (places t) w)) (λ p h. let q : p < places t = omega arith in
-        packet-at (size t) (places t) (fullBlockAfter t b map work) p q ∙ right p q (free p) ∙ sym (packet-at (size t) (places t) w p q))
-
     pub fully-repairing : FullyRepairing t b map work w
     fully-repairing = record {
       not-refused = passes;
       values = λ p h ne. right p h (byBool (isLost (solvedMap (places t) (checks t) map) p)
           (λ e. absurd (ne (ap (λ l. getD l p 0) (map-accepted t b map work passes) ∙ eqb-true _ 1 e))) (λ e. e));
-      all-back = λ z. sym (packets-joined (size t) (places t) (fullBlockAfter t b map work) (whole-word t b map work passes z .size-fits))
-          ∙ ap joined (same-packets z) ∙ packets-joined (size t) (places t) w (word .size-fits);
+      all-back = λ z.
+          let free = no-lost (solvedMap (places t) (checks t) map) (sym (tally-lost (solvedMap (places t) (checks t) map)) ∙ none-left t b map work passes z) in
+          same-packets (size t) (places t) (fullBlockAfter t b map work) w (whole-word t b map work passes z .size-fits) (word .size-fits) (λ p h. right p h (free p));
     }
 
 pub fully-contradicted : (t b map work : List ℕ) → fullRefusal t b map work ≡ 8 → FullyContradicted t b map work
 fully-contradicted t b map work h = record {
   no-codeword = clash-word t b map (fits .old) (clashing-fits t b map work h .1);
   answer = answer-refused t b map work 7 h;
-  received = λ p k e. part p k ∙ zeroLost-kept (size t) map (packets (size t) (places t) b) p (not-lost map p e) ∙ packet-at (size t) (places t) b p k;
-  zeroed = λ p k e. part p k ∙ zeroLost-zero (size t) map (packets (size t) (places t) b) p (subst (λ x. p < x) (sym (packets-length (size t) (places t) b)) k) (is-lost map p e);
+  received = λ p k e. ap (partAt (size t) p) (block-clashing t b map work h) ∙ cleared-kept t b map (fits .old .table) (fits .old .block) p k (not-lost map p e);
+  zeroed = λ p k e. ap (partAt (size t) p) (block-clashing t b map work h) ∙ cleared-zero t b map (fits .old .table) (fits .old .block) p k (is-lost map p e);
   map-kept = map-refused t b map work 8 h refl;
   work-zero = work-clashing t b map work h ∙ ap (λ (k : ℕ). replicate k 0) (sym (fits .room));
 }
   where
     fits : FittingAll t b map work
     fits = clashing-fits t b map work h .0
-
-    part : (p : ℕ) → p < places t → partAt (size t) p (fullBlockAfter t b map work) ≡ getD (zeroLost (size t) map (packets (size t) (places t) b)) p []
-    part p k = ap (partAt (size t) p) (block-clashing t b map work h) ∙ part-joined (size t) (places t) _ (start-length t b map (fits .old .table) (fits .old .block)) (start-sized t b map (fits .old .table) (fits .old .block)) p k
 
 -- ---- "Old bytes at lost places never count": blocks with the same received packets come to the same answer, block, map and work
 pub record Alike (t b c map work : List ℕ) : Type 0 where

@@ -3,8 +3,8 @@ use mathlib.Core.Path.{_≡_, refl, sym}
 use mathlib.Core.List.{List}
 use Prim.Native.Nat.{ℕ, _+_, _*_, _≤_}
 use native.Mathlib.Omega.{arith}
-use lib.ListN.{length, take, replicate, length-replicate}
-use lib.Seq.{length-take-le}
+use lib.ListN.{length, take, replicate}
+use Rattle.table.specs.BufferLaws.{part-of-same}
 use Rattle.table.specs.Accepted.{Accepted, few-words, has-weights, words}
 use Rattle.table.specs.Table.{refusal, number, places, size}
 
@@ -24,4 +24,4 @@ long t h =
 
 -- the part of a file's buffer that its bytes take
 pub file-part : (t : List ℕ) (v : ℕ) → refusal t ≡ 0 → 2 * length t ≡ length (take (2 * length t) (replicate 13322 v))
-file-part t v h = let l = long t h .most in sym (length-take-le (2 * length t) (replicate 13322 v) (rw length-replicate (omega arith)))
+file-part t v h = let l = long t h .most in part-of-same (2 * length t) 13322 v (omega arith)

@@ -4,8 +4,8 @@ use mathlib.Core.Bool.{Bool, false, cond}
 use mathlib.Core.List.{List, [], _∷_, map}
 use Prim.Native.Nat.{ℕ, zero, suc, _+_, _-_, _<_, _≤_}
 use native.Mathlib.Omega.{arith}
-use lib.ListN.{length, getD, take, drop, length-take, length-drop, length-map, replicate, length-replicate}
-use lib.Seq.{getD-set-same, getD-set-other, getD-take, drop-cons, drop-length, length-take-le}
+use lib.ListN.{length, getD, take, drop, length-take, length-drop, length-map, replicate}
+use lib.Seq.{getD-set-same, getD-set-other, getD-take, drop-cons, drop-length}
 use lib.Dec.{eqb}
 use borrow.Author.Tests.{ne-eqb}
 use Rattle.lists.specs.Tests.{eqb-true, eqb-false, eqb-self, byBool}
@@ -165,6 +165,3 @@ zeros-all k = record { each = getD-zeros k }
 
 pub zeros-part : (k n : ℕ) → Zeros (take n (replicate k 0))
 zeros-part k n = record { each = λ i. zero-take n (replicate k 0) i (getD-zeros k) }
-
-pub part-long : (k n : ℕ) → n ≤ k → n ≡ length {A = ℕ} (take n (replicate k 0))
-part-long k n h = sym (length-take-le n (replicate k 0) (let e : length {A = ℕ} (replicate k 0) ≡ k = length-replicate k 0 in omega arith))

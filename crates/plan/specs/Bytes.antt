@@ -6,12 +6,12 @@ use mathlib.Core.Bool.{true, false≢true}
 use mathlib.Core.List.{List, [], _∷_}
 use Prim.Native.Nat.{ℕ, zero, suc, _<_}
 use native.Mathlib.Omega.{arith}
-use lib.ListN.{getD, set, take, drop, replicate}
-use lib.Seq.{drop-nil}
+use lib.ListN.{getD, set, replicate}
 use Rattle.gf2.specs.Gf2.{XorGroup, add}
 use Rattle.lists.specs.Lists.{All, All.nil, All.cons}
 use Rattle.lists.specs.Tests.{byOpt}
 use Rattle.table.specs.ByteLaws.{eachByte}
+use Rattle.table.specs.EachByteLaws.{each-at, each-set}
 use Rattle.table.specs.SumLaws.{part-sum, part-zeros}
 use Rattle.plan.specs.declared.Step.{Step}
 use Rattle.plan.specs.declared.Step.the-variants.{Clear, Add}
@@ -20,29 +20,18 @@ use Rattle.plan.specs.LayoutLaws.{Formed, sound, allGood, and-left, and-
 use Rattle.plan.specs.Step.{unpack, unpackAll, SlotsBelow}
 use Rattle.plan.specs.Steps.{carryOut, carryOutAll, withPackets, atStart}
 
--- ---- slots
-byte-slot : (j : ℕ) (st : List (List ℕ)) (i : ℕ) → getD (eachByte j st) i [] ≡ take 1 (drop j (getD st i []))
-byte-slot j [] i = sym (ap (take 1) (drop-nil j))
-byte-slot j (p ∷ st) zero = refl
-byte-slot j (p ∷ st) (suc i) = byte-slot j st i
-
-byte-set : (j : ℕ) (st : List (List ℕ)) (i : ℕ) (v : List ℕ) → eachByte j (set st i v) ≡ set (eachByte j st) i (take 1 (drop j v))
-byte-set j [] i v = refl
-byte-set j (p ∷ st) zero v = refl
-byte-set j (p ∷ st) (suc i) v = ap (λ l. take 1 (drop j p) ∷ l) (byte-set j st i v)
-
 -- packets put at places
 pub bytes-put : (j : ℕ) (st : List (List ℕ)) (I : List ℕ) (ps : List (List ℕ)) → eachByte j (withPackets st I ps) ≡ withPackets (eachByte j st) I (eachByte j ps)
 bytes-put j st [] ps = refl
 bytes-put j st (i ∷ I) [] = refl
-bytes-put j st (i ∷ I) (p ∷ ps) = bytes-put j (set st i p) I ps ∙ ap (λ l. withPackets l I (eachByte j ps)) (byte-set j st i p)
+bytes-put j st (i ∷ I) (p ∷ ps) = bytes-put j (set st i p) I ps ∙ ap (λ l. withPackets l I (eachByte j ps)) (each-set j st i p)
 
 module _ (s j : ℕ) (h : j < s) where
   -- ---- the steps
   byte-step : (st : List (List ℕ)) (x : Step) → eachByte j (carryOut s st x) ≡ carryOut 1 (eachByte j st) x
-  byte-step st (Clear to) = byte-set j st to _ ∙ ap (set (eachByte j st) to) (part-zeros j 1 s (omega arith))
-  byte-step st (Add to from) = byte-set j st to _
-      ∙ ap (set (eachByte j st) to) (part-sum j 1 (getD st to []) (getD st from []) ∙ ap₂ (add XorGroup) (sym (byte-slot j st to)) (sym (byte-slot j st from)))
+  byte-step st (Clear to) = each-set j st to _ ∙ ap (set (eachByte j st) to) (part-zeros j 1 s (omega arith))
+  byte-step st (Add to from) = each-set j st to _
+      ∙ ap (set (eachByte j st) to) (part-sum j 1 (getD st to []) (getD st from []) ∙ ap₂ (add XorGroup) (sym (each-at j st to)) (sym (each-at j st from)))
 
   pub bytes-after : (st : List (List ℕ)) (xs : List Step) → eachByte j (carryOutAll s st xs) ≡ carryOutAll 1 (eachByte j st) xs
   bytes-after st [] = refl

@@ -1,12 +1,13 @@
 -- Repair (document 01, "Repair and the other calls"): the call with its refusals. The lost map has a byte a place: 0 received,
--- 1 lost, 2 restored.
+-- 1 lost, 2 restored, and by document 02, C-17, 3 for a received place that is blamed: "answer with that repair and mark the place 3".
 use mathlib.Core.Path.{_≡_}
-use mathlib.Core.Bool.{Bool, true, false, not, _||_}
+use mathlib.Core.Bool.{Bool, true, false, not, _||_, _&&_}
 use mathlib.Core.List.{List, [], _∷_, _++_}
-use mathlib.Core.Option.{Option, none}
+use mathlib.Core.Option.{Option, none, some}
 use Prim.Native.Nat.{ℕ, zero, suc, _*_, _<_}
 use lib.Dec.{eqb, ltb}
-use lib.ListN.{length, getD}
+use lib.ListN.{length, getD, set}
+use Rattle.blame.specs.Blame.{lostToo, blamed, nobody}
 use Rattle.erasure.specs.Restoring.{State, zeroLost, tally, outcome, contradicting, agreeing}
 use Rattle.faults.specs.Faults.{Fault, checkOf, byteOf}
 use Rattle.lists.specs.Lists.{anyOf}
@@ -25,9 +26,23 @@ wrongLengths t b map = wrongLength (length b) (places t * size t) || wrongLength
 abbrev pub byteOver : List ℕ → Bool
 byteOver map = anyOf (ltb 1) map
 
--- 8: "received packets contradict"
+-- the map that repair goes by: the blamed place is "marked lost too"
+abbrev pub believed : Option ℕ → List ℕ → List ℕ
+believed none map = map
+believed (some p) map = lostToo map p
+
+-- the map that it leaves: the blamed place is marked 3
+abbrev pub marked : Option ℕ → List ℕ → List ℕ
+marked none map = map
+marked (some p) map = set map p 3
+
+-- what restoring comes to by it
+abbrev pub repairOutcome : List ℕ → List ℕ → List ℕ → State
+repairOutcome t b map = outcome t b (believed (blamed t b map) map)
+
+-- 8: "received packets contradict", and no place is blamed for it: "Otherwise 8 stays"
 abbrev pub contradicts : List ℕ → List ℕ → List ℕ → Bool
-contradicts t b map = not (agreeing t b map)
+contradicts t b map = not (agreeing t b map) && nobody (blamed t b map)
 
 -- the causes in their order, 1 to 5, 7 and 8
 abbrev pub repairCauses : List ℕ → List ℕ → List ℕ → List (Bool × ℕ)
@@ -45,34 +60,39 @@ pub record RepairAnswer : Type 0 where
   pub check : ℕ
   pub byte : ℕ
 
--- "verification and refusal 8 hand on the lowest failing check with that byte" (document 02, C-12); no other answer of repair has one
+-- "verification and refusal 8 hand on the lowest failing check with that byte" (document 02, C-12); no other answer of repair has one.
+-- "with 8, check and byte are those of the repair without this rule" (C-17)
 abbrev pub handedOn : ℕ → Option Fault → Option Fault
 handedOn r f = elim (eqb r 8) [ true ↦ f | false ↦ none ]
+
+-- accepted: the counts
+abbrev pub acceptedWith : ℕ → ℕ → ℕ → RepairAnswer
+acceptedWith restored lost additions = record { refusal = 0; restored = restored; lost = lost; additions = additions; check = 0; byte = 0 }
 
 -- a refusal: counts 0
 abbrev pub refusedWith : ℕ → ℕ → ℕ → RepairAnswer
 refusedWith r check byte = record { refusal = r; restored = 0; lost = 0; additions = 0; check = check; byte = byte }
 
--- by the refusal's number, 0 for none, what restoring comes to, and what is handed on
+-- by the refusal's number, 0 for none, what restoring comes to, in which the blamed place is restored, and what is handed on
 abbrev pub repairAnswerAt : ℕ → State → Option Fault → RepairAnswer
-repairAnswerAt zero m f = record { refusal = 0; restored = tally 2 (m .map); lost = tally 1 (m .map); additions = m .adds; check = checkOf f; byte = byteOf f }
+repairAnswerAt zero m f = acceptedWith (tally 2 (m .map)) (tally 1 (m .map)) (m .adds)
 repairAnswerAt (suc r) m f = refusedWith (suc r) (checkOf f) (byteOf f)
 
 abbrev pub repairAnswer : List ℕ → List ℕ → List ℕ → RepairAnswer
-repairAnswer t b map = repairAnswerAt (repairRefusal t b map) (outcome t b map) (handedOn (repairRefusal t b map) (contradicting t b map))
+repairAnswer t b map = repairAnswerAt (repairRefusal t b map) (repairOutcome t b map) (handedOn (repairRefusal t b map) (contradicting t b map))
 
 -- the block afterwards: the outcome's; after 8 lost places are zero; else as it was
 abbrev pub repairBlockAfter : List ℕ → List ℕ → List ℕ → List ℕ
 repairBlockAfter t b map =
     elim (eqb (repairRefusal t b map) 0) [
-      | true ↦ joined (outcome t b map .block)
+      | true ↦ joined (repairOutcome t b map .block)
       | false ↦
           elim (eqb (repairRefusal t b map) 8) [ true ↦ joined (zeroLost (size t) map (packets (size t) (places t) b)) | false ↦ b ]
     ]
 
--- the map afterwards: restored places are marked 2; as it was on refusal
+-- the map afterwards: restored places are marked 2, the blamed one 3; as it was on refusal
 abbrev pub repairMapAfter : List ℕ → List ℕ → List ℕ → List ℕ
-repairMapAfter t b map = elim (eqb (repairRefusal t b map) 0) [ true ↦ outcome t b map .map | false ↦ map ]
+repairMapAfter t b map = elim (eqb (repairRefusal t b map) 0) [ true ↦ marked (blamed t b map) (repairOutcome t b map .map) | false ↦ map ]
 
 -- the papers' numbers of an answer
 abbrev pub repairAnswerOf : Repaired → RepairAnswer

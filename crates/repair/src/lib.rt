@@ -1,10 +1,16 @@
-// The receiver: repair, the call with its refusals.
+// The receiver: repair, the call with its refusals; where one packet is bad, repair without it.
+use blame::Suspected;
 use table::wide;
 ghost use mathlib.Core.Path.{_≡_};
+ghost use mathlib.Core.Bool.{true};
+ghost use Prim.Native.Nat.{_<_};
 ghost use lib.Dec.{ltb};
 ghost use Rattle.lists.specs.Lists.{anyOf};
 ghost use Rattle.table.specs.Accepted.{Accepted};
-ghost use Rattle.repair.specs.Repair.{Answers, Fitting, repairAnswerOf, refusedWith};
+ghost use Rattle.blame.specs.Blame.{lostToo};
+ghost use Rattle.erasure.specs.Restoring.{agreeing};
+ghost use Rattle.repair.specs.Repair.{Answers, Fitting, repairAnswerOf, acceptedWith, refusedWith};
+ghost use Rattle.repair.specs.Parts.{Without};
 
 // What repair reports: the refusal, 0 for none, the counts, and with refusal 8 the lowest check that
 // fails after restoring and the lowest byte of its sum that isn't zero.
@@ -45,6 +51,42 @@ fn refused(refusal: u32, check: u32, byte: u32) -> Repaired
     }
 }
 
+// accepted, with its counts
+fn accepted(restored: u32, lost: u32, additions: u32) -> Repaired
+    ensures { λ r. ⌜ repairAnswerOf r ≡ acceptedWith restored lost additions ⌝ }
+{
+    Repaired {
+        refusal: 0,
+        restored: restored,
+        lost: lost,
+        additions: additions,
+        check: 0,
+        byte: 0,
+    }
+}
+
+// the repair with place p marked lost too, by which nothing contradicts; p is marked 3
+fn repair_without(
+    t: &[u16],
+    m: usize,
+    n: usize,
+    s: usize,
+    block: &mut [u8],
+    map: &mut [u8],
+    p: usize,
+) -> Repaired
+    requires table { ⌜ Accepted (now t) m n s ⌝ }
+    requires fits { ⌜ Fitting (now t) (now block) (now map) ⌝ }
+    requires place { ⌜ p < n ⌝ }
+    requires agrees { ⌜ agreeing (now t) (now block) (lostToo (now map) p) ≡ true ⌝ }
+    ensures { λ r. ⌜ Without (now (t .entry)) (now (block .entry)) (now (map .entry)) p r (now (block .exit)) (now (map .exit)) ⌝ }
+{
+    map[p] = 1;
+    let done = restore::restore_packets(t, m, n, s, block, map);
+    map[p] = 3;
+    accepted(done.restored, done.lost, done.additions)
+}
+
 // the call where none of 1 to 7 refuses
 fn repair_packets(
     t: &[u16],
@@ -60,19 +102,16 @@ fn repair_packets(
 {
     let done = restore::restore_packets(t, m, n, s, block, map);
     if done.agrees {
-        return Repaired {
-            refusal: 0,
-            restored: done.restored,
-            lost: done.lost,
-            additions: done.additions,
-            check: 0,
-            byte: 0,
-        };
+        return accepted(done.restored, done.lost, done.additions);
     }
-    refused(8, done.check, done.byte)
+    match blame::only_suspect(t, m, n, s, block, map, done.byte as usize) {
+        Suspected::Nobody => refused(8, done.check, done.byte),
+        Suspected::Place(p) => repair_without(t, m, n, s, block, map, p),
+    }
 }
 
-// Restores what the checks can restore of the lost places.
+// Restores what the checks can restore of the lost places. Where the received packets contradict each
+// other, and one place alone, marked lost too, is restored so that they no longer do, that is the repair.
 pub fn repair(t: &[u16], block: &mut [u8], map: &mut [u8]) -> Repaired
     ensures { λ r. ⌜ Answers (now (t .entry)) (now (block .entry)) (now (map .entry)) r (now (block .exit)) (now (map .exit)) ⌝ }
 {

@@ -1,13 +1,50 @@
 // repair_file TABLE BLOCK MAP: restores what it can of the lost packets, and writes block and map
-// back. Where the received packets contradict, the block goes back too, zero at its lost places.
+// back. Where the received packets contradict, and no place is blamed for it, the block goes back
+// too, zero at its lost places.
 use repair::Repaired;
 use text::Read;
+ghost use mathlib.Core.Path.{_≡_};
+ghost use Prim.Native.Nat.{ℕ, _≤_, _<_};
+ghost use lib.ListN.{length, getD};
 
 // the most bytes of a block
 const MOST_BLOCK: usize = 32768;
 
 // the refusal of packets that contradict
 const CONTRADICT: u32 = 8;
+
+// the mark of a place that is blamed
+const BLAMED: u8 = 3;
+
+// The place that is blamed: the first marked 3; the map's length where none is.
+fn blamed(map: &[u8]) -> usize
+    ensures within { λ r. ⌜ r ≤ length (now (map .entry)) ⌝ }
+    ensures found { λ r. ⌜ (r < length (now (map .entry)) → getD (now (map .entry)) r 0 ≡ 3) ⌝ }
+    ensures passed { λ r. ⌜ ((q : ℕ) → q < r → getD (now (map .entry)) q 0 ≡ 3 → ⊥) ⌝ }
+{
+    let mut p = 0;
+    while p < map.len() {
+        if map[p] == BLAMED {
+            return p;
+        }
+        p += 1;
+    }
+    p
+}
+
+// Says which place is blamed, if one is.
+fn print_blamed(map: &[u8]) {
+    let p = blamed(map);
+    if p < map.len() {
+        text::print_count(
+            libc::STDOUT_FILENO,
+            b"packets contradicted: place ",
+            p as u64,
+            b" blamed",
+        );
+        io::write_all(libc::STDOUT_FILENO, b", and restored from the others\n");
+    }
+}
 
 fn print_counts(answer: Repaired) {
     text::print_restored(answer.restored, answer.lost, b"");
@@ -45,6 +82,7 @@ fn repair_block(table: &[u16], block: &mut [u8], map: &mut [u8]) {
         return;
     }
     if text::write_argument(3, map) {
+        print_blamed(map);
         print_counts(answer);
     }
 }

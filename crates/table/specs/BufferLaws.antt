@@ -5,8 +5,8 @@ use Prim.Native.Nat.{ℕ, suc, _+_, _*_, _-_, _<_, _≤_}
 use native.Mathlib.Nat.{mul-le-mul-right, suc-mul}
 use native.Mathlib.Omega.{arith}
 use lib.Bits.{bitXor}
-use lib.ListN.{length, getD, set, take, drop}
-use lib.Seq.{take-all}
+use lib.ListN.{length, getD, set, take, drop, replicate, length-replicate}
+use lib.Seq.{take-all, length-take-le}
 use Rattle.table.specs.PacketLaws.{joined-packets, packet-at, joined-set}
 use Rattle.gf2.specs.Gf2.{XorGroup, add}
 use Rattle.gf2.specs.Vectors.{getD-add, length-add}
@@ -14,6 +14,10 @@ use Rattle.lists.specs.Buffers.{part-length, getD-part, Patched, written-bytes,
 use Rattle.lists.specs.ListLaws.{all-getD}
 use Rattle.lists.specs.Lists.{written}
 use Rattle.table.specs.Packets.{Packets, joined, mixed}
+
+-- a part, from its start, of a buffer whose k numbers are all the same
+pub part-of-same : (n k v : ℕ) → n ≤ k → n ≡ length (take n (replicate k v))
+part-of-same n k v h = sym (length-take-le n (replicate k v) (rw length-replicate h))
 
 module _ (b : List ℕ) (at : ℕ) (x : List ℕ) (n : ℕ) (long : length x ≡ n) (fits : at + n ≤ length b) where
   target-length : length (take (length x) (drop at b)) ≡ n

@@ -1,16 +1,16 @@
 -- Laws of byte positions (`bytesAt`): how many bytes there are and which, that all positions decide the block, and the bytes of one as
 -- packets of one byte.
-use mathlib.Core.Path.{_≡_, refl, sym, ap, ap₂, _∙_, subst}
+use mathlib.Core.Path.{_≡_, refl, sym, ap, ap₂, _∙_}
 use mathlib.Core.List.{List, [], _∷_, _++_, map}
-use Prim.Native.Nat.{ℕ, zero, suc, _+_, _*_, _/_, _%_, _<_}
-use native.Mathlib.Nat.{div-add-mod', div-lt-iff-lt-mul, mod-lt}
+use Prim.Native.Nat.{ℕ, zero, suc, _+_, _*_, _<_}
 use native.Mathlib.Omega.{arith}
 use lib.ListN.{length, getD, take, drop, length-map}
 use lib.Seq.{drop-cons, ext-getD}
 use Rattle.lists.specs.Buffers.{part-length, getD-part}
-use Rattle.lists.specs.ListLaws.{all-map, map-all, map-at}
+use Rattle.lists.specs.ListLaws.{all-getD, all-map, map-all, map-at}
 use Rattle.lists.specs.Lists.{All.nil, All.cons}
-use Rattle.table.specs.PacketLaws.{packets-length, packets-sized, packets-of, packet-at}
+use Rattle.table.specs.PacketCall.{partAt}
+use Rattle.table.specs.PacketLaws.{packets-length, packets-sized, packets-of, packet-at, same-packets}
 use Rattle.table.specs.Packets.{Packets, packets, joined, bytesAt}
 
 -- one byte a packet
@@ -18,27 +18,20 @@ pub bytes-length : (s n j : ℕ) (b : List ℕ) → length (bytesAt s n j b) ≡
 bytes-length s n j b = length-map (packets s n b) (λ p. getD p j 0) ∙ packets-length s n b
 
 -- byte j of place p
+byte-of : (s n j : ℕ) (b : List ℕ) (p : ℕ) → p < n → getD (bytesAt s n j b) p 0 ≡ getD (partAt s p b) j 0
+byte-of s n j b p h = map-at (λ q. getD q j 0) (packets s n b) p [] 0 (let e = packets-length s n b in omega arith) ∙ ap (λ q. getD q j 0) (packet-at s n b p h)
+
 pub byte-at : (s n j : ℕ) (b : List ℕ) (p : ℕ) → p < n → j < s → getD (bytesAt s n j b) p 0 ≡ getD b (p * s + j) 0
-byte-at s n j b p h l = map-at (λ q. getD q j 0) (packets s n b) p [] 0 (let e = packets-length s n b in omega arith)
-    ∙ ap (λ q. getD q j 0) (packet-at s n b p h) ∙ getD-part b (p * s) s j l
+byte-at s n j b p h l = byte-of s n j b p h ∙ getD-part b (p * s) s j l
 
 -- all positions decide the block
 pub bytes-decide : (s n : ℕ) (b c : List ℕ) → length b ≡ n * s → length c ≡ n * s → ((j : ℕ) → j < s → bytesAt s n j b ≡ bytesAt s n j c) → b ≡ c
-bytes-decide s n b c lb lc same = ext-getD 0 b c (lb ∙ sym lc) (λ i h. each i (subst (λ k. i < k) lb h))
+bytes-decide s n b c lb lc same = same-packets s n b c lb lc (λ p h. ext-getD 0 (partAt s p b) (partAt s p c) (long b lb p h ∙ sym (long c lc p h)) (λ j l.
+    let low : j < s = omega (arith, long b lb p h) in
+    sym (byte-of s n j b p h) ∙ ap (λ x. getD x p 0) (same j low) ∙ byte-of s n j c p h))
   where
-    some : (s i : ℕ) → i < n * s → 0 < s
-    some zero i h = absurd (omega arith)
-    some (suc s) i h = omega arith
-
-    each : (i : ℕ) → i < n * s → getD b i 0 ≡ getD c i 0
-    each i h =
-        let p = i / s in
-        let j = i % s in
-        let e : p * s + j ≡ i = div-add-mod' i s in
-        let low : j < s = mod-lt i (some s i h) in
-        let into : p < n = div-lt-iff-lt-mul {k = s} {x = i} {y = n} (some s i h) .1 h in
-        ap (λ (x : ℕ). getD b x 0) (sym e) ∙ sym (byte-at s n j b p into low) ∙ ap (λ l. getD l p 0) (same j low)
-        ∙ byte-at s n j c p into low ∙ ap (λ (x : ℕ). getD c x 0) e
+    long : (d : List ℕ) → length d ≡ n * s → (p : ℕ) → p < n → length (partAt s p d) ≡ s
+    long d l p h = ap length (sym (packet-at s n d p h)) ∙ all-getD (packets-sized s n d l) p (let e = packets-length s n d in omega arith)
 
 -- ---- the bytes of one position as packets of one byte
 abbrev pub eachByte : ℕ → List (List ℕ) → List (List ℕ)

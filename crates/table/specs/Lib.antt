@@ -6,6 +6,7 @@ pub mod Checks
 pub mod ChecksLaws
 pub mod CodewordLaws
 pub mod Codewords
+pub mod EachByteLaws
 pub mod FirstCause
 pub mod FirstCauseLaws
 pub mod GatherLaws

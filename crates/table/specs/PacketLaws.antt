@@ -4,9 +4,10 @@ use mathlib.Core.List.{List, [], _∷_, _++_, append-assoc}
 use Prim.Native.Nat.{ℕ, zero, suc, _+_, _*_, _<_}
 use native.Mathlib.Omega.{arith}
 use lib.Bits.{bitXor}
-use lib.ListN.{length-replicate, length, getD, set, take, drop, length-append, length-drop, take-append-drop}
-use lib.Seq.{take-at, drop-at, drop-drop, length-take-le, take-append-add, drop-append-add}
+use lib.ListN.{length-replicate, length, getD, set, take, drop, length-append, length-drop}
+use lib.Seq.{take-at, take-all, take-add, drop-at, drop-drop, length-take-le, take-append-add, drop-append-add, ext-getD}
 use Rattle.gf2.specs.Gf2.{XorGroup, sumOver}
+use Rattle.table.specs.PacketCall.{partAt}
 use Rattle.table.specs.Packets.{Packets, packets, joined, packetSum}
 use Rattle.lists.specs.ListLaws.{all-getD, getD-zeros}
 use Rattle.gf2.specs.Vectors.{getD-add, length-add}
@@ -27,11 +28,14 @@ pub joined-length : (s : ℕ) {ps : List (List ℕ)} → Packets s ps → length
 joined-length s nil = omega arith
 joined-length s (cons {x = p} {l = ps} e a) = let h = joined-length s a in length-append p (joined ps) ∙ (omega arith)
 
+-- in a row again they are the first n·s bytes
+packets-first : (s n : ℕ) (b : List ℕ) → joined (packets s n b) ≡ take (n * s) b
+packets-first s zero b = ap (λ k. take k b) {x = 0} {y = 0 * s} (omega arith)
+packets-first s (suc n) b = ap (λ r. take s b ++ r) (packets-first s n (drop s b)) ∙ sym (take-add s (n * s) b) ∙ ap (λ k. take k b) {x = s + n * s} {y = suc n * s} (omega arith)
+
 -- there and back
 pub packets-joined : (s n : ℕ) (b : List ℕ) → length b ≡ n * s → joined (packets s n b) ≡ b
-packets-joined s zero [] l = refl
-packets-joined s zero (x ∷ b) l = absurd (omega arith)
-packets-joined s (suc n) b l = ap (λ r. take s b ++ r) (packets-joined s n (drop s b) (length-drop s b ∙ (omega arith))) ∙ take-append-drop s b
+packets-joined s n b l = packets-first s n b ∙ take-all (n * s) b (omega arith)
 
 -- and the other way
 pub joined-packets : (s : ℕ) {ps : List (List ℕ)} → Packets s ps → packets s (length ps) (joined ps) ≡ ps
@@ -46,6 +50,17 @@ pub packet-at : (s n : ℕ) (b : List ℕ) (p : ℕ) → p < n → getD (packets
 packet-at s zero b p h = absurd (omega arith)
 packet-at s (suc n) b zero h = ap (λ k. take s (drop k b)) {x = 0} {y = 0 * s} (omega arith)
 packet-at s (suc n) b (suc p) h = packet-at s n (drop s b) p (omega arith) ∙ ap (take s) (drop-drop (p * s) s b ∙ ap (λ k. drop k b) {x = s + p * s} {y = suc p * s} (omega arith))
+
+-- blocks that agree in their first n packets
+pub first-packets : (s n : ℕ) (b w : List ℕ) → ((p : ℕ) → p < n → partAt s p b ≡ partAt s p w) → take (n * s) b ≡ take (n * s) w
+first-packets s n b w h = sym (packets-first s n b)
+    ∙ ap joined (ext-getD [] (packets s n b) (packets s n w) (packets-length s n b ∙ sym (packets-length s n w))
+    (λ p l. let q : p < n = omega (arith, packets-length s n b) in packet-at s n b p q ∙ h p q ∙ sym (packet-at s n w p q)))
+    ∙ packets-first s n w
+
+-- and in all of them
+pub same-packets : (s n : ℕ) (b w : List ℕ) → length b ≡ n * s → length w ≡ n * s → ((p : ℕ) → p < n → partAt s p b ≡ partAt s p w) → b ≡ w
+same-packets s n b w lb lw h = sym (take-all (n * s) b (omega arith)) ∙ first-packets s n b w h ∙ take-all (n * s) w (omega arith)
 
 -- a packet replaced
 pub joined-set : (s : ℕ) {ps : List (List ℕ)} → Packets s ps → (i : ℕ) (v : List ℕ) → i < length ps

@@ -1,18 +1,23 @@
--- Where nothing is lost, refusal 8 and verification agree, and hand on the same check and byte.
+-- Where nothing is lost: what verification passes repair accepts without blame, and where repair refuses with 8 both hand on the same check
+-- and byte.
 use mathlib.Core.Path.{_≡_, refl, sym, ap, _∙_}
-use mathlib.Core.Bool.{cond}
+use mathlib.Core.Bool.{true, false}
 use mathlib.Core.List.{List, [], _∷_}
+use mathlib.Core.Logic.{_⊎_, inl, inr, _↔_}
 use mathlib.Core.Option.{Option, none, some}
 use Prim.Native.Nat.{ℕ, zero, suc}
+use native.Mathlib.Omega.{arith}
 use lib.Seq.{ext-getD}
-use Rattle.lists.specs.Tests.{byBool}
+use Rattle.blame.specs.Blame.{blamed}
+use Rattle.blame.specs.BlameLaws.{agreed-none}
+use Rattle.lists.specs.Tests.{byBool, byOpt}
 use Rattle.erasure.specs.OutcomeLaws.{none-lost, tally-lost}
-use Rattle.erasure.specs.Restoring.{State, ready, restoring, zeroLost, noneLost, contradiction, tally, outcome, contradicting}
+use Rattle.erasure.specs.Restoring.{State, ready, restoring, zeroLost, noneLost, contradiction, tally, contradicting, agreeing}
 use Rattle.erasure.specs.Stopping.{lostIn, no-lost}
 use Rattle.erasure.specs.Values.{zeroLost-length, zeroLost-kept}
 use Rattle.faults.specs.Faults.{Fault, noFault, checkOf, byteOf, failing, everyCheck}
-use Rattle.repair.specs.Repair.{repairRefusal, handedOn, repairAnswerAt, repairAnswer, Fitting}
-use Rattle.repair.specs.RepairLaws.{fitting-refusal}
+use Rattle.repair.specs.Repair.{repairOutcome, repairRefusal, handedOn, repairAnswerAt, repairAnswer, Fitting}
+use Rattle.repair.specs.RepairLaws.{agreed-refusal, blamed-refusal, contradicted-refusal}
 use Rattle.table.specs.Codewords.{zeroSum}
 use Rattle.table.specs.Packets.{packets}
 use Rattle.table.specs.Table.{places, size, checks}
@@ -45,25 +50,48 @@ same-fault t b map h =
 
 -- ---- the two calls
 pub record NothingLost (t b map : List ℕ) : Type 0 where
-  pub refusal : repairAnswer t b map .refusal ≡ cond (verifyAnswer t b .codeword) 0 8
-  pub check : repairAnswer t b map .check ≡ checkOf (verifyAnswer t b .fault)
-  pub byte : repairAnswer t b map .byte ≡ byteOf (verifyAnswer t b .fault)
+  -- a codeword is what the old repair accepts ..
+  pub old : agreeing t b map ≡ verifyAnswer t b .codeword
+  -- .. and what repair accepts without blaming a place
+  pub passes : (verifyAnswer t b .codeword ≡ true) ↔ ((repairRefusal t b map ≡ 0) × (blamed t b map ≡ none))
+  -- else repair refuses with 8, with verification's check and byte, or it blames a place
+  pub fails : verifyAnswer t b .codeword ≡ false → (repairRefusal t b map ≡ 8) ⊎ ((p : ℕ) × ((repairRefusal t b map ≡ 0) × (blamed t b map ≡ some p)))
+  pub handed-on : repairRefusal t b map ≡ 8 → (repairAnswer t b map .check ≡ checkOf (verifyAnswer t b .fault)) × (repairAnswer t b map .byte ≡ byteOf (verifyAnswer t b .fault))
 
--- what they answer of what fails
-Alike : State → Option Fault → Type 0
-Alike m f = let r = repairAnswerAt (cond (noFault f) 0 8) m (handedOn (cond (noFault f) 0 8) f) in
-    (r .refusal ≡ cond (verdict f .codeword) 0 8) × ((r .check ≡ checkOf (verdict f .fault)) × (r .byte ≡ byteOf (verdict f .fault)))
-
-alike : (m : State) (f : Option Fault) → Alike m f
-unfolding Alike
-alike m none = (refl, (refl, refl))
-alike m (some f) = (refl, (refl, refl))
+-- what verification says of what fails
+said : (f : Option Fault) → (verdict f .codeword ≡ noFault f) × (verdict f .fault ≡ f)
+said none = (refl, refl)
+said (some f) = (refl, refl)
 
 pub nothing-lost : (t b map : List ℕ) → Fitting t b map → tally 1 map ≡ 0 → NothingLost t b map
-unfolding Alike
-nothing-lost t b map fits h =
-    let e = same-fault t b map (sym (tally-lost map) ∙ h) in
-    let r : repairRefusal t b map ≡ cond (noFault (lowest t b)) 0 8 = fitting-refusal t b map fits ∙ ap (λ f. cond (noFault f) 0 8) e in
-    let v = verification-is t b (fits .table) (fits .block) in
-    let a = alike (outcome t b map) (lowest t b) in
-    record { refusal = rw (r, e, v) (a .0); check = rw (r, e, v) (a .1 .0); byte = rw (r, e, v) (a .1 .1) }
+nothing-lost t b map fits h = record {
+  old = old-is;
+  passes = (
+    (λ e. let calm = old-is ∙ e in (agreed-refusal t b map fits calm, agreed-none t b map calm)),
+    (λ r. byBool (agreeing t b map)
+        (λ calm. sym old-is ∙ calm)
+        (λ bad. let z : _≡_ {A = ℕ} 0 8 = sym (r .0) ∙ contradicted-refusal t b map fits bad (r .1) in absurd (omega arith))),
+  );
+  fails = λ e. byOpt (blamed t b map)
+      (λ p one. inr (p, (blamed-refusal t b map fits p one, one)))
+      (λ nobody. inl (contradicted-refusal t b map fits (old-is ∙ e) nobody));
+  handed-on = λ eight. (told eight .0 ∙ ap checkOf fault-is, told eight .1 ∙ ap byteOf fault-is);
+}
+  where
+    same : contradicting t b map ≡ lowest t b
+    same = same-fault t b map (sym (tally-lost map) ∙ h)
+
+    verdict-is : verifyAnswer t b ≡ verdict (lowest t b)
+    verdict-is = verification-is t b (fits .table) (fits .block)
+
+    old-is : agreeing t b map ≡ verifyAnswer t b .codeword
+    old-is = ap noFault same ∙ sym (said (lowest t b) .0) ∙ sym (ap (λ v. v .codeword) verdict-is)
+
+    fault-is : contradicting t b map ≡ verifyAnswer t b .fault
+    fault-is = same ∙ sym (said (lowest t b) .1) ∙ sym (ap (λ v. v .fault) verdict-is)
+
+    told : repairRefusal t b map ≡ 8 → (repairAnswer t b map .check ≡ checkOf (contradicting t b map)) × (repairAnswer t b map .byte ≡ byteOf (contradicting t b map))
+    told e = (
+      ap (λ r. repairAnswerAt r (repairOutcome t b map) (handedOn r (contradicting t b map)) .check) e,
+      ap (λ r. repairAnswerAt r (repairOutcome t b map) (handedOn r (contradicting t b map)) .byte) e,
+    )

@@ -15,9 +15,9 @@ use Rattle.alist.specs.AlistText.{alistText, alistWriteCauses, alistWriteRefusa
 use Rattle.plan.specs.Layout.{planCauses, planRefusal}
 use Rattle.planner.specs.Planning.{planningCauses, planningRefusalAt, planningAnswer, planningAnswerAt, planningRefusal}
 use Rattle.encoder.specs.Encoding.{encodeCauses, encodeRefusalAt, encodeAnswer, encodeAnswerAt, encodeRefusal}
-use Rattle.repair.specs.Repair.{repairCauses, repairRefusal, handedOn, repairAnswer, repairAnswerAt}
+use Rattle.repair.specs.Repair.{repairCauses, repairOutcome, repairRefusal, handedOn, repairAnswer, repairAnswerAt}
 use Rattle.full.specs.Full.{fullCauses, fullRefusal, fullAnswer, fullAnswerAt, fullMapAfter}
-use Rattle.erasure.specs.Restoring.{State, outcome, contradicting}
+use Rattle.erasure.specs.Restoring.{State, contradicting}
 use Rattle.faults.specs.Faults.{Fault}
 use Rattle.verify.specs.Verify.{verifyCauses, verifyRefusal, verifyAnswer, verifyAnswerAt}
 use Rattle.verify.specs.VerifyLaws.{lowest}
@@ -47,7 +47,7 @@ verify-refusals t b = subst (λ r. RefusedBy r (verifyCauses t b)) (sym (told (v
 -- 1 to 5, 7, 8, as repair reports it
 pub repair-refusals : (t b map : List ℕ) → RefusedBy (repairAnswer t b map .refusal) (repairCauses t b map)
 unfolding repairRefusal
-repair-refusals t b map = subst (λ r. RefusedBy r (repairCauses t b map)) (sym (told (repairRefusal t b map) (outcome t b map) (handedOn (repairRefusal t b map) (contradicting t b map)))) (refused-by (repairCauses t b map) refl)
+repair-refusals t b map = subst (λ r. RefusedBy r (repairCauses t b map)) (sym (told (repairRefusal t b map) (repairOutcome t b map) (handedOn (repairRefusal t b map) (contradicting t b map)))) (refused-by (repairCauses t b map) refl)
   where
     told : (r : ℕ) (m : State) (f : Option Fault) → repairAnswerAt r m f .refusal ≡ r
     told zero m f = refl

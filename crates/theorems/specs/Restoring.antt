@@ -2,26 +2,23 @@
 -- stopping set among the lost places, each as it was sent, and none inside it."
 use mathlib.Core.Path.{_≡_, sym, ap, _∙_}
 use mathlib.Core.Bool.{Bool, true, false, true≢false}
-use mathlib.Core.List.{List, []}
+use mathlib.Core.List.{List}
 use mathlib.Core.Logic.{⊎-elim}
-use Prim.Native.Nat.{ℕ, _*_, _<_}
-use native.Mathlib.Omega.{arith}
+use Prim.Native.Nat.{ℕ, _<_}
 use lib.Dec.{eqb}
-use lib.ListN.{length, getD}
-use lib.Seq.{ext-getD}
+use lib.ListN.{getD}
 use Rattle.lists.specs.Tests.{eqb-true}
 use Rattle.table.specs.Codewords.{IsCodeword}
 use Rattle.table.specs.PacketCall.{partAt}
-use Rattle.table.specs.PacketLaws.{packets-length, packets-joined, packet-at}
-use Rattle.table.specs.Packets.{packets, joined}
+use Rattle.table.specs.PacketLaws.{same-packets}
 use Rattle.table.specs.Table.{places, size}
-use Rattle.erasure.specs.Restoring.{Largest, outcome, isLost}
+use Rattle.erasure.specs.Restoring.{Largest, isLost}
 use Rattle.erasure.specs.Largest.{largest-only}
+use Rattle.erasure.specs.LostLaws.{not-lost, is-lost}
 use Rattle.erasure.specs.OutcomeLaws.{tally-lost}
 use Rattle.erasure.specs.Stopping.{no-lost}
 use Rattle.repair.specs.Repair.{repairRefusal, repairAnswer, repairBlockAfter, repairMapAfter, Fitting, Agree}
-use Rattle.repair.specs.RepairLaws.{map-accepted}
-use Rattle.repair.specs.RepairTheorems.{AcceptedRepair, Repairing, accepted-repair, repairing}
+use Rattle.repair.specs.RepairTheorems.{AcceptedRepair, Repairing, accepted-plainly, repairing}
 
 -- repair of what arrived of the block w, L being the largest stopping set among the lost places
 pub record Restores (t b map w : List ℕ) (L : ℕ → Bool) : Type 0 where
@@ -37,19 +34,12 @@ pub record Restores (t b map w : List ℕ) (L : ℕ → Bool) : Type 0 where
   -- nothing stays lost: the block that was sent
   pub whole : repairAnswer t b map .lost ≡ 0 → repairBlockAfter t b map ≡ w
 
--- two blocks that agree in every packet
-same-packets : (n s : ℕ) (b w : List ℕ) → length b ≡ n * s → length w ≡ n * s → ((p : ℕ) → p < n → partAt s p b ≡ partAt s p w) → b ≡ w
-same-packets n s b w lb lw h = sym (packets-joined s n b lb)
-    ∙ ap joined (ext-getD [] (packets s n b) (packets s n w) (packets-length s n b ∙ sym (packets-length s n w))
-    (λ p l. let q : p < n = omega (arith, packets-length s n b) in packet-at s n b p q ∙ h p q ∙ sym (packet-at s n w p q)))
-    ∙ packets-joined s n w lw
-
 module _ (t b map w : List ℕ) (fits : Fitting t b map) (word : IsCodeword t w) (agree : Agree t b map w) where
   r : Repairing t b map w
   r = repairing t b map w fits word agree
 
   a : AcceptedRepair t b map
-  a = accepted-repair t b map (r .not-refused)
+  a = accepted-plainly t b map fits (r .agrees)
 
   -- a place that is not lost afterwards
   found : (p : ℕ) → isLost (repairMapAfter t b map) p ≡ false → getD (repairMapAfter t b map) p 0 ≡ 1 → ⊥
@@ -57,14 +47,17 @@ module _ (t b map w : List ℕ) (fits : Fitting t b map) (word : IsCodeword t w)
 
   -- where nothing stays lost
   all-found : repairAnswer t b map .lost ≡ 0 → (p : ℕ) → isLost (repairMapAfter t b map) p ≡ false
-  all-found h = rw (map-accepted t b map (r .not-refused)) (no-lost (outcome t b map .map) (sym (tally-lost (outcome t b map .map)) ∙ (rw (r .not-refused) at h)))
+  all-found h = no-lost (repairMapAfter t b map) (sym (tally-lost (repairMapAfter t b map)) ∙ sym (a .lost) ∙ h)
+
+  stays : Largest t map (isLost (repairMapAfter t b map))
+  stays = a .restored-by .stays
 
   pub restores : (L : ℕ → Bool) → Largest t map L → Restores t b map w L
   restores L l = record {
     not-refused = r .not-refused;
-    outside = λ p k e out. let z : isLost (repairMapAfter t b map) p ≡ false = largest-only t map (isLost (repairMapAfter t b map)) L (a .stays) l p ∙ out in
-        (⊎-elim (λ y. absurd (found p z y)) (λ y. y) (a .lost p e), r .values p k (found p z));
-    inside = λ p e. eqb-true (getD (repairMapAfter t b map) p 0) 1 (largest-only t map (isLost (repairMapAfter t b map)) L (a .stays) l p ∙ e);
-    received = λ p k e. (a .received p k e .1, a .received p k e .0);
-    whole = λ h. same-packets (places t) (size t) (repairBlockAfter t b map) w (a .whole h .size-fits) (word .size-fits) (λ p k. r .values p k (found p (all-found h p)));
+    outside = λ p k e out. let z : isLost (repairMapAfter t b map) p ≡ false = largest-only t map (isLost (repairMapAfter t b map)) L stays l p ∙ out in
+        (⊎-elim (λ y. absurd (found p z y)) (λ y. y) (a .restored-by .lost p (is-lost map p e)), r .values p k (found p z));
+    inside = λ p e. eqb-true (getD (repairMapAfter t b map) p 0) 1 (largest-only t map (isLost (repairMapAfter t b map)) L stays l p ∙ e);
+    received = λ p k e. let same = a .restored-by .known p k (not-lost map p e) in (same .1 ∙ e, same .0);
+    whole = λ h. same-packets (size t) (places t) (repairBlockAfter t b map) w (a .whole h .size-fits) (word .size-fits) (λ p k. r .values p k (found p (all-found h p)));
   }

@@ -4,17 +4,16 @@ use mathlib.Core.Path.{_≡_, sym, ap, _∙_, subst}
 use mathlib.Core.Bool.{false}
 use mathlib.Core.List.{List}
 use mathlib.Core.Logic.{_⊎_}
-use Prim.Native.Nat.{ℕ, _+_, _-_, _*_, _/_, _%_, _<_, _≤_}
-use native.Mathlib.Nat.{div-add-mod', div-lt-iff-lt-mul, mod-lt, mul-le-mul}
+use Prim.Native.Nat.{ℕ, _+_, _-_, _*_, _<_, _≤_}
 use native.Mathlib.Omega.{arith}
 use borrow.Author.Tests.{le-ltb}
 use lib.ListN.{length, getD, take}
-use lib.Seq.{ext-getD, getD-take, length-take-le}
-use Rattle.lists.specs.Buffers.{getD-part}
+use lib.Seq.{take-all}
 use Rattle.lists.specs.ListLaws.{all-map}
 use Rattle.lists.specs.Lists.{from}
 use Rattle.lists.specs.Numbers.{from-at}
 use Rattle.table.specs.PacketCall.{partAt}
+use Rattle.table.specs.PacketLaws.{first-packets}
 use Rattle.table.specs.Table.{places, checks}
 use Rattle.making.specs.Sorted.{rising-low}
 use Rattle.staircase.specs.Ascending.{stairs-count}
@@ -39,19 +38,6 @@ pub record PlannedInOrder (k n : ℕ) (t : List ℕ) : Type 0 where
   pub information : planOf t .info ≡ from 0 k
   pub accepted : (planBuffer work : List ℕ) → leastPlan ≤ length planBuffer → length work ≡ workWords → planningRefusal t planBuffer work ≡ 0
   pub refused : (planBuffer work : List ℕ) → (planningRefusal t planBuffer work ≡ 0) ⊎ (planningRefusal t planBuffer work ≡ 5)
-
--- packets alike, so bytes alike
-same-bytes : (s k : ℕ) (b c : List ℕ) → 0 < s → k * s ≤ length b → length c ≡ k * s → ((j : ℕ) → j < k → partAt s j b ≡ partAt s j c) → take (k * s) b ≡ c
-same-bytes s k b c some long whole same = ext-getD 0 (take (k * s) b) c (length-take-le (k * s) b long ∙ sym whole) (λ i h.
-    let l : i < k * s = subst (λ (x : ℕ). i < x) (length-take-le (k * s) b long) h in
-    let j = i / s in
-    let r = i % s in
-    let e : j * s + r ≡ i = div-add-mod' i s in
-    let low : r < s = mod-lt i some in
-    let into : j < k = div-lt-iff-lt-mul {k = s} {x = i} {y = k} some .1 l in
-    getD-take (k * s) b i 0 l ∙ ap (λ (x : ℕ). getD b x 0) (sym e) ∙ sym (getD-part b (j * s) s r low)
-    ∙ ap (λ x. getD x r 0) (same j into)
-    ∙ getD-part c (j * s) s r low ∙ ap (λ (x : ℕ). getD c x 0) e)
 
 -- the table t that the call has left in its buffer
 module _ (k n ones seed s : ℕ) (buffer : List ℕ) (made : staircaseRefusal k n ones seed s buffer ≡ 0) where
@@ -140,9 +126,4 @@ module _ (k n ones seed s : ℕ) (buffer : List ℕ) (made : staircaseRefusal k 
         lent .info-long ∙ ap (λ x. x * z) e
 
     pub made-in-order : take (k * z) sent ≡ information
-    made-in-order =
-        let a = left .above in
-        let q = facts .places-are in
-        let fits : k * z ≤ places t * z = mul-le-mul {n₂ = places t} {m₂ = z} (omega arith) (omega arith) in
-        let l = one .carries .long in
-        same-bytes z k sent information (lent .some-bytes) (omega arith) information-long in-order
+    made-in-order = first-packets z k sent information in-order ∙ take-all (k * z) information (let l = information-long in omega arith)

@@ -5,6 +5,8 @@ use mathlib.Core.Bool.{cond}
 use mathlib.Core.List.{List, [], _∷_, _++_, map}
 use Prim.Native.Nat.{ℕ, _+_, _-_, _*_}
 use lib.ListN.{length, replicate}
+use Rattle.blame.specs.Blame.{blamed}
+use Rattle.erasure.specs.Restoring.{agreeing, blockIf, mapIf}
 use Rattle.faults.specs.Faults.{checkOf, byteOf}
 use Rattle.lists.specs.Lists.{from}
 use Rattle.making.specs.Making.{tableWords}
@@ -17,6 +19,7 @@ use Rattle.plan.specs.Step.{addSteps}
 use Rattle.planner.specs.Planning.{planOf, numbersOf, planningRefusalAt, leastPlan, workWords}
 use Rattle.encoder.specs.Encoding.{encodeRefusalAt, encodeAnswer, encodeBlockAfter, encodeScratchAfter}
 use Rattle.repair.specs.Repair.{repairRefusal, repairAnswer, repairBlockAfter, repairMapAfter}
+use Rattle.repair.specs.RepairTheorems.{oldAnswer}
 use Rattle.full.specs.Full.{fullRefusal, fullAnswer, fullBlockAfter, fullMapAfter}
 use Rattle.table.specs.Packets.{lowestNonzero}
 use Rattle.table.specs.Table.{atSize}
@@ -89,6 +92,11 @@ abbrev pub mended : List ℕ → List ℕ → List ℕ → List (List ℕ)
 mended t b map = let r = repairAnswer t b map in
     (r .refusal ∷ r .restored ∷ r .lost ∷ r .additions ∷ []) ∷ (r .check ∷ r .byte ∷ []) ∷ repairBlockAfter t b map ∷ repairMapAfter t b map ∷ []
 
+-- the repair without C-17's rule: the same
+abbrev oldMended : List ℕ → List ℕ → List ℕ → List (List ℕ)
+oldMended t b map = let r = oldAnswer t b map in
+    (r .refusal ∷ r .restored ∷ r .lost ∷ r .additions ∷ []) ∷ (r .check ∷ r .byte ∷ []) ∷ blockIf (agreeing t b map) t b map ∷ mapIf (agreeing t b map) t b map ∷ []
+
 -- full repair, with work of the right length: refusal, restored and still lost, the check and its byte, the block and the map
 abbrev pub fullyMended : List ℕ → List ℕ → List ℕ → List (List ℕ)
 fullyMended t b map = let work : List ℕ = replicate workWords 0 in let r = fullAnswer t b map work in
@@ -129,17 +137,35 @@ starred =
     ∷ record { given = mended tableA (0x01 ∷ 0x02 ∷ 0xff ∷ 0x0e ∷ 0xff ∷ 0x0b ∷ 0xff ∷ []) (0 ∷ 0 ∷ 1 ∷ 0 ∷ 1 ∷ 0 ∷ 1 ∷ []); wanted = (0 ∷ 0 ∷ 3 ∷ 0 ∷ []) ∷ (0 ∷ 0 ∷ []) ∷ (0x01 ∷ 0x02 ∷ 0x00 ∷ 0x0e ∷ 0x00 ∷ 0x0b ∷ 0x00 ∷ []) ∷ (0 ∷ 0 ∷ 1 ∷ 0 ∷ 1 ∷ 0 ∷ 1 ∷ []) ∷ [] }
     -- P7: with the fourth check M stays 3, all restored
     ∷ record { given = planning tableA4 ∷ (planOf tableA4 .M ∷ []) ∷ mended tableA4 (0x01 ∷ 0x02 ∷ 0xff ∷ 0x0e ∷ 0xff ∷ 0x0b ∷ 0xff ∷ []) (0 ∷ 0 ∷ 1 ∷ 0 ∷ 1 ∷ 0 ∷ 1 ∷ []); wanted = (0 ∷ []) ∷ (3 ∷ []) ∷ (0 ∷ 3 ∷ 0 ∷ 9 ∷ []) ∷ (0 ∷ 0 ∷ []) ∷ block2 ∷ (0 ∷ 0 ∷ 2 ∷ 0 ∷ 2 ∷ 0 ∷ 2 ∷ []) ∷ [] }
-    -- P8: 11 at place 0, none lost: refusal 8, by check 0 at byte 0
-    ∷ record { given = mended tableA (0x11 ∷ 0x02 ∷ 0x04 ∷ 0x0e ∷ 0x08 ∷ 0x0b ∷ 0x0d ∷ []) (0 ∷ 0 ∷ 0 ∷ 0 ∷ 0 ∷ 0 ∷ 0 ∷ []); wanted = (8 ∷ 0 ∷ 0 ∷ 0 ∷ []) ∷ (0 ∷ 0 ∷ []) ∷ (0x11 ∷ 0x02 ∷ 0x04 ∷ 0x0e ∷ 0x08 ∷ 0x0b ∷ 0x0d ∷ []) ∷ (0 ∷ 0 ∷ 0 ∷ 0 ∷ 0 ∷ 0 ∷ 0 ∷ []) ∷ [] }
+    -- P8: 11 at place 0, none lost. The repair without C-17's rule: refusal 8, by check 0 at byte 0
+    ∷ record { given = oldMended tableA (0x11 ∷ 0x02 ∷ 0x04 ∷ 0x0e ∷ 0x08 ∷ 0x0b ∷ 0x0d ∷ []) (0 ∷ 0 ∷ 0 ∷ 0 ∷ 0 ∷ 0 ∷ 0 ∷ []); wanted = (8 ∷ 0 ∷ 0 ∷ 0 ∷ []) ∷ (0 ∷ 0 ∷ []) ∷ (0x11 ∷ 0x02 ∷ 0x04 ∷ 0x0e ∷ 0x08 ∷ 0x0b ∷ 0x0d ∷ []) ∷ (0 ∷ 0 ∷ 0 ∷ 0 ∷ 0 ∷ 0 ∷ 0 ∷ []) ∷ [] }
+    -- C-17: "P8 becomes P2's block with place 0 marked 3"
+    ∷ record { given = mended tableA (0x11 ∷ 0x02 ∷ 0x04 ∷ 0x0e ∷ 0x08 ∷ 0x0b ∷ 0x0d ∷ []) (0 ∷ 0 ∷ 0 ∷ 0 ∷ 0 ∷ 0 ∷ 0 ∷ []); wanted = (0 ∷ 1 ∷ 0 ∷ 3 ∷ []) ∷ (0 ∷ 0 ∷ []) ∷ block2 ∷ (3 ∷ 0 ∷ 0 ∷ 0 ∷ 0 ∷ 0 ∷ 0 ∷ []) ∷ [] }
     -- P9: no information, block 00, 0 additions, bound 0
     ∷ record { given = (planOf table9 .info) ∷ (bound table9 ∷ []) ∷ encoded table9 1 [] (9 ∷ []) []; wanted = [] ∷ (0 ∷ []) ∷ (0 ∷ []) ∷ (0 ∷ 0 ∷ []) ∷ (0x00 ∷ []) ∷ [] }
     -- P10: three information places, no step
     ∷ record { given = planning table10 ∷ planOf table10 .info ∷ (length (planOf table10 .steps) ∷ []) ∷ []; wanted = (0 ∷ []) ∷ (0 ∷ 1 ∷ 2 ∷ []) ∷ (0 ∷ []) ∷ [] }
-    -- C-12: checks 0 1, 1 2 and 0, lost 0 and 1, 01 at place 2: refusal 8, by check 2 at byte 0
-    ∷ record { given = mended table12 (0xff ∷ 0xff ∷ 0x01 ∷ []) (1 ∷ 1 ∷ 0 ∷ []); wanted = (8 ∷ 0 ∷ 0 ∷ 0 ∷ []) ∷ (2 ∷ 0 ∷ []) ∷ (0x00 ∷ 0x00 ∷ 0x01 ∷ []) ∷ (1 ∷ 1 ∷ 0 ∷ []) ∷ [] }
-    -- C-12: packets of 100 bytes, two of which sum to 05 at byte 70 and 03 at byte 80: verification and refusal 8 by check 1 at byte 70
+    -- C-12: checks 0 1, 1 2 and 0, lost 0 and 1, 01 at place 2. The repair without C-17's rule: refusal 8, by check 2 at byte 0
+    ∷ record { given = oldMended table12 (0xff ∷ 0xff ∷ 0x01 ∷ []) (1 ∷ 1 ∷ 0 ∷ []); wanted = (8 ∷ 0 ∷ 0 ∷ 0 ∷ []) ∷ (2 ∷ 0 ∷ []) ∷ (0x00 ∷ 0x00 ∷ 0x01 ∷ []) ∷ (1 ∷ 1 ∷ 0 ∷ []) ∷ [] }
+    -- C-17: place 2 is blamed
+    ∷ record { given = mended table12 (0xff ∷ 0xff ∷ 0x01 ∷ []) (1 ∷ 1 ∷ 0 ∷ []); wanted = (0 ∷ 3 ∷ 0 ∷ 2 ∷ []) ∷ (0 ∷ 0 ∷ []) ∷ (0x00 ∷ 0x00 ∷ 0x00 ∷ []) ∷ (2 ∷ 2 ∷ 3 ∷ []) ∷ [] }
+    -- C-12: packets of 100 bytes, two of which sum to 05 at byte 70 and 03 at byte 80: verification and refusal 8 by check 1 at byte 70. By
+    -- C-17 too: each of the two could be the bad one, so "8 stays"
     ∷ record { given = verified table100 (sumAt 70 80); wanted = (0 ∷ 0 ∷ []) ∷ (1 ∷ 70 ∷ []) ∷ [] }
     ∷ record { given = mended table100 (sumAt 70 80) (0 ∷ 0 ∷ 0 ∷ []); wanted = (8 ∷ 0 ∷ 0 ∷ 0 ∷ []) ∷ (1 ∷ 70 ∷ []) ∷ sumAt 70 80 ∷ (0 ∷ 0 ∷ 0 ∷ []) ∷ [] }
+    -- C-17: "Otherwise 8 stays", and "check and byte are those of the repair without this rule": two wrong packets, 11 at place 0 and 22 at
+    -- place 1 of P2's block: no place will do
+    ∷ record { given = mended tableA (0x11 ∷ 0x22 ∷ 0x04 ∷ 0x0e ∷ 0x08 ∷ 0x0b ∷ 0x0d ∷ []) (0 ∷ 0 ∷ 0 ∷ 0 ∷ 0 ∷ 0 ∷ 0 ∷ []); wanted = (8 ∷ 0 ∷ 0 ∷ 0 ∷ []) ∷ (0 ∷ 0 ∷ []) ∷ (0x11 ∷ 0x22 ∷ 0x04 ∷ 0x0e ∷ 0x08 ∷ 0x0b ∷ 0x0d ∷ []) ∷ (0 ∷ 0 ∷ 0 ∷ 0 ∷ 0 ∷ 0 ∷ 0 ∷ []) ∷ [] }
+    -- one check over two places: both will do
+    ∷ record { given = mended (2 ∷ 2 ∷ 1 ∷ 1 ∷ 2 ∷ 2 ∷ 0 ∷ 1 ∷ []) (0x05 ∷ 0x00 ∷ []) (0 ∷ 0 ∷ []); wanted = (8 ∷ 0 ∷ 0 ∷ 0 ∷ []) ∷ (0 ∷ 0 ∷ []) ∷ (0x05 ∷ 0x00 ∷ []) ∷ (0 ∷ 0 ∷ []) ∷ [] }
+    -- C-17: a place in no check is never blamed: checks 0 and 1, and place 2
+    ∷ record { given = mended (2 ∷ 3 ∷ 1 ∷ 2 ∷ 1 ∷ 1 ∷ 2 ∷ 0 ∷ 1 ∷ []) (0x05 ∷ 0x00 ∷ 0x07 ∷ []) (0 ∷ 0 ∷ 0 ∷ []); wanted = (0 ∷ 1 ∷ 0 ∷ 0 ∷ []) ∷ (0 ∷ 0 ∷ []) ∷ (0x00 ∷ 0x00 ∷ 0x07 ∷ []) ∷ (3 ∷ 0 ∷ 0 ∷ []) ∷ [] }
+    -- C-17: nor is one that is not restored: checks 0 1 and 0 1 2, lost 1; with 0 lost too nothing contradicts, and nothing is restored
+    ∷ record { given = mended (2 ∷ 3 ∷ 1 ∷ 2 ∷ 2 ∷ 3 ∷ 5 ∷ 0 ∷ 1 ∷ 0 ∷ 1 ∷ 2 ∷ []) (0x03 ∷ 0xff ∷ 0x05 ∷ []) (0 ∷ 1 ∷ 0 ∷ []); wanted = (0 ∷ 2 ∷ 0 ∷ 3 ∷ []) ∷ (0 ∷ 0 ∷ []) ∷ (0x03 ∷ 0x03 ∷ 0x00 ∷ []) ∷ (0 ∷ 2 ∷ 3 ∷ []) ∷ [] }
+    -- C-17: checks 0 1, 0 2, 3 4 and 1 5, lost 3, 4 and 5, place 0 wrong: 3 and 4 stay lost
+    ∷ record { given = mended (2 ∷ 6 ∷ 1 ∷ 4 ∷ 2 ∷ 2 ∷ 2 ∷ 2 ∷ 8 ∷ 0 ∷ 1 ∷ 0 ∷ 2 ∷ 3 ∷ 4 ∷ 1 ∷ 5 ∷ []) (0x17 ∷ 0x07 ∷ 0x07 ∷ 0xff ∷ 0xff ∷ 0xff ∷ []) (0 ∷ 0 ∷ 0 ∷ 1 ∷ 1 ∷ 1 ∷ []); wanted = (0 ∷ 2 ∷ 2 ∷ 2 ∷ []) ∷ (0 ∷ 0 ∷ []) ∷ (0x07 ∷ 0x07 ∷ 0x07 ∷ 0x00 ∷ 0x00 ∷ 0x07 ∷ []) ∷ (3 ∷ 0 ∷ 0 ∷ 1 ∷ 1 ∷ 2 ∷ []) ∷ [] }
+    -- C-17: it can blame a right packet: checks 1 2, 0 1 2 3 and 2 3, zeros sent, 2 and 3 lost, place 1 wrong: place 0 is blamed
+    ∷ record { given = mended (2 ∷ 4 ∷ 1 ∷ 3 ∷ 2 ∷ 4 ∷ 2 ∷ 8 ∷ 1 ∷ 2 ∷ 0 ∷ 1 ∷ 2 ∷ 3 ∷ 2 ∷ 3 ∷ []) (0x00 ∷ 0x01 ∷ 0xff ∷ 0xff ∷ []) (0 ∷ 0 ∷ 1 ∷ 1 ∷ []); wanted = (0 ∷ 3 ∷ 0 ∷ 5 ∷ []) ∷ (0 ∷ 0 ∷ []) ∷ (0x01 ∷ 0x01 ∷ 0x01 ∷ 0x01 ∷ []) ∷ (3 ∷ 0 ∷ 2 ∷ 2 ∷ []) ∷ [] }
     -- C-14: lost 2, 4, 6 of P2's block "comes back as 04 08 0d"
     ∷ record { given = fullyMended tableA (0x01 ∷ 0x02 ∷ 0xff ∷ 0x0e ∷ 0xff ∷ 0x0b ∷ 0xff ∷ []) (0 ∷ 0 ∷ 1 ∷ 0 ∷ 1 ∷ 0 ∷ 1 ∷ []); wanted = (0 ∷ 3 ∷ 0 ∷ []) ∷ (0 ∷ 0 ∷ []) ∷ (0x01 ∷ 0x02 ∷ 0x04 ∷ 0x0e ∷ 0x08 ∷ 0x0b ∷ 0x0d ∷ []) ∷ (0 ∷ 0 ∷ 2 ∷ 0 ∷ 2 ∷ 0 ∷ 2 ∷ []) ∷ [] }
     -- C-14: "lost 2, 4, 5 stays lost"
@@ -166,5 +192,5 @@ starred =
     ∷ []
 
 pub starred-cases : map (λ c. c .given) starred ≡ map (λ c. c .wanted) starred
-unfolding planningRefusalAt encodeRefusalAt repairRefusal fullRefusal verifyRefusal lowestNonzero planOf numbersOf alistWriteRefusalAt alistReadRefusalAt alistText alistTable numbersIn digitsWithin from
+unfolding planningRefusalAt encodeRefusalAt repairRefusal blamed fullRefusal verifyRefusal lowestNonzero planOf numbersOf alistWriteRefusalAt alistReadRefusalAt alistText alistTable numbersIn digitsWithin from
 starred-cases = refl

@@ -3,6 +3,7 @@
 use mathlib.Core.Path.{_≡_, refl}
 use mathlib.Core.List.{List, [], _∷_, _++_, map}
 use Prim.Native.Nat.{ℕ}
+use Rattle.blame.specs.Blame.{blamed}
 use Rattle.encoder.specs.Encoding.{encodeRefusalAt}
 use Rattle.planner.specs.Planning.{planOf, numbersOf, planningRefusalAt}
 use Rattle.repair.specs.Repair.{repairRefusal}
@@ -23,5 +24,5 @@ worked =
     ∷ []
 
 pub worked-cases : map (λ c. c .given) worked ≡ map (λ c. c .wanted) worked
-unfolding planningRefusalAt encodeRefusalAt repairRefusal planOf numbersOf
+unfolding planningRefusalAt encodeRefusalAt repairRefusal blamed planOf numbersOf
 worked-cases = refl

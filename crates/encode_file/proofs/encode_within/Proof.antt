@@ -1,6 +1,6 @@
 -- `encode_file::encode_within` is safe: the parts lie within the buffers.
 use borrow.Author.Needs.{needs}
-use Rattle.encode_file.proofs.Sizes.{part-of-same}
+use Rattle.table.specs.BufferLaws.{part-of-same}
 use Rattle.encode_file.proofs.encode_within.Statement.{statement}
 use Rattle.encode_file.proofs.encode_within.Tie as tie
 

@@ -1,6 +1,7 @@
 -- `peel::peel_kept` meets its contract.
 use Rattle.table.specs.Accepted.{few-places, few-checks}
-use Rattle.peel.proofs.KeptLive.{part-long, zeros-all, zeros-part}
+use Rattle.peel.proofs.KeptLive.{zeros-all, zeros-part}
+use Rattle.table.specs.BufferLaws.{part-of-same}
 use borrow.Author.Needs.{needs}
 use Rattle.peel.proofs.peel_kept.Statement.{statement}
 use Rattle.peel.proofs.peel_kept.Tie as tie
@@ -12,7 +13,7 @@ array-borrow-prefix-count : tie.Need-array-borrow-prefix-count
 array-borrow-prefix-count c = few-places _ _ _ _ (c .before .before .before .before .before .before .before .pre .0 .table)
 
 slice-aggregate-peel-live-2 : tie.Need-slice-aggregate-peel-live-2
-slice-aggregate-peel-live-2 c = let w = few-places _ _ _ _ (c .before .before .before .before .before .before .before .before .pre .0 .table) in part-long 1024 (c .before .before .before .before .before .before .before .before .args .n) w
+slice-aggregate-peel-live-2 c = let w = few-places _ _ _ _ (c .before .before .before .before .before .before .before .before .pre .0 .table) in part-of-same (c .before .before .before .before .before .before .before .before .args .n) 1024 0 w
 
 slice-aggregate-peel-live-3 : tie.Need-slice-aggregate-peel-live-3
 slice-aggregate-peel-live-3 c = search needs
@@ -28,7 +29,7 @@ peel-live-requires c κs =
         (
           record {
             flags = few-checks _ _ _ _ (p .0 .table);
-            counts = part-long 1024 n w;
+            counts = part-of-same n 1024 0 w;
             named = w;
             none-live = zeros-all 512;
             none-counted = zeros-part 1024 n;

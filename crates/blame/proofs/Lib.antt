@@ -1,0 +1,4 @@
+pub mod Copying
+pub mod Narrowing
+pub mod Searching
+pub mod Undoing

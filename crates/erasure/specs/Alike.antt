@@ -1,0 +1,40 @@
+-- Map and additions after restoring depend on checks and map alone, whatever the packets and their size.
+use mathlib.Core.Path.{_≡_, refl, sym, ap, _∙_, subst}
+use mathlib.Core.List.{List}
+use mathlib.Core.Option.{none, some}
+use Prim.Native.Nat.{ℕ, zero, suc, _+_, _-_}
+use lib.ListN.{length, getD, set}
+use Rattle.lists.specs.Tests.{byOpt}
+use Rattle.table.specs.AnySize.{places-at, checks-at}
+use Rattle.table.specs.Packets.{packets}
+use Rattle.table.specs.Table.{places, size, atSize, checks}
+use Rattle.erasure.specs.Restoring.{State, lostPlaces, ready, restoring, zeroLost, outcome}
+
+pub record Alike (m n : State) : Type 0 where
+  pub map-alike : m .map ≡ n .map
+  pub adds-alike : m .adds ≡ n .adds
+
+-- turns keep two states alike
+pub restoring-alike : (k s r : ℕ) (cs : List (List ℕ)) (m n : State) → Alike m n → Alike (restoring k s cs m) (restoring k r cs n)
+restoring-alike zero s r cs m n a = a
+restoring-alike (suc k) s r cs m n a = byOpt (ready (m .map) cs)
+    (λ c e. let f : ready (n .map) cs ≡ some c = ap (λ l. ready l cs) (sym (a .map-alike)) ∙ e in
+    rw (e, restoring, f) (restoring-alike k s r cs _ _ (record {
+      map-alike = ap (λ l. set l (getD (lostPlaces l c) 0 0) 2) (a .map-alike);
+      adds-alike = ap (λ x. x + (length c - 1)) (a .adds-alike);
+    })))
+    (λ e. let f : ready (n .map) cs ≡ none = ap (λ l. ready l cs) (sym (a .map-alike)) ∙ e in rw (e, restoring, f) a)
+
+-- blocks b and c, tables t and u alike in places and checks
+pub outcome-alike : (t u b c map : List ℕ) → places t ≡ places u → checks t ≡ checks u → Alike (outcome t b map) (outcome u c map)
+outcome-alike t u b c map n cs =
+    subst (λ k. Alike (outcome t b map) (restoring k (size u) (checks u) end)) n
+    (subst (λ l. Alike (outcome t b map) (restoring (places t) (size u) l end)) cs
+    (restoring-alike (places t) (size t) (size u) (checks t) _ end (record { map-alike = refl; adds-alike = refl })))
+  where
+    end : State
+    end = record { block = zeroLost (size u) map (packets (size u) (places u) c); map = map; adds = 0 }
+
+-- one matrix at two sizes
+pub size-alike : (s : ℕ) (t b c map : List ℕ) → Alike (outcome (atSize s t) c map) (outcome t b map)
+size-alike s t b c map = outcome-alike (atSize s t) t c b map (places-at s t) (checks-at s t)
