@@ -37,6 +37,7 @@ onlySuspect t b map = onlyOne (suspects t b map)
 unfoldable pub blamed : List ℕ → List ℕ → List ℕ → Option ℕ
 blamed t b map = elim (agreeing t b map) [ true ↦ none | false ↦ onlySuspect t b map ]
 
+-- no place is
 abbrev pub nobody : Option ℕ → Bool
 nobody none = true
 nobody (some p) = false
