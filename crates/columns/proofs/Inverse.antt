@@ -25,6 +25,7 @@ use Rattle.table.specs.TableLaws.{accepted}
 use Rattle.rule.specs.Rule.{Solved, putInAll, reduced, owns, restricted, inverse}
 use Rattle.rule.specs.Buffers.{solved, maskBits, Fitted}
 use Rattle.rule.specs.Inverse.{pow, res-bit-in}
+use Rattle.rule.specs.Choices.{Chooses, byFreed}
 use Rattle.rule.specs.AllChecksZero.{ts, az, E, C, F, same, own-zero, dF, ind, good, lens}
 use Rattle.gf2.specs.Linear.{lin-comb}
 use Rattle.gf2.specs.RowValue.{valOn-lin, sum-ext-in}
@@ -84,31 +85,31 @@ length-bits zero m = refl
 length-bits (suc g) m = ap suc (length-bits g (m / 2))
 
 -- ---- the end
-module _ (n : ℕ) (cs : List (List ℕ)) (d : All Distinct cs) (low : All (λ c. All (λ p. p < n) c) cs) where
+module _ (ch : Chooses) (n : ℕ) (cs : List (List ℕ)) (d : All Distinct cs) (low : All (λ c. All (λ p. p < n) c) cs) where
   abbrev EE : List ℕ
-  EE = E n cs d low
+  EE = E ch n cs d low
 
   abbrev FF : List ℕ
-  FF = F n cs d low
+  FF = F ch n cs d low
 
   abbrev gap : ℕ
-  gap = length (az n cs d low)
+  gap = length (az ch n cs d low)
 
   -- nobody's own place has a column
-  all-places : choose XorGroup isZero (column EE) [] (below n) ≡ C n cs d low
-  all-places = choose-some (column EE) (λ p. not (has p (owns (ts n cs d low)))) (λ p e. column-zero p (own-zero n cs d low p (not-false _ e))) [] (below n)
+  all-places : choose XorGroup isZero (column EE) [] (below n) ≡ C ch n cs d low
+  all-places = choose-some (column EE) (λ p. not (has p (owns (ts ch n cs d low)))) (λ p e. column-zero p (own-zero ch n cs d low p (not-false _ e))) [] (below n)
 
   rows-number : length EE ≡ gap
-  rows-number = length-map (az n cs d low) (λ c. putInAll (ts n cs d low) (rowOf c))
+  rows-number = length-map (az ch n cs d low) (λ c. putInAll (ts ch n cs d low) (rowOf c))
 
   module _ {r : ℕ} {M L : List ℕ} (s : Scan (column EE) (choose XorGroup isZero (column EE) [] (below n)) gap 0 r M L) where
-    found : C n cs d low ≡ rev (slice r gap L)
+    found : C ch n cs d low ≡ rev (slice r gap L)
     found = sym all-places ∙ s .rest ∙ append-nil (rev (slice r gap L))
 
     none-left : r ≡ 0
     none-left =
         let a = s .most in
-        let b : length (slice r gap L) ≡ gap = sym (length-rev (slice r gap L)) ∙ ap length (sym found) ∙ sym (length-rev (C n cs d low)) ∙ same n cs d low ∙ rows-number in
+        let b : length (slice r gap L) ≡ gap = sym (length-rev (slice r gap L)) ∙ ap length (sym found) ∙ sym (length-rev (C ch n cs d low)) ∙ same ch n cs d low ∙ rows-number in
         let e = length-slice r gap L (s .room .1) in
         omega arith
 
@@ -119,7 +120,7 @@ module _ (n : ℕ) (cs : List (List ℕ)) (d : All Distinct cs) (low : All (λ c
     place-at j h = ap (λ (l : List ℕ). getD l j 0) (sym places-are) ∙ getD-take gap L j 0 h
 
     number-of : length FF ≡ gap
-    number-of = same n cs d low ∙ rows-number
+    number-of = same ch n cs d low ∙ rows-number
 
     -- the k-th place's mask sees the column of the k-th place alone
     sees-own : (j i : ℕ) → j < gap → i < gap → dot (getD M j 0) (column EE (getD L i 0)) ≡ eqb (getD L i 0) (getD L j 0)
@@ -146,7 +147,7 @@ module _ (n : ℕ) (cs : List (List ℕ)) (d : All Distinct cs) (low : All (λ c
       f-in = ap (λ (x : ℕ). has x FF) (sym (place-at j lj)) ∙ getD-has FF j (let z = number-of in omega arith)
 
       rule-sums : restricted FF (comb XorGroup k EE) ≡ 2 ^ f
-      rule-sums = lin-comb XorGroup XorGroup (valOn-lin XorGroup pow FF) k EE ∙ all-in (λ q. comb XorGroup (inverse EE FF q) (map (restricted FF) EE) ≡ 2 ^ q) f f-in (good n cs d low)
+      rule-sums = lin-comb XorGroup XorGroup (valOn-lin XorGroup pow FF) k EE ∙ all-in (λ q. comb XorGroup (inverse EE FF q) (map (restricted FF) EE) ≡ 2 ^ q) f f-in (good ch n cs d low)
 
       -- both see the same of the fitted places
       at-place : (i : ℕ) → i < length FF → bit (getD FF i 0) (comb XorGroup m EE) ≡ bit (getD FF i 0) (comb XorGroup k EE)
@@ -157,18 +158,18 @@ module _ (n : ℕ) (cs : List (List ℕ)) (d : All Distinct cs) (low : All (λ c
           sym (pair-column m EE q) ∙ pair-dot gap (getD M j 0) (column EE q) (s .low q)
           ∙ ap (λ (x : ℕ). dot (getD M j 0) (column EE x)) (place-at i li) ∙ sees-own j i lj li ∙ ap (λ (x : ℕ). eqb x f) (sym (place-at i li)) in
           let rule : bit q (comb XorGroup k EE) ≡ eqb q f =
-          sym (res-bit-in q (dF n cs d low) (getD-has FF i h) (comb XorGroup k EE)) ∙ ap (bit q) rule-sums ∙ bit-pow q f in
+          sym (res-bit-in q (dF ch n cs d low) (getD-has FF i h) (comb XorGroup k EE)) ∙ ap (bit q) rule-sums ∙ bit-pow q f in
           mine ∙ sym rule
 
       pub row-is : m ≡ k
-      row-is = mask-unique XorGroup (ind n cs d low) m k
+      row-is = mask-unique XorGroup (ind ch n cs d low) m k
           (length-bits gap (getD M j 0) ∙ sym (length-map EE (restricted FF) ∙ rows-number))
-          (all-in (λ q. length (inverse EE FF q) ≡ gap) f f-in (lens n cs d low) ∙ sym (length-map EE (restricted FF) ∙ rows-number))
+          (all-in (λ q. length (inverse EE FF q) ≡ gap) f f-in (lens ch n cs d low) ∙ sym (length-map EE (restricted FF) ∙ rows-number))
           (sym (lin-comb XorGroup XorGroup (valOn-lin XorGroup pow FF) m EE)
           ∙ sum-ext-in XorGroup (all-index FF (λ i h. ap (λ (b : Bool). cond b (2 ^ getD FF i 0) 0) (at-place i h)))
           ∙ lin-comb XorGroup XorGroup (valOn-lin XorGroup pow FF) k EE)
 
-    pub fits : Fitted n (ts n cs d low) (az n cs d low) gap L M
+    pub fits : Fitted n (ts ch n cs d low) (az ch n cs d low) gap L M
     fits = record { room = (s .room .1, s .room .0); places = places-are; row-of = row-is }
 
 -- ---- for a table
@@ -188,10 +189,10 @@ fits-table {t} {m} {n} {starts} {order} {owns} {taken} {aside} {g} y =
     let T = solved (check t (number t)) order owns taken in
     let Z = map (check t (number t)) (take g aside) in
     let len : length Z ≡ g = length-map (take g aside) (check t (number t)) ∙ length-take-le g aside rm in
-    let a : Ends (places t) (ts (places t) (checks t) (ok .distinct) (ok .low)) (az (places t) (checks t) (ok .distinct) (ok .low)) (length (az (places t) (checks t) (ok .distinct) (ok .low))) =
-    λ r M L s. fits (places t) (checks t) (ok .distinct) (ok .low) s in
+    let a : Ends (places t) (ts byFreed (places t) (checks t) (ok .distinct) (ok .low)) (az byFreed (places t) (checks t) (ok .distinct) (ok .low)) (length (az byFreed (places t) (checks t) (ok .distinct) (ok .low))) =
+    λ r M L s. fits byFreed (places t) (checks t) (ok .distinct) (ok .low) s in
     let b : Ends (places t) T Z (length Z) = subst (λ (x : List (List ℕ)). Ends (places t) T x (length x)) (y .chosen .set-aside)
-    (subst (λ (x : List Solved). Ends (places t) x (az (places t) (checks t) (ok .distinct) (ok .low)) (length (az (places t) (checks t) (ok .distinct) (ok .low)))) (y .chosen .took) a) in
+    (subst (λ (x : List Solved). Ends (places t) x (az byFreed (places t) (checks t) (ok .distinct) (ok .low)) (length (az byFreed (places t) (checks t) (ok .distinct) (ok .low)))) (y .chosen .took) a) in
     let e : Ends (places t) T Z g = subst (Ends (places t) T Z) len b in
     let h : Ends n T Z g = subst (λ (x : ℕ). Ends x T Z g) (sym (y .located .table .places-are)) e in
     subst (λ (x : ℕ). Ends n (solved (check t x) order owns taken) (map (check t x) (take g aside)) g) (sym (y .located .table .number-is)) h

@@ -13,9 +13,10 @@ use Rattle.plan.specs.declared.Step.{Step}
 use Rattle.plan.specs.Head.{HeadFits}
 use Rattle.plan.specs.Layout.{mostSteps, leastPlan, leastNumbers, planHead, infoNumbers, stepNumbers, planNumbers, infoCountAt}
 use Rattle.plan.specs.Step.{addSteps}
+use Rattle.rule.specs.Choices.{byFreed}
 use Rattle.rule.specs.WithinLimits.{steps-limit, numbers-limit, kept-length}
 use Rattle.rule.specs.Buffers.{solved, peeling}
-use Rattle.rule.specs.PlanOf.{planOf, numbersOf}
+use Rattle.rule.specs.PlanOf.{planOf, numbersOf, numbersBy, planOfBy}
 use Rattle.rule.specs.Rule.{Solved, owns, planSteps, fittedPlaces, solvedOf, setAsideOf}
 use Rattle.emit.specs.Emit.{Room, solvedIn, asideIn}
 use Rattle.lists.specs.WroteLaws.{wrote-is, wrote-length, wrote-append}
@@ -53,41 +54,41 @@ module _ {t starts order us : List ℕ} {taken : ℕ} {aside : List ℕ} {g : �
   info = infoPlaces (places t) us taken fs g
 
   steps-are : planOf t .steps ≡ steps
-  unfolding planOf
+  unfolding planOfBy
   steps-are = ap₂ (planSteps (places t)) (q .chosen .took) (q .chosen .set-aside)
 
   fitted-are : fittedPlaces (places t) (solvedOf (peeling t)) (setAsideOf (peeling t)) ≡ take g fs
   fitted-are = ap₂ (fittedPlaces (places t)) (q .chosen .took) (q .chosen .set-aside) ∙ sym (q .fits .places)
 
   info-are : planOf t .info ≡ info
-  unfolding planOf
+  unfolding planOfBy
   info-are = ap₂ (λ x y. freePlaces (places t) (x ++ y))
       (ap owns (q .chosen .took) ∙ owns-are (check t (number t)) order us taken (q .chosen .room .1 .0)) fitted-are
 
   gap-are : planOf t .g ≡ g
-  unfolding planOf
+  unfolding planOfBy
   gap-are = ap length (q .chosen .set-aside) ∙ aside-length q
 
   -- the numbers, section by section
   numbers-are : {kept : ℕ} → kept ≡ planOf t .M → planNumbers (places t) g kept info steps ≡ numbersOf t
-  unfolding numbersOf
+  unfolding numbersBy
   numbers-are e = ap₂ (λ x y. planNumbers (places t) x y info steps) (sym gap-are) e
       ∙ ap₂ (planNumbers (places t) (planOf t .g) (planOf t .M)) (sym info-are) (sym steps-are)
 
   -- within the limits
   pub steps-few : length steps ≤ mostSteps
-  unfolding planOf
+  unfolding planOfBy
   steps-few = let d = accepted t (q .located .table .accepted) in let f = q .few in
-      let h = steps-limit (places t) (checks t) (d .distinct) (d .low) (d .few-ones) (omega (arith, gap-are)) in omega (arith, ap length steps-are)
+      let h = steps-limit byFreed (places t) (checks t) (d .distinct) (d .low) (d .few-ones) (omega (arith, gap-are)) in omega (arith, ap length steps-are)
 
   numbers-few : leastNumbers + length info + length steps ≤ leastPlan
-  unfolding planOf
+  unfolding planOfBy
   numbers-few = let d = accepted t (q .located .table .accepted) in let f = q .few in
-      let h = numbers-limit (places t) (checks t) (d .distinct) (d .low) (d .few-places) (d .few-ones) (omega (arith, gap-are)) in omega (arith, ap length steps-are, ap length info-are)
+      let h = numbers-limit byFreed (places t) (checks t) (d .distinct) (d .low) (d .few-places) (d .few-ones) (omega (arith, gap-are)) in omega (arith, ap length steps-are, ap length info-are)
 
   kept-low : {kept : ℕ} → kept ≡ planOf t .M → kept ≤ mostChecks
-  unfolding planOf
-  kept-low e = let d = accepted t (q .located .table .accepted) in let h = kept-length (places t) (checks t) in let n = d .few-checks in omega arith
+  unfolding planOfBy
+  kept-low e = let d = accepted t (q .located .table .accepted) in let h = kept-length (checks t) in let n = d .few-checks in omega arith
 
   pub head-fits : {w : List ℕ} {n kept : ℕ} → kept ≡ planOf t .M → leastPlan ≤ length w → n ≡ places t → HeadFits w n g kept
   head-fits e r a = let d = accepted t (q .located .table .accepted) in record {

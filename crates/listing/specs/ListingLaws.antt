@@ -13,8 +13,9 @@ use Rattle.table.specs.Table.{places, size, checks, refusal}
 use Rattle.table.specs.TableLaws.{accepted}
 use Rattle.plan.specs.Layout.{mostAside}
 use Rattle.rule.specs.WithinLimits.{kept-weight}
-use Rattle.planner.specs.Planning.{planOf, numbersOf, planningRefusalAt, leastPlan, workWords}
+use Rattle.planner.specs.Planning.{planOf, numbersOf, planningRefusalAt, leastPlan, workWords, numbersBy, planOfBy}
 use Rattle.planner.specs.PlanningLaws.{accepted-planning}
+use Rattle.rule.specs.Choices.{byFreed}
 use Rattle.theorems.specs.OwnPlan.{own-info, own-steps, own-accepted}
 use Rattle.table_file.specs.Words.{wordsOf, unfit}
 use Rattle.listing.specs.Listing.{tableText, listing}
@@ -23,14 +24,14 @@ use Rattle.plan_text.specs.PlanTextLaws.{plan-most, refused-most}
 
 -- ---- a table
 pub ones-few : (t : List ℕ) → refusal t ≡ 0 → planOf t .W ≤ 6144
-unfolding planOf
-ones-few t ok = let a = kept-weight (places t) (checks t) in let b = accepted t ok .few-ones in omega arith
+unfolding planOfBy
+ones-few t ok = let a = kept-weight (checks t) in let b = accepted t ok .few-ones in omega arith
 
 -- the text of an accepted table is that of its plan's numbers
 pub own-text : (t : List ℕ) → refusal t ≡ 0 → planOf t .g ≤ mostAside
     → planTextOf (numbersOf t) (size t) (planOf t .W) ≡ planText (places t) (size t) (planOf t .M) (planOf t .W) (planOf t .g) (planOf t .info) (planOf t .steps)
-unfolding numbersOf
-own-text t ok few = ap₂ (planText (places t) (size t) (planOf t .M) (planOf t .W) (planOf t .g)) (own-info t ok few) (own-steps t ok few)
+unfolding numbersBy
+own-text t ok few = ap₂ (planText (places t) (size t) (planOf t .M) (planOf t .W) (planOf t .g)) (own-info byFreed t ok few) (own-steps byFreed t ok few)
 
 pub accepted-text : (t : List ℕ) → planningRefusalAt t leastPlan workWords ≡ 0 → refusal t ≡ 0 → planOf t .g ≤ mostAside
     → tableText t ≡ planTextOf (numbersOf t) (size t) (planOf t .W)
@@ -45,7 +46,7 @@ table-most : (t : List ℕ) → length (tableText t) ≤ mostText
 table-most t = byBool (eqb (planningRefusalAt t leastPlan workWords) 0)
     (λ e. let h = eqb-true (planningRefusalAt t leastPlan workWords) 0 e in
     let ok = accepted-planning t leastPlan workWords h in
-    rw (accepted-text t h (ok .0) (ok .1)) (plan-most (numbersOf t) (size t) (planOf t .W) (own-accepted t (ok .0) (ok .1)) (accepted t (ok .0) .few-bytes) (ones-few t (ok .0))))
+    rw (accepted-text t h (ok .0) (ok .1)) (plan-most (numbersOf t) (size t) (planOf t .W) (own-accepted byFreed t (ok .0) (ok .1)) (accepted t (ok .0) .few-bytes) (ones-few t (ok .0))))
     (λ e. rw (refused-text t (eqb-false (planningRefusalAt t leastPlan workWords) 0 e)) (refused-most (planningRefusalAt t leastPlan workWords)))
 
 -- ---- a file

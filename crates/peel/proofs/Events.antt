@@ -14,40 +14,40 @@ use Rattle.lists.specs.ListLaws.{highest-lt}
 use Rattle.rule.specs.Buffers.{solved}
 use Rattle.table.specs.Accepted.{Located}
 use Rattle.table.specs.Checks.{check}
-use Rattle.rule.specs.Rule.{Solved, inOneOnly, heaviest, peel, solvedOf, setAsideOf, PeelEvent, took, aside}
-use Rattle.live.specs.Heaviest.{lives}
+use Rattle.rule.specs.Rule.{Solved, inOneOnly, mostFreed, peelBy, peel, solvedOf, setAsideOf, PeelEvent, took, aside}
+use Rattle.live.specs.Most.{lives}
 use Rattle.peel.specs.declared.Event.{Event}
 use Rattle.peel.specs.declared.Event.the-variants.{Took, Aside}
-use Rattle.peel.specs.Turn.{less, In, Pick, Picked, Picked.by-place, Picked.by-weight, Ready, Removed, Low, Peeled}
+use Rattle.peel.specs.Turn.{less, In, Pick, Picked, Picked.by-place, Picked.by-choice, Ready, Removed, Low, Peeled}
 use Rattle.peel.proofs.Turns.{in-length, in-flag}
 
 pub record PlaceSays (g : ℕ → List ℕ) (JS : List ℕ) (n p j : ℕ) : Type 0 where
   pub top : highest n (inOneOnly (map g JS)) ≡ some p
   pub pick : Pick g (has p) JS j
 
-pub record WeightSays (g : ℕ → List ℕ) (JS : List ℕ) (n j : ℕ) : Type 0 where
+pub record ChoiceSays (g : ℕ → List ℕ) (JS : List ℕ) (n j : ℕ) : Type 0 where
   pub top : highest n (inOneOnly (map g JS)) ≡ none
-  pub pick : Pick g (heaviest (map g JS)) JS j
+  pub pick : Pick g (mostFreed (map g JS)) JS j
 
 abbrev Says : (ℕ → List ℕ) → List ℕ → ℕ → Event → Type 0
 Says g JS n (Took p j) = PlaceSays g JS n p j
-Says g JS n (Aside j) = WeightSays g JS n j
+Says g JS n (Aside j) = ChoiceSays g JS n j
 
 says : {g : ℕ → List ℕ} {JS : List ℕ} {n : ℕ} {e : Event} → Picked g JS n e → Says g JS n e
 says (by-place h p) = record { top = h; pick = p }
-says (by-weight h p) = record { top = h; pick = p }
+says (by-choice h p) = record { top = h; pick = p }
 
 pub place-says : {g : ℕ → List ℕ} {JS : List ℕ} {n : ℕ} {e : Event} (p j : ℕ) → Picked g JS n e → e ≡ Took p j → PlaceSays g JS n p j
 place-says {g} {JS} {n} p j k q = subst (Says g JS n) q (says k)
 
-pub weight-says : {g : ℕ → List ℕ} {JS : List ℕ} {n : ℕ} {e : Event} (j : ℕ) → Picked g JS n e → e ≡ Aside j → WeightSays g JS n j
-weight-says {g} {JS} {n} j k q = subst (Says g JS n) q (says k)
+pub choice-says : {g : ℕ → List ℕ} {JS : List ℕ} {n : ℕ} {e : Event} (j : ℕ) → Picked g JS n e → e ≡ Aside j → ChoiceSays g JS n j
+choice-says {g} {JS} {n} j k q = subst (Says g JS n) q (says k)
 
 peel-took : (g : ℕ → List ℕ) (JS : List ℕ) (n p j k : ℕ) → PlaceSays g JS n p j → peel (suc k) n (map g JS) ≡ took p (g j) ∷ peel k n (map g (less j JS))
-peel-took g JS n p j k s = rw (s .top, peel) (ap₂ (λ (c : List ℕ) (l : List (List ℕ)). took p c ∷ peel k n l) (s .pick .is-first) (s .pick .is-rest))
+peel-took g JS n p j k s = rw (s .top, peelBy) (ap₂ (λ (c : List ℕ) (l : List (List ℕ)). took p c ∷ peel k n l) (s .pick .is-first) (s .pick .is-rest))
 
-peel-aside : (g : ℕ → List ℕ) (JS : List ℕ) (n j k : ℕ) → WeightSays g JS n j → peel (suc k) n (map g JS) ≡ aside (g j) ∷ peel k n (map g (less j JS))
-peel-aside g JS n j k s = rw (s .top, peel) (ap₂ (λ (c : List ℕ) (l : List (List ℕ)). aside c ∷ peel k n l) (s .pick .is-first) (s .pick .is-rest))
+peel-aside : (g : ℕ → List ℕ) (JS : List ℕ) (n j k : ℕ) → ChoiceSays g JS n j → peel (suc k) n (map g JS) ≡ aside (g j) ∷ peel k n (map g (less j JS))
+peel-aside g JS n j k s = rw (s .top, peelBy) (ap₂ (λ (c : List ℕ) (l : List (List ℕ)). aside c ∷ peel k n l) (s .pick .is-first) (s .pick .is-rest))
 
 solved-same : (g : ℕ → List ℕ) (a b c d : List ℕ) (k : ℕ) → ((i : ℕ) → i < k → getD a i 0 ≡ getD c i 0) → ((i : ℕ) → i < k → getD b i 0 ≡ getD d i 0) → solved g a b k ≡ solved g c d k
 unfolding solved
@@ -142,7 +142,7 @@ module _ {t : List ℕ} {m n total : ℕ} {live₀ live count names order owns a
         low = low-took j p (s .low) (in-flag live m j (y .pick .member) .0) (place-low y) lo lw;
       }
 
-  pub go-aside : (j : ℕ) → WeightSays (check t m) (lives live 0 m) n j → Removed t m (length count) j live live′ count′ names′ → put < length adj
+  pub go-aside : (j : ℕ) → ChoiceSays (check t m) (lives live 0 m) n j → Removed t m (length count) j live live′ count′ names′ → put < length adj
       → Going t m n total live₀ live′ count′ names′ order owns (set adj put j) taken (put + 1) (left - 1)
   go-aside j y r la =
       let e : left ≡ suc (left - 1) = omega arith in

@@ -1,5 +1,5 @@
 -- Laws of one turn.
-use mathlib.Core.Path.{_≡_, refl, sym, ap, ap₂, _∙_, subst}
+use mathlib.Core.Path.{_≡_, refl, sym, ap, ap₂, _∙_, subst, fun-ext}
 use mathlib.Core.Bool.{Bool, true, false, cond, true≢false}
 use mathlib.Core.List.{List, [], _∷_, map}
 use mathlib.Core.Option.{Option, none, some}
@@ -17,14 +17,15 @@ use Rattle.table.specs.Checks.{check, offset}
 use Rattle.table.specs.Table.{size}
 use Rattle.lists.specs.Tests.{eqb-true, eqb-false, eqb-self, byBool}
 use Rattle.lists.specs.Lists.{highest, has, All, All.nil, All.cons, count}
-use Rattle.lists.specs.ListLaws.{highest-is}
-use Rattle.rule.specs.Rule.{first, without, heaviest, greatest}
+use Rattle.lists.specs.ListLaws.{highest-is, all-map, all-of}
+use Rattle.rule.specs.Choices.{greatest-most}
+use Rattle.rule.specs.Rule.{first, without, freed, greatest}
 use Rattle.live.specs.Live.{Tally, Forgot, found}
-use Rattle.live.specs.Heaviest.{lives, heaviestFrom, weight}
+use Rattle.live.specs.Most.{lives, mostFrom, twos}
 use Rattle.live.specs.declared.Found.the-variants.{At, Nothing}
 use Rattle.peel.specs.declared.Event.the-variants.{Took, Aside}
 use Rattle.live.specs.TallyLaws.{Out, Out.here as ohere, Out.there as othere, tally-less, single-is}
-use Rattle.peel.specs.Turn.{less, In, In.here, In.there, Pick, Picked, Picked.by-place, Picked.by-weight, Ready, Removed}
+use Rattle.peel.specs.Turn.{less, In, In.here, In.there, Pick, Picked, Picked.by-place, Picked.by-choice, Ready, Removed}
 
 -- ---- a place in one live check names it
 abbrev name : (ℕ → List ℕ) → ℕ → ℕ → ℕ
@@ -57,64 +58,60 @@ one-is g p (j ∷ JS) h = byBool (has p (g j))
 pub tally-pick : (g : ℕ → List ℕ) (p : ℕ) {JS c x : List ℕ} → Tally g JS c x → getD c p 0 ≡ 1 → Pick g (has p) JS (getD x p 0)
 tally-pick g p {JS} s h = subst (Pick g (has p) JS) (sym (s .names p)) (one-is g p JS (sym (s .counts p) ∙ h))
 
--- ---- the heaviest
-max-l : (a b : ℕ) → b ≤ a → max a b ≡ a
-max-l a b h = omega arith
+-- ---- the first that is worth most
+module _ (worth : List ℕ → ℕ) where
+  -- worth w
+  abbrev worthIs : ℕ → List ℕ → Bool
+  worthIs w c = eqb (worth c) w
 
-max-r : (a b : ℕ) → a ≤ b → max a b ≡ b
-max-r a b h = omega arith
+  -- what a scan has found: nothing yet that is worth w, or the first that is worth most
+  data Scanned (g : ℕ → List ℕ) (b w : ℕ) (JS : List ℕ) (r : ℕ) : Type 0 where
+    stay : r ≡ b → All (λ c. worth c < w) (map g JS) → Scanned g b w JS r
+    got : w ≤ greatest worth (map g JS) → Pick g (worthIs (greatest worth (map g JS))) JS r → Scanned g b w JS r
 
-all-greatest : (a : ℕ) {L : List (List ℕ)} → All (λ c. length c < a + 1) L → greatest L ≤ a
-all-greatest a nil = omega arith
-all-greatest a (cons {x = x} {l = l} h hs) = let r = all-greatest a hs in omega arith
+  grown : (g : ℕ → List ℕ) (j r : ℕ) (JS : List ℕ) → worth (g j) < greatest worth (map g JS) → Pick g (worthIs (greatest worth (map g JS))) JS r
+      → Pick g (worthIs (greatest worth (map g (j ∷ JS)))) (j ∷ JS) r
+  grown g j r JS h p =
+      let q : max (worth (g j)) (greatest worth (map g JS)) ≡ greatest worth (map g JS) = omega arith in
+      let out : worthIs (greatest worth (map g (j ∷ JS))) (g j) ≡ false = ap (eqb (worth (g j))) q ∙ ne-eqb _ _ (λ (z : worth (g j) ≡ greatest worth (map g JS)). omega arith) in
+      pick-there g (worthIs (greatest worth (map g (j ∷ JS)))) j r JS out (subst (λ (f : List ℕ → Bool). Pick g f JS r) (sym (ap worthIs q)) p)
 
-pub data HV (g : ℕ → List ℕ) (b w : ℕ) (JS : List ℕ) (r : ℕ) : Type 0 where
-  stay : r ≡ b → All (λ c. length c < w) (map g JS) → HV g b w JS r
-  got : w ≤ greatest (map g JS) → Pick g (heaviest (map g JS)) JS r → HV g b w JS r
+  up : (g : ℕ → List ℕ) (b w j r : ℕ) (JS : List ℕ) → w ≤ worth (g j) → Scanned g j (worth (g j) + 1) JS r → Scanned g b w (j ∷ JS) r
+  up g b w j r JS h (stay e a) =
+      let s : greatest worth (map g JS) ≤ worth (g j) = greatest-most worth (worth (g j)) (all-map (λ c l. omega arith) a) in
+      let q : max (worth (g j)) (greatest worth (map g JS)) ≡ worth (g j) = omega arith in
+      let on : worthIs (greatest worth (map g (j ∷ JS))) (g j) ≡ true = ap (eqb (worth (g j))) q ∙ eqb-self (worth (g j)) in
+      got (omega arith) (subst (Pick g (worthIs (greatest worth (map g (j ∷ JS)))) (j ∷ JS)) (sym e) (pick-here g (worthIs (greatest worth (map g (j ∷ JS)))) j JS on))
+  up g b w j r JS h (got l p) = got (omega arith) (grown g j r JS (omega arith) p)
 
-abbrev heavier : ℕ → List ℕ → Bool
-heavier G c = eqb (length c) G
+  keep : (g : ℕ → List ℕ) (b w j r : ℕ) (JS : List ℕ) → worth (g j) < w → Scanned g b w JS r → Scanned g b w (j ∷ JS) r
+  keep g b w j r JS h (stay e a) = stay e (cons h a)
+  keep g b w j r JS h (got l p) = got (omega arith) (grown g j r JS (omega arith) p)
 
-grown : (g : ℕ → List ℕ) (j r : ℕ) (JS : List ℕ) → length (g j) < greatest (map g JS) → Pick g (heaviest (map g JS)) JS r → Pick g (heaviest (map g (j ∷ JS))) (j ∷ JS) r
-grown g j r JS h p =
-    let q : max (length (g j)) (greatest (map g JS)) ≡ greatest (map g JS) = max-r _ _ (omega arith) in
-    let same : heaviest (map g (j ∷ JS)) ≡ heaviest (map g JS) = ap heavier q in
-    let out : heaviest (map g (j ∷ JS)) (g j) ≡ false = ap (λ (G : ℕ). eqb (length (g j)) G) q ∙ ne-eqb _ _ (λ (z : length (g j) ≡ greatest (map g JS)). omega arith) in
-    pick-there g (heaviest (map g (j ∷ JS))) j r JS out (subst (λ (f : List ℕ → Bool). Pick g f JS r) (sym same) p)
+  scans : (g : ℕ → List ℕ) (f : ℕ → ℕ) (b w : ℕ) {JS : List ℕ} → All (λ j. f j ≡ worth (g j)) JS → Scanned g b w JS (mostFrom f b w JS)
+  unfolding mostFrom
+  scans g f b w nil = stay refl nil
+  scans g f b w (cons {x = j} {l = JS} e a) = byBool (leb w (f j))
+      (λ t. let d = leb-true w (f j) t in rw (t, mostFrom) (up g b w j _ JS (omega arith)
+      (subst (λ (v : ℕ). Scanned g j v JS (mostFrom f j (f j + 1) JS)) (ap (λ (v : ℕ). v + 1) e) (scans g f j (f j + 1) a))))
+      (λ t. let d = leb-false w (f j) t in rw (t, mostFrom) (keep g b w j _ JS (omega arith) (scans g f b w a)))
 
-up : (g : ℕ → List ℕ) (b w j r : ℕ) (JS : List ℕ) → w ≤ length (g j) → HV g j (length (g j) + 1) JS r → HV g b w (j ∷ JS) r
-up g b w j r JS h (stay e a) =
-    let q : max (length (g j)) (greatest (map g JS)) ≡ length (g j) = max-l _ _ (all-greatest (length (g j)) a) in
-    let on : heaviest (map g (j ∷ JS)) (g j) ≡ true = ap (λ (G : ℕ). eqb (length (g j)) G) q ∙ eqb-self (length (g j)) in
-    got (omega arith) (subst (Pick g (heaviest (map g (j ∷ JS))) (j ∷ JS)) (sym e) (pick-here g (heaviest (map g (j ∷ JS))) j JS on))
-up g b w j r JS h (got l p) = got (omega arith) (grown g j r JS (omega arith) p)
+  most-pick : (g : ℕ → List ℕ) (f : ℕ → ℕ) (b : ℕ) {JS : List ℕ} → All (λ j. f j ≡ worth (g j)) JS → 0 < length JS → Pick g (worthIs (greatest worth (map g JS))) JS (mostFrom f b 0 JS)
+  most-pick g f b {JS} a h = go (scans g f b 0 a) h where
+    none : (K : List ℕ) → All (λ c. worth c < 0) (map g K) → 0 < length K → ⊥
+    none [] z l = omega arith
+    none (j ∷ K) (cons z zs) l = omega arith
 
-keep : (g : ℕ → List ℕ) (b w j r : ℕ) (JS : List ℕ) → length (g j) < w → HV g b w JS r → HV g b w (j ∷ JS) r
-keep g b w j r JS h (stay e a) = stay e (cons h a)
-keep g b w j r JS h (got l p) = got (omega arith) (grown g j r JS (omega arith) p)
+    go : Scanned g b 0 JS (mostFrom f b 0 JS) → 0 < length JS → Pick g (worthIs (greatest worth (map g JS))) JS (mostFrom f b 0 JS)
+    go (stay e z) l = absurd (none JS z l)
+    go (got l p) k = p
 
-pub hv-is : (g : ℕ → List ℕ) (f : ℕ → ℕ) (b w : ℕ) {JS : List ℕ} → All (λ j. f j ≡ length (g j)) JS → HV g b w JS (heaviestFrom f b w JS)
-unfolding heaviestFrom
-hv-is g f b w nil = stay refl nil
-hv-is g f b w (cons {x = j} {l = JS} e a) = byBool (leb w (f j))
-    (λ t. let d = leb-true w (f j) t in rw (t, heaviestFrom) (up g b w j _ JS (omega arith) (subst (λ (v : ℕ). HV g j v JS (heaviestFrom f j (f j + 1) JS)) (ap (λ (v : ℕ). v + 1) e) (hv-is g f j (f j + 1) a))))
-    (λ t. let d = leb-false w (f j) t in rw (t, heaviestFrom) (keep g b w j _ JS (omega arith) (hv-is g f b w a)))
-
-pub heaviest-pick : (g : ℕ → List ℕ) (f : ℕ → ℕ) (b : ℕ) {JS : List ℕ} → All (λ j. f j ≡ length (g j)) JS → 0 < length JS → Pick g (heaviest (map g JS)) JS (heaviestFrom f b 0 JS)
-heaviest-pick g f b {JS} a h = go (hv-is g f b 0 a) h where
-  none : (K : List ℕ) → All (λ c. length c < 0) (map g K) → 0 < length K → ⊥
-  none [] z l = omega arith
-  none (j ∷ K) (cons z zs) l = omega arith
-
-  go : HV g b 0 JS (heaviestFrom f b 0 JS) → 0 < length JS → Pick g (heaviest (map g JS)) JS (heaviestFrom f b 0 JS)
-  go (stay e z) l = absurd (none JS z l)
-  go (got l p) k = p
+-- by the counts a check is worth what the rule says
+pub twos-freed : (g : ℕ → List ℕ) {JS c x : List ℕ} → Tally g JS c x → (ps : List ℕ) → twos c ps ≡ freed (map g JS) ps
+unfolding twos
+twos-freed g s ps = ap (λ (f : ℕ → Bool). count f ps) (fun-ext (λ p. ap (λ (a : ℕ). eqb a 2) (s .counts p)))
 
 -- ---- the picking
-pub check-length : (t : List ℕ) (m n j : ℕ) → Accepted t m n (size t) → j < m → weight t j ≡ length (check t m j)
-unfolding weight check
-check-length t m n j v h = let r = each-places _ _ _ _ v j h .room in sym (simp (length-take, length-drop) (omega arith))
-
 pub all-lives : {P : ℕ → Type 0} (live : List ℕ) (i c : ℕ) → ((j : ℕ) → i ≤ j → j < i + c → P j) → All P (lives live i c)
 unfolding lives
 all-lives live i zero h = nil
@@ -142,11 +139,11 @@ pub picked-place : (g : ℕ → List ℕ) (n p : ℕ) {JS c x : List ℕ} → Ta
 picked-place g n p {JS} {c} {x} s e =
     by-place (sym (single-is g JS c x n s) ∙ e) (tally-pick g p s (eqb-true (getD c p 0) 1 (highest-is n (λ q. eqb (getD c q 0) 1) p e)))
 
-pub picked-weight : (t : List ℕ) (m n : ℕ) (live : List ℕ) {c x : List ℕ} → Accepted t m n (size t) → Tally (check t m) (lives live 0 m) c x → 0 < length (lives live 0 m)
-    → highest n (λ q. eqb (getD c q 0) 1) ≡ none → Picked (check t m) (lives live 0 m) n (Aside (heaviestFrom (weight t) m 0 (lives live 0 m)))
-picked-weight t m n live {c} {x} v s h e =
-    by-weight (sym (single-is (check t m) (lives live 0 m) c x n s) ∙ e)
-    (heaviest-pick (check t m) (weight t) m (all-lives live 0 m (λ j a b. check-length t m n j v (omega arith))) h)
+pub picked-choice : (t : List ℕ) (m n : ℕ) (live : List ℕ) {c x : List ℕ} → Tally (check t m) (lives live 0 m) c x → 0 < length (lives live 0 m)
+    → highest n (λ q. eqb (getD c q 0) 1) ≡ none → Picked (check t m) (lives live 0 m) n (Aside (mostFrom (λ j. twos c (check t m j)) m 0 (lives live 0 m)))
+picked-choice t m n live {c} {x} s h e =
+    by-choice (sym (single-is (check t m) (lives live 0 m) c x n s) ∙ e)
+    (most-pick (freed (map (check t m) (lives live 0 m))) (check t m) (λ j. twos c (check t m j)) m (all-of (λ j. twos-freed (check t m) s (check t m j)) (lives live 0 m)) h)
 
 -- ---- the removal
 pub in-out : (j : ℕ) {JS : List ℕ} → In j JS → Out j JS (less j JS)

@@ -9,9 +9,9 @@ use lib.Dec.{eqb}
 use Rattle.lists.specs.Lists.{highest, has, count}
 use Rattle.rule.specs.Buffers.{solved}
 use Rattle.table.specs.Checks.{check}
-use Rattle.rule.specs.Rule.{inOneOnly, first, without, heaviest, peel, solvedOf, setAsideOf}
+use Rattle.rule.specs.Rule.{inOneOnly, first, without, mostFreed, peel, solvedOf, setAsideOf}
 use Rattle.live.specs.Live.{Tally, Noted}
-use Rattle.live.specs.Heaviest.{lives}
+use Rattle.live.specs.Most.{lives}
 use Rattle.keep.specs.Kept.{keptOf}
 use Rattle.peel.specs.declared.Event.{Event}
 use Rattle.peel.specs.declared.Event.the-variants.{Took, Aside}
@@ -33,10 +33,10 @@ pub record Pick (g : ℕ → List ℕ) (f : List ℕ → Bool) (JS : List ℕ) (
   pub is-first : first f (map g JS) ≡ g j
   pub is-rest : without f (map g JS) ≡ map g (less j JS)
 
--- the next event: the highest place in exactly one live check, and that check; else the first of greatest weight
+-- the next event: the highest place in exactly one live check, and that check; else the check that step 3 sets aside
 pub data Picked (g : ℕ → List ℕ) (JS : List ℕ) (n : ℕ) : Event → Type 0 where
   by-place : {p j : ℕ} → highest n (inOneOnly (map g JS)) ≡ some p → Pick g (has p) JS j → Picked g JS n (Took p j)
-  by-weight : {j : ℕ} → highest n (inOneOnly (map g JS)) ≡ none → Pick g (heaviest (map g JS)) JS j → Picked g JS n (Aside j)
+  by-choice : {j : ℕ} → highest n (inOneOnly (map g JS)) ≡ none → Pick g (mostFreed (map g JS)) JS j → Picked g JS n (Aside j)
 
 -- flags, counts and names tell which checks are live
 pub record Ready (t : List ℕ) (m n : ℕ) (live count names : List ℕ) : Type 0 where

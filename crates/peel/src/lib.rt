@@ -11,7 +11,7 @@ ghost use Rattle.table.specs.Checks.{check};
 ghost use Rattle.table.specs.Table.{total, places, size};
 ghost use Rattle.keep.specs.Kept.{keptOf};
 ghost use Rattle.live.specs.Live.{Calm};
-ghost use Rattle.live.specs.Heaviest.{lives, weight};
+ghost use Rattle.live.specs.Most.{lives, weight};
 ghost use Rattle.peel.specs.Choice.{ChoiceOf};
 ghost use Rattle.peel.specs.Turn.{In, Ready, Picked, Removed, Room, Peeled};
 ghost use Rattle.peel.specs.Turn.{Numbers, Fresh, Entered, First};
@@ -26,12 +26,13 @@ fn pick(
     t: &[u16],
     m: usize,
     n: usize,
+    starts: &[u16],
     live: &[u8],
     count: &[u16],
     names: &[u16],
     top: usize,
 ) -> Event
-    requires table { ⌜ Accepted (now t) m n (size (now t)) ⌝ }
+    requires located { ⌜ Located (now t) m n (now starts) ⌝ }
     requires ready { ⌜ Ready (now t) m n (now live) (now count) (now names) ⌝ }
     requires live { ⌜ 0 < length (lives (now live) 0 m) ⌝ }
     requires calm { ⌜ Calm (now count) top ⌝ }
@@ -39,7 +40,7 @@ fn pick(
 {
     match live::single(count, top) {
         Found::At(p) => Event::Took(p, table::wide(names[p])),
-        Found::Nothing => Event::Aside(live::heaviest_of(t, m, live)),
+        Found::Nothing => Event::Aside(live::most_freed_of(t, m, starts, live, count)),
     }
 }
 
@@ -101,7 +102,7 @@ pub fn peel_checks(
     let mut left = total;
     let mut top = n;
     while 0 < left {
-        let event = pick(t, m, n, live, count, names, top);
+        let event = pick(t, m, n, starts, live, count, names, top);
         match event {
             Event::Took(p, j) => {
                 order[taken] = j as u16;

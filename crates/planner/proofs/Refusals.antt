@@ -11,7 +11,7 @@ use Rattle.table.specs.Table.{refusal}
 use Rattle.table.specs.TableLaws.{refusal-small}
 use Rattle.plan.specs.Layout.{mostAside, leastPlan}
 use Rattle.rule.specs.Buffers.{peeling}
-use Rattle.rule.specs.PlanOf.{planOf, withNumbers}
+use Rattle.rule.specs.PlanOf.{planOf, withNumbers, planOfBy}
 use Rattle.rule.specs.Rule.{setAsideOf}
 use Rattle.planner.specs.Planning.{workWords, refusedBy, planningAnswerAt, planningRefusal, planningAnswer, planningPlanAfter, planningWorkAfter, PlanningAnswer}
 use Rattle.planner.specs.PlanningLaws.{table-refused, plan-short, work-wrong, gap-decides}
@@ -59,7 +59,7 @@ module _ (t P W : List ℕ) where
       record { answer = rw e; plan-is = rw (e, planningPlanAfter); work-is = rw (e, planningWorkAfter) }
 
 pub gap-is : (t : List ℕ) → planOf t .g ≡ length (setAsideOf (peeling t))
-unfolding planOf
+unfolding planOfBy
 gap-is t = refl
 
 pub outcome-as : (t P W : List ℕ) {r s : PlanningAnswer} {p q v w : List ℕ} → Outcome t P W r p v → s ≡ r → q ≡ p → w ≡ v

@@ -13,9 +13,10 @@ use Rattle.plan.specs.declared.Step.the-variants.{Clear, Add}
 use Rattle.plan.specs.Layout.{mostAside, leastPlan, leastNumbers}
 use Rattle.plan.specs.ReadBack.{numbers-length}
 use Rattle.plan.specs.Step.{addSteps}
+use Rattle.rule.specs.Choices.{byFreed}
 use Rattle.rule.specs.WithinLimits.{numbers-limit, kept-length, kept-weight}
 use Rattle.rule.specs.Buffers.{solved, Fitted}
-use Rattle.rule.specs.PlanOf.{planOf, numbersOf, withNumbers}
+use Rattle.rule.specs.PlanOf.{planOf, numbersOf, withNumbers, numbersBy, planOfBy}
 use Rattle.rule.specs.Rule.{kept}
 use Rattle.peel.specs.Choice.{ChoiceOf}
 use Rattle.columns.specs.Fitting.{Ready}
@@ -37,27 +38,27 @@ same-answer a b c d e f = cc
 module _ (t : List ℕ) (ok : refusal t ≡ 0) where
   -- M, W and g are those of the rule
   pub kept-is : planOf t .M ≡ length (kept (checks t))
-  unfolding planOf
+  unfolding planOfBy
   kept-is = refl
 
   pub ones-is : planOf t .W ≡ ones (kept (checks t))
-  unfolding planOf
+  unfolding planOfBy
   ones-is = refl
 
   pub kept-few : planOf t .M ≤ mostChecks
-  unfolding planOf
-  kept-few = let a = kept-length (places t) (checks t) in let b = accepted t ok .few-checks in omega arith
+  unfolding planOfBy
+  kept-few = let a = kept-length (checks t) in let b = accepted t ok .few-checks in omega arith
 
   ones-few : planOf t .W ≤ mostOnes
-  unfolding planOf
-  ones-few = let a = kept-weight (places t) (checks t) in let b = accepted t ok .few-ones in omega arith
+  unfolding planOfBy
+  ones-few = let a = kept-weight (checks t) in let b = accepted t ok .few-ones in omega arith
 
   numbers-fit : planOf t .g ≤ mostAside → leastNumbers + length (planOf t .info) + length (planOf t .steps) ≤ leastPlan
-  unfolding planOf
-  numbers-fit h = let a = accepted t ok in numbers-limit (places t) (checks t) (a .distinct) (a .low) (a .few-places) (a .few-ones) h
+  unfolding planOfBy
+  numbers-fit h = let a = accepted t ok in numbers-limit byFreed (places t) (checks t) (a .distinct) (a .low) (a .few-places) (a .few-ones) h
 
   length-few : planOf t .g ≤ mostAside → length (numbersOf t) ≤ leastPlan
-  unfolding numbersOf
+  unfolding numbersBy
   length-few h = let a = numbers-length (places t) (planOf t .g) (planOf t .M) (planOf t .info) (planOf t .steps) in let b = numbers-fit h in omega arith
 
   pub adds-most : planOf t .g ≤ mostAside → addSteps (planOf t .steps) ≤ leastPlan

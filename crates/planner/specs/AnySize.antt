@@ -12,7 +12,7 @@ use Rattle.table.specs.Table.{mostBytes, size, atSize, outside}
 use Rattle.plan.specs.Layout.{mostAside, planNumbers}
 use Rattle.plan.specs.Step.{addSteps}
 use Rattle.rule.specs.Rule.{plan, Plan}
-use Rattle.planner.specs.Planning.{workWords, planOf, numbersOf, wrongLengths, planningRefusalAt, PlanningAnswer, planningAnswerAt, planningRefusal, planningAnswer, planningPlanAfter, planningWorkAfter}
+use Rattle.planner.specs.Planning.{workWords, planOf, numbersOf, wrongLengths, planningRefusalAt, PlanningAnswer, planningAnswerAt, planningRefusal, planningAnswer, planningPlanAfter, planningWorkAfter, numbersBy, planOfBy}
 
 -- planning by the tables t and u comes to the same: answer, plan buffer and work
 pub record SamePlanning (t u planBuffer workBuffer : List ℕ) : Type 0 where
@@ -27,11 +27,11 @@ answerBy l p = record { refusal = 0; length = length l; kept = p .M; ones = p .W
 module _ (s : ℕ) (t : List ℕ) where
   -- for every table, accepted or not
   pub plan-at : planOf (atSize s t) ≡ planOf t
-  unfolding planOf
+  unfolding planOfBy
   plan-at = ap₂ plan (places-at s t) (checks-at s t)
 
   pub numbers-at : numbersOf (atSize s t) ≡ numbersOf t
-  unfolding numbersOf
+  unfolding numbersBy
   numbers-at = ap₂ (λ (n : ℕ) (p : Plan). planNumbers n (p .g) (p .M) (p .info) (p .steps)) (places-at s t) plan-at
 
   answer-at : (r : ℕ) → planningAnswerAt r (atSize s t) ≡ planningAnswerAt r t

@@ -11,7 +11,8 @@ use Rattle.plan.specs.Step.{addSteps}
 use Rattle.plan.specs.Layout.{mostAside}
 pub use Rattle.plan.specs.Layout.{leastPlan}
 use Rattle.rule.specs.PlanOf.{withNumbers}
-unfoldable pub use Rattle.rule.specs.PlanOf.{planOf, numbersOf}
+unfoldable pub use Rattle.rule.specs.PlanOf.{planOfBy, numbersBy}
+pub use Rattle.rule.specs.PlanOf.{planOf, numbersOf}
 use Rattle.planner.specs.declared.Planned.{Planned}
 
 -- 5: a plan buffer too short, or work of wrong length

@@ -19,22 +19,23 @@ use Rattle.gf2.specs.Span.{isSum-complete}
 use Rattle.gf2.specs.Rank.{Tells, zero-span, Zero}
 use Rattle.plan.specs.Run.{run}
 use Rattle.rule.specs.AsidesZero.{AfterSteps, after-steps}
+use Rattle.rule.specs.Choices.{Chooses}
 use Rattle.rule.specs.Inverse.{square-indep, unit-spanned}
 use Rattle.rule.specs.Peel.{Peels, peel-peels, peels-all, peels-back, peels-tri, peels-indep, reduced-indep}
-use Rattle.rule.specs.Rule.{Solved, putInAll, peel, solvedOf, setAsideOf, restricted, owns, stepsWithGap, kept, unowned, reduced, fittedPlaces, inverse, planSteps}
+use Rattle.rule.specs.Rule.{Solved, putInAll, peelBy, solvedOf, setAsideOf, restricted, owns, stepsWithGap, kept, unowned, reduced, fittedPlaces, inverse, planSteps}
 use Rattle.rule.specs.Solved.{Tri, putInAll-clears, putInAll-lt}
 use Rattle.rule.specs.Solving.{tri-ord, solve-other, solve-zero, Zeros}
 
-module _ (n : ℕ) (cs : List (List ℕ)) (distinct : All Distinct cs) (low : All (λ c. All (λ p. p < n) c) cs) where
+module _ (ch : Chooses) (n : ℕ) (cs : List (List ℕ)) (distinct : All Distinct cs) (low : All (λ c. All (λ p. p < n) c) cs) where
   -- the checks kept, the solved ones in the order of taking, and those set aside
   abbrev pub K : List (List ℕ)
   K = kept cs
 
   abbrev pub ts : List Solved
-  ts = solvedOf (peel (length K) n K)
+  ts = solvedOf (peelBy (ch .choice) (length K) n K)
 
   abbrev pub az : List (List ℕ)
-  az = setAsideOf (peel (length K) n K)
+  az = setAsideOf (peelBy (ch .choice) (length K) n K)
 
   -- the rows of those set aside with the solved ones put in; the fitted places from the highest down, and ascending
   abbrev pub E : List ℕ
@@ -48,7 +49,7 @@ module _ (n : ℕ) (cs : List (List ℕ)) (distinct : All Distinct cs) (low : Al
 
   -- what the peeling says of them
   pub peels : Peels K ts az
-  peels = peel-peels (length K) n K refl
+  peels = peel-peels ch (length K) n K refl
 
   pub tri : Tri ts
   tri = peels-tri peels (all-choose rowOf [] distinct)

@@ -13,11 +13,12 @@ use Rattle.lists.specs.Lists.{Distinct, rev, All}
 use Rattle.gf2.specs.Span.{span-zero}
 use Rattle.table.specs.Table.{ones}
 use Rattle.plan.specs.Step.{addSteps}
+use Rattle.rule.specs.Choices.{Chooses}
 use Rattle.rule.specs.AllChecksZero.{ts, az, F, tri, peels, indK, same, lens}
 use Rattle.rule.specs.Count.{count-append, solvedOnes, count-solving, count-scratch, count-fitting}
 use Rattle.rule.specs.Info.{tri-has, peels-count}
 use Rattle.rule.specs.Peel.{Peels, Peels.stop, Peels.took′, Peels.aside′, Pulled, Pulled.here, Pulled.there, peels-indep}
-use Rattle.rule.specs.Rule.{Solved, row, solvingSteps, scratchSteps, fittingSteps, stepsWithGap, plan, planSteps, fittedPlaces, inverse, reduced}
+use Rattle.rule.specs.Rule.{Solved, row, solvingSteps, scratchSteps, fittingSteps, stepsWithGap, planBy, Plan, planSteps, fittedPlaces, inverse, reduced}
 
 -- ---- the ones of the kept checks, however they are ordered
 pulled-ones : {x : List ℕ} {L L′ : List (List ℕ)} → Pulled x L L′ → ones L ≡ length x + ones L′
@@ -56,35 +57,38 @@ pub count-steps : (n : ℕ) (T : List Solved) (z : List (List ℕ)) (F : List �
 count-steps n T z F inv = count-append (solvingSteps F (rev T)) _ ∙ ap (λ x. addSteps (solvingSteps F (rev T)) + x)
     (count-append (scratchSteps n F z) _ ∙ ap (λ x. addSteps (scratchSteps n F z) + x) (count-append (fittingSteps n inv F) _))
 
-module _ (n : ℕ) (cs : List (List ℕ)) (d : All Distinct cs) (low : All (λ c. All (λ p. p < n) c) cs) where
+module _ (ch : Chooses) (n : ℕ) (cs : List (List ℕ)) (d : All Distinct cs) (low : All (λ c. All (λ p. p < n) c) cs) where
   -- short names
+  abbrev P : Plan
+  P = planBy (ch .choice) n cs
+
   abbrev T : List Solved
-  T = ts n cs d low
+  T = ts ch n cs d low
 
   abbrev Z : List (List ℕ)
-  Z = az n cs d low
+  Z = az ch n cs d low
 
   abbrev FF : List ℕ
-  FF = F n cs d low
+  FF = F ch n cs d low
 
   abbrev g : ℕ
-  g = plan n cs .g
+  g = P .g
 
   -- one pass over the solved checks
   pub pass : (X : List ℕ) → addSteps (solvingSteps X (rev T)) + length T ≤ solvedOnes T
-  pass X = let h = count-solving X (all-rev (tri-has (tri n cs d low))) in omega (arith, length-rev T, ones-rev T)
+  pass X = let h = count-solving X (all-rev (tri-has (tri ch n cs d low))) in omega (arith, length-rev T, ones-rev T)
 
   -- no check set aside is empty
   pub asides-some : length Z ≤ ones Z
-  asides-some = some-ones Z (map row T) (peels-indep XorGroup rowOf (peels n cs d low) (indK n cs d low))
+  asides-some = some-ones Z (map row T) (peels-indep XorGroup rowOf (peels ch n cs d low) (indK ch n cs d low))
 
   -- fitted places are as many as the checks set aside
   pub fitted-number : length FF ≡ g
-  fitted-number = same n cs d low ∙ length-map Z _
+  fitted-number = same ch n cs d low ∙ length-map Z _
 
   -- at most g scratch slots for each of the g fitted places
   pub fitting-most : addSteps (fittingSteps n (inverse (reduced T Z) FF) FF) ≤ g * g
-  fitting-most = subst (λ x. addSteps (fittingSteps n (inverse (reduced T Z) FF) FF) ≤ x * g) fitted-number (count-fitting n g (inverse (reduced T Z) FF) (lens n cs d low))
+  fitting-most = subst (λ x. addSteps (fittingSteps n (inverse (reduced T Z) FF) FF) ≤ x * g) fitted-number (count-fitting n g (inverse (reduced T Z) FF) (lens ch n cs d low))
 
   -- the whole list, by whether a check was set aside
   parts : (z : List (List ℕ)) → z ≡ Z → addSteps (planSteps n T z) + 2 * length T ≤ 2 * solvedOnes T + ones Z + g * g
@@ -94,24 +98,24 @@ module _ (n : ℕ) (cs : List (List ℕ)) (d : All Distinct cs) (low : All (λ c
       let h = count-steps n T Z FF (inverse (reduced T Z) FF) in omega arith)
 
   -- the additions number at most 2(W - M) + g(g + 1)
-  pub adds-most : addSteps (plan n cs .steps) + 2 * plan n cs .M ≤ 2 * plan n cs .W + g * (g + 1)
+  pub adds-most : addSteps (P .steps) + 2 * P .M ≤ 2 * P .W + g * (g + 1)
   adds-most =
       let a = parts Z refl in
       let b = asides-some in
-      let c : plan n cs .M ≡ length T + g = peels-count (peels n cs d low) in
-      let e : plan n cs .W ≡ solvedOnes T + ones Z = peels-ones (peels n cs d low) in
+      let c : P .M ≡ length T + g = peels-count (peels ch n cs d low) in
+      let e : P .W ≡ solvedOnes T + ones Z = peels-ones (peels ch n cs d low) in
       let f : g * (g + 1) ≡ g * g + g = square-more g in
       omega arith
 
   -- no kept check is empty
-  pub kept-ones : plan n cs .M ≤ plan n cs .W
+  pub kept-ones : P .M ≤ P .W
   kept-ones =
       let a = pass [] in
       let b = asides-some in
-      let c : plan n cs .M ≡ length T + g = peels-count (peels n cs d low) in
-      let e : plan n cs .W ≡ solvedOnes T + ones Z = peels-ones (peels n cs d low) in
+      let c : P .M ≡ length T + g = peels-count (peels ch n cs d low) in
+      let e : P .W ≡ solvedOnes T + ones Z = peels-ones (peels ch n cs d low) in
       omega arith
 
   -- and at most 4(W - M) where few checks are set aside
-  pub adds-bound : g * (g + 1) ≤ 2 * (plan n cs .W - plan n cs .M) → addSteps (plan n cs .steps) ≤ 4 * (plan n cs .W - plan n cs .M)
+  pub adds-bound : g * (g + 1) ≤ 2 * (P .W - P .M) → addSteps (P .steps) ≤ 4 * (P .W - P .M)
   adds-bound h = let a = adds-most in let b = kept-ones in omega arith

@@ -10,10 +10,11 @@ use Rattle.lists.specs.Tests.{eqb-true, eqb-comm, or-false-l, or-false-r, byBoo
 use Rattle.lists.specs.Lists.{below, Distinct, Distinct.dnil, Distinct.dnew, rev, has, filter, minus, All, All.nil, All.cons}
 use Rattle.lists.specs.ListLaws.{length-below, distinct-filter, distinct-below, distinct-rev, length-rev, has-kept, low-has, getD-has, par-has, all-map}
 use Rattle.plan.specs.AtStart.{put-at, runs-keep}
+use Rattle.rule.specs.Choices.{Chooses}
 use Rattle.rule.specs.AllChecksZero.{ts, az, F, tri, lowT, free-good, peels, same, dF, freeF}
 use Rattle.rule.specs.Encoded.{encode}
 use Rattle.rule.specs.Peel.{Peels, Peels.stop, Peels.took′, Peels.aside′, pulled-length}
-use Rattle.rule.specs.Rule.{Solved, owns, plan}
+use Rattle.rule.specs.Rule.{Solved, owns, planBy, Plan}
 use Rattle.rule.specs.Solved.{tri-own, Tri, Tri.done, Tri.also}
 use Rattle.rule.specs.WellFormed.{well-formed, info-low}
 
@@ -78,13 +79,16 @@ peels-count stop = refl
 peels-count (took′ u h o r) = let a = pulled-length u in let b = peels-count r in omega arith
 peels-count (aside′ u r) = let a = pulled-length u in let b = peels-count r in omega arith
 
-module _ (n : ℕ) (cs : List (List ℕ)) (d : All Distinct cs) (low : All (λ c. All (λ p. p < n) c) cs) where
+module _ (ch : Chooses) (n : ℕ) (cs : List (List ℕ)) (d : All Distinct cs) (low : All (λ c. All (λ p. p < n) c) cs) where
   -- short names
+  abbrev P : Plan
+  P = planBy (ch .choice) n cs
+
   abbrev T : List Solved
-  T = ts n cs d low
+  T = ts ch n cs d low
 
   abbrev FF : List ℕ
-  FF = F n cs d low
+  FF = F ch n cs d low
 
   -- the places that are owned or fitted
   abbrev pub used : List ℕ
@@ -92,37 +96,37 @@ module _ (n : ℕ) (cs : List (List ℕ)) (d : All Distinct cs) (low : All (λ c
 
   -- owned and fitted places are below n
   used-low : All (λ p. p < n) used
-  used-low = all-after (λ t. t .own) (all-map (λ t r. r .0) (tri-own (tri n cs d low) (lowT n cs d low))) (all-map (λ f r. r .0) (free-good n cs d low))
+  used-low = all-after (λ t. t .own) (all-map (λ t r. r .0) (tri-own (tri ch n cs d low) (lowT ch n cs d low))) (all-map (λ f r. r .0) (free-good ch n cs d low))
 
   used-distinct : Distinct used
-  used-distinct = owns-append (tri n cs d low) (freeF n cs d low) (dF n cs d low)
+  used-distinct = owns-append (tri ch n cs d low) (freeF ch n cs d low) (dF ch n cs d low)
 
   -- information places are all different
-  pub info-distinct : Distinct (plan n cs .info)
+  pub info-distinct : Distinct (P .info)
   info-distinct = distinct-filter _ (distinct-rev (distinct-below n))
 
   -- the information places and the kept checks together number n
-  pub info-count : length (plan n cs .info) + plan n cs .M ≡ n
+  pub info-count : length (P .info) + P .M ≡ n
   info-count =
       let a = minus-count used-distinct (distinct-rev (distinct-below n)) (all-map (λ p l. low-has n p l) used-low) in
       let b : length used ≡ length T + length FF = length-append (owns T) FF ∙ ap (λ x. x + length FF) (length-map T (λ t. t .own)) in
-      let c : length FF ≡ plan n cs .g = same n cs d low ∙ length-map (az n cs d low) _ in
-      let e : plan n cs .M ≡ length T + plan n cs .g = peels-count (peels n cs d low) in
+      let c : length FF ≡ P .g = same ch n cs d low ∙ length-map (az ch n cs d low) _ in
+      let e : P .M ≡ length T + P .g = peels-count (peels ch n cs d low) in
       let f : length (rev (below n)) ≡ n = length-rev (below n) ∙ length-below n in
       omega arith
 
   -- there are n - M information places
-  pub info-number : length (plan n cs .info) ≡ n - plan n cs .M
+  pub info-number : length (P .info) ≡ n - P .M
   info-number = let h = info-count in omega arith
 
   -- no more checks are kept than there are places
-  pub kept-few : plan n cs .M ≤ n
+  pub kept-few : P .M ≤ n
   kept-few = let h = info-count in omega arith
 
   -- in the encoded block the k-th information place holds the k-th information packet
-  pub info-holds : (s : ℕ) (ps : List (List ℕ)) → length ps ≡ n - plan n cs .M → (k : ℕ) → k < n - plan n cs .M
-      → getD (encode n s (plan n cs) ps) (getD (plan n cs .info) k 0) [] ≡ getD ps k []
+  pub info-holds : (s : ℕ) (ps : List (List ℕ)) → length ps ≡ n - P .M → (k : ℕ) → k < n - P .M
+      → getD (encode n s P ps) (getD (P .info) k 0) [] ≡ getD ps k []
   info-holds s ps l k h = let m = info-number in
-      runs-keep s (n + plan n cs .g) (getD (plan n cs .info) k 0) (getD-has (plan n cs .info) k (omega arith)) (well-formed n cs d low) _
-      ∙ put-at (replicate (n + plan n cs .g) (replicate s 0)) ps info-distinct
-      (all-map {P = λ i. i < n} (λ i q. simp length-replicate (omega arith)) (info-low n cs d low)) (l ∙ sym m) k (omega arith)
+      runs-keep s (n + P .g) (getD (P .info) k 0) (getD-has (P .info) k (omega arith)) (well-formed ch n cs d low) _
+      ∙ put-at (replicate (n + P .g) (replicate s 0)) ps info-distinct
+      (all-map {P = λ i. i < n} (λ i q. simp length-replicate (omega arith)) (info-low ch n cs d low)) (l ∙ sym m) k (omega arith)

@@ -2,6 +2,8 @@ pub mod AllChecksZero
 pub mod AsidesZero
 pub mod Bound
 pub mod Buffers
+pub mod ChoiceCases
+pub mod Choices
 pub mod Count
 pub mod Encoded
 pub mod EncodedZero

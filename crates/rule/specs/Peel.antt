@@ -2,14 +2,13 @@
 use mathlib.Core.Path.{_≡_, refl, sym, ap, ap₂, _∙_, subst}
 use mathlib.Core.Bool.{Bool, true, false, false≢true}
 use mathlib.Core.List.{List, [], _∷_, _++_, map}
-use mathlib.Core.Logic.{_⊎_, inl, inr, ⊎-elim}
-use Prim.Native.Nat.{ℕ, zero, suc, _≤_, max}
+use Prim.Native.Nat.{ℕ, zero, suc}
 use native.Mathlib.Nat.{suc-inj}
 use native.Mathlib.Omega.{arith}
 use lib.Bits.{bitXor}
 use lib.Dec.{eqb}
 use lib.ListN.{length}
-use Rattle.lists.specs.Tests.{eqb-true, eqb-self, byOpt, byBool, or-l, or-r}
+use Rattle.lists.specs.Tests.{eqb-true, byOpt, byBool}
 use Rattle.gf2.specs.Gf2.{bit, Group2, XorGroup, rowOf}
 use Rattle.lists.specs.Lists.{bxor, Distinct, Distinct.dnil, Distinct.dnew, highest, has, par, anyOf, All, All.nil, All.cons, count}
 use Rattle.gf2.specs.Group.{cancel, cancel-r, cancel-mid}
@@ -17,7 +16,8 @@ use Rattle.gf2.specs.Independent.{Indep, Indep.empty, Indep.free}
 use Rattle.gf2.specs.IndependentOrder.{indep-swap, indep-head, indep-tail, within-insert, indep-push, span-after}
 use Rattle.lists.specs.ListLaws.{highest-is, has-par}
 use Rattle.gf2.specs.Span.{Span, span-zero, span-add, span-head, span-tail, span-within, Within, Within.none as wnil, Within.more, within-tail, within-self, within-trans}
-use Rattle.rule.specs.Rule.{putInAll, putIn, Solved, row, first, without, greatest, heaviest, inOneOnly, peel, solvedOf, setAsideOf}
+use Rattle.rule.specs.Rule.{putInAll, putIn, Solved, row, first, without, inOneOnly, peelBy, solvedOf, setAsideOf}
+use Rattle.rule.specs.Choices.{Chooses}
 use Rattle.rule.specs.Solved.{Tri, Tri.done, Tri.also}
 
 -- ---- one member pulled out of a list
@@ -67,32 +67,20 @@ pub data Peels : List (List ℕ) → List Solved → List (List ℕ) → Type 0 
   aside′ : {c : List ℕ} {L L′ : List (List ℕ)} {ts : List Solved} {az : List (List ℕ)}
       → Pulled c L L′ → Peels L′ ts az → Peels L ts (c ∷ az)
 
-below-or : (a b : ℕ) → (b ≤ a) ⊎ (a ≤ b)
-below-or zero b = inr (omega arith)
-below-or (suc a) zero = inl (omega arith)
-below-or (suc a) (suc b) = ⊎-elim (λ h. inl (omega arith)) (λ h. inr (omega arith)) (below-or a b)
-
-greatest-any : (x : List ℕ) (L : List (List ℕ)) → anyOf (heaviest (x ∷ L)) (x ∷ L) ≡ true
-greatest-any x [] = or-l _ _ (ap (eqb (length x)) {y = length x} (omega arith) ∙ eqb-self (length x))
-greatest-any x (y ∷ L) = ⊎-elim
-    (λ h. or-l (heaviest (x ∷ y ∷ L) x) (anyOf (heaviest (x ∷ y ∷ L)) (y ∷ L)) (ap (eqb (length x)) {y = length x} (omega arith) ∙ eqb-self (length x)))
-    (λ h. let m : max (length x) (greatest (y ∷ L)) ≡ greatest (y ∷ L) = omega arith in
-    or-r (heaviest (x ∷ y ∷ L) x) (anyOf (heaviest (x ∷ y ∷ L)) (y ∷ L)) (subst (λ w. anyOf (λ c. eqb (length c) w) (y ∷ L) ≡ true) (sym m) (greatest-any y L)))
-    (below-or (length x) (greatest (y ∷ L)))
-
-pub peel-peels : (k n : ℕ) (L : List (List ℕ)) → length L ≡ k → Peels L (solvedOf (peel k n L)) (setAsideOf (peel k n L))
-peel-peels zero n [] l = stop
-peel-peels zero n (x ∷ L) l = absurd (omega arith)
-peel-peels (suc k) n [] l = absurd (omega arith)
-peel-peels (suc k) n (x ∷ L₀) l = byOpt (highest n (inOneOnly (x ∷ L₀)))
+-- the only law that looks at the choice: some live check is chosen
+pub peel-peels : (ch : Chooses) (k n : ℕ) (L : List (List ℕ)) → length L ≡ k → Peels L (solvedOf (peelBy (ch .choice) k n L)) (setAsideOf (peelBy (ch .choice) k n L))
+peel-peels ch zero n [] l = stop
+peel-peels ch zero n (x ∷ L) l = absurd (omega arith)
+peel-peels ch (suc k) n [] l = absurd (omega arith)
+peel-peels ch (suc k) n (x ∷ L₀) l = byOpt (highest n (inOneOnly (x ∷ L₀)))
     (λ p e. let L = x ∷ L₀ in
     let one : count (has p) L ≡ 1 = eqb-true (count (has p) L) 1 (highest-is n (inOneOnly L) p e) in
     let u = pull (has p) L (count-any (has p) L one) in
-    rw (e, peel) (took′ u (first-is (has p) L (count-any (has p) L one)) (count-rest (has p) L one)
-    (peel-peels k n (without (has p) L) (suc-inj (sym (pulled-length u) ∙ l)))))
+    rw (e, peelBy) (took′ u (first-is (has p) L (count-any (has p) L one)) (count-rest (has p) L one)
+    (peel-peels ch k n (without (has p) L) (suc-inj (sym (pulled-length u) ∙ l)))))
     (λ e. let L = x ∷ L₀ in
-    let u = pull (heaviest L) L (greatest-any x L₀) in
-    rw (e, peel) (aside′ u (peel-peels k n (without (heaviest L) L) (suc-inj (sym (pulled-length u) ∙ l)))))
+    let u = pull (ch .choice L) L (ch .some-chosen x L₀) in
+    rw (e, peelBy) (aside′ u (peel-peels ch k n (without (ch .choice L) L) (suc-inj (sym (pulled-length u) ∙ l)))))
 
 -- ---- consequences
 pub peels-all : {P : List ℕ → Type 0} {L : List (List ℕ)} {ts : List Solved} {az : List (List ℕ)} → Peels L ts az → All P L → All (λ t. P (t .check)) ts × All P az

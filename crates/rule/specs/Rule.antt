@@ -32,13 +32,33 @@ without f (x ∷ l) = elim (f x) [ true ↦ l | false ↦ x ∷ without f l ]
 abbrev pub inOneOnly : List (List ℕ) → ℕ → Bool
 inOneOnly live p = eqb (count (has p) live) 1
 
--- "the live check of greatest weight": these two are what to change for another choice
-abbrev pub greatest : List (List ℕ) → ℕ
-greatest [] = 0
-greatest (c ∷ cs) = max (length c) (greatest cs)
+-- "places that lie in exactly two live checks"
+abbrev pub inTwoOnly : List (List ℕ) → ℕ → Bool
+inTwoOnly live p = eqb (count (has p) live) 2
 
-abbrev pub heaviest : List (List ℕ) → List ℕ → Bool
-heaviest live c = eqb (length c) (greatest live)
+-- which live check is set aside: the first that passes
+abbrev pub Choice : Type 0
+Choice = List (List ℕ) → List ℕ → Bool
+
+-- by what a check is worth: one of those that are worth most
+abbrev pub greatest : (List ℕ → ℕ) → List (List ℕ) → ℕ
+greatest worth [] = 0
+greatest worth (c ∷ cs) = max (worth c) (greatest worth cs)
+
+abbrev pub worthMost : (List (List ℕ) → List ℕ → ℕ) → Choice
+worthMost worth live c = eqb (worth live c) (greatest (worth live) live)
+
+-- how many places of a check it would free
+abbrev pub freed : List (List ℕ) → List ℕ → ℕ
+freed live c = count (inTwoOnly live) c
+
+-- document 02, C-18: "the live check with the most places that lie in exactly two live checks". This is what to change for another choice.
+abbrev pub mostFreed : Choice
+mostFreed = worthMost freed
+
+-- document 01: "the live check of greatest weight", by which plans were made before C-18
+abbrev pub heaviest : Choice
+heaviest = worthMost (λ live c. length c)
 
 -- a check that was taken with its own place, or one that was set aside
 pub data PeelEvent : Type 0 where
@@ -46,13 +66,16 @@ pub data PeelEvent : Type 0 where
   aside : List ℕ → PeelEvent
 
 -- "take the highest such place: it becomes that check's own place and the check stops being live"; "if no such place exists
--- .. set aside the live check of greatest weight, lowest number on a tie". The first argument is the number of live checks.
-abbrev pub peel : ℕ → ℕ → List (List ℕ) → List PeelEvent
-peel zero n live = []
-peel (suc k) n live = elim (highest n (inOneOnly live)) [
-  | some p ↦ took p (first (has p) live) ∷ peel k n (without (has p) live)
-  | none ↦ aside (first (heaviest live) live) ∷ peel k n (without (heaviest live) live)
+-- .. set aside" the live check that is chosen, "lowest number on a tie". After the choice comes the number of live checks.
+abbrev pub peelBy : Choice → ℕ → ℕ → List (List ℕ) → List PeelEvent
+peelBy choice zero n live = []
+peelBy choice (suc k) n live = elim (highest n (inOneOnly live)) [
+  | some p ↦ took p (first (has p) live) ∷ peelBy choice k n (without (has p) live)
+  | none ↦ aside (first (choice live) live) ∷ peelBy choice k n (without (choice live) live)
 ]
+
+abbrev pub peel : ℕ → ℕ → List (List ℕ) → List PeelEvent
+peel = peelBy mostFreed
 
 -- a solved check: one with an own place
 pub record Solved : Type 0 where
@@ -153,10 +176,10 @@ pub record Plan : Type 0 where
   pub info : List ℕ
   pub steps : List Step
 
-abbrev pub plan : ℕ → List (List ℕ) → Plan
-plan n cs =
+abbrev pub planBy : Choice → ℕ → List (List ℕ) → Plan
+planBy choice n cs =
     let K = kept cs in
-    let es = peel (length K) n K in
+    let es = peelBy choice (length K) n K in
     let ts = solvedOf es in
     let az = setAsideOf es in
     let F = fittedPlaces n ts az in
@@ -169,3 +192,6 @@ plan n cs =
       info = minus (rev (below n)) (owns ts ++ F);
       steps = planSteps n ts az;
     }
+
+abbrev pub plan : ℕ → List (List ℕ) → Plan
+plan = planBy mostFreed

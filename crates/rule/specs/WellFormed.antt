@@ -11,8 +11,9 @@ use Rattle.lists.specs.Lists.{below, Distinct, rev, has, All, All.nil, All.cons
 use Rattle.lists.specs.ListLaws.{all-rev, all-self, has-low, all-append, has-append-r, all-unmap, has-append-l, all-filter, all-zip, below-of, has-filter, all-map}
 use Rattle.plan.specs.declared.Step.the-variants.{Clear, Add}
 use Rattle.plan.specs.LayoutLaws.{Sound}
+use Rattle.rule.specs.Choices.{Chooses}
 use Rattle.rule.specs.AllChecksZero.{ts, az, F, tri, lowT, lowA, free-good, lens}
-use Rattle.rule.specs.Rule.{Solved, clearAndAdd, solvingSteps, scratchSteps, fittingSteps, owns, stepsWithGap, fittedPlaces, inverse, reduced, planSteps, plan}
+use Rattle.rule.specs.Rule.{Solved, clearAndAdd, solvingSteps, scratchSteps, fittingSteps, owns, stepsWithGap, fittedPlaces, inverse, reduced, planSteps, planBy, Plan}
 use Rattle.rule.specs.ScratchAndFitting.{has-named, named-low}
 use Rattle.rule.specs.Solved.{tri-own}
 use Rattle.rule.specs.Solving.{own-out}
@@ -47,22 +48,25 @@ module _ (k : ℕ) (I : List ℕ) where
       (sound-fitting n inv w a)
 
 -- ---- the plan
-module _ (n : ℕ) (cs : List (List ℕ)) (d : All Distinct cs) (low : All (λ c. All (λ p. p < n) c) cs) where
+module _ (ch : Chooses) (n : ℕ) (cs : List (List ℕ)) (d : All Distinct cs) (low : All (λ c. All (λ p. p < n) c) cs) where
   -- short names
+  abbrev P : Plan
+  P = planBy (ch .choice) n cs
+
   abbrev T : List Solved
-  T = ts n cs d low
+  T = ts ch n cs d low
 
   abbrev Z : List (List ℕ)
-  Z = az n cs d low
+  Z = az ch n cs d low
 
   abbrev FF : List ℕ
-  FF = F n cs d low
+  FF = F ch n cs d low
 
   abbrev k : ℕ
   k = n + length Z
 
   abbrev I : List ℕ
-  I = plan n cs .info
+  I = P .info
 
   -- an information place is owned by nobody and not fitted
   info-out : (p : ℕ) → has p (owns T ++ FF) ≡ true → has p I ≡ false
@@ -75,19 +79,19 @@ module _ (n : ℕ) (cs : List (List ℕ)) (d : All Distinct cs) (low : All (λ c
   -- the solved checks have what a pass asks
   solved-sound : All (λ u. ((u .own < k) × All (λ p. p < k) (u .check)) × (has (u .own) I ≡ false)) (rev T)
   solved-sound = all-rev (all-map (λ u r. ((let q = r .0 .0 in omega arith, all-map (λ p l. omega arith) (r .0 .1)), info-out (u .own) (has-append-l (u .own) (owns T) FF (r .1))))
-      (all-zip (tri-own (tri n cs d low) (lowT n cs d low)) (all-unmap (λ t. t .own) T (all-self (owns T)))))
+      (all-zip (tri-own (tri ch n cs d low) (lowT ch n cs d low)) (all-unmap (λ t. t .own) T (all-self (owns T)))))
 
   -- the whole list, by whether a check was set aside
   sound-parts : (z : List (List ℕ)) → z ≡ Z → All (Sound k I) (planSteps n T z)
   sound-parts [] e = sound-solving k I [] solved-sound
   sound-parts (c ∷ z) e = subst (λ y. All (Sound k I) (stepsWithGap n T y (fittedPlaces n T y) (inverse (reduced T y) (fittedPlaces n T y)))) (sym e)
       (all-append (sound-solving k I FF solved-sound)
-      (all-append (sound-scratch k I n n FF (omega arith) (omega arith) (omega arith) info-low (lowA n cs d low))
+      (all-append (sound-scratch k I n n FF (omega arith) (omega arith) (omega arith) info-low (lowA ch n cs d low))
       (all-append (sound-fitting k I n (inverse (reduced T Z) FF) (omega arith)
       (all-map (λ f r. ((r .0 .0 .0, omega (arith, r .0 .1)), info-out f (has-append-r f (owns T) FF (r .1))))
-      (all-zip (all-zip (free-good n cs d low) (lens n cs d low)) (all-self FF))))
+      (all-zip (all-zip (free-good ch n cs d low) (lens ch n cs d low)) (all-self FF))))
       (sound-solving k I [] solved-sound))))
 
   -- every step of the plan: slots in range, none added into itself, no information place written
-  pub well-formed : All (Sound (n + plan n cs .g) (plan n cs .info)) (plan n cs .steps)
+  pub well-formed : All (Sound (n + P .g) (P .info)) (P .steps)
   well-formed = sound-parts Z refl

@@ -13,11 +13,12 @@ use Rattle.lists.specs.Lists.{Distinct, rev, All}
 use Rattle.lists.specs.Tests.{byBool}
 use Rattle.table.specs.Table.{mostPlaces, mostOnes, ones}
 use Rattle.plan.specs.Layout.{mostAside, mostSteps, leastPlan, leastNumbers}
+use Rattle.rule.specs.Choices.{Chooses}
 use Rattle.rule.specs.AllChecksZero.{ts, az, F, peels}
 use Rattle.rule.specs.Bound.{pass, asides-some, fitting-most, peels-ones, square-more, fitted-number}
 use Rattle.rule.specs.Count.{solving-clears, scratch-clears, fitting-clears, solvedOnes, count-scratch}
 use Rattle.rule.specs.Info.{peels-count, info-number}
-use Rattle.rule.specs.Rule.{Solved, solvingSteps, scratchSteps, fittingSteps, stepsWithGap, plan, planSteps, fittedPlaces, inverse, reduced}
+use Rattle.rule.specs.Rule.{Solved, solvingSteps, scratchSteps, fittingSteps, stepsWithGap, kept, planBy, Plan, planSteps, fittedPlaces, inverse, reduced}
 
 -- the length of the whole list
 pub length-steps : (n : ℕ) (T : List Solved) (z : List (List ℕ)) (X : List ℕ) (inv : ℕ → List Bool)
@@ -25,66 +26,67 @@ pub length-steps : (n : ℕ) (T : List Solved) (z : List (List ℕ)) (X : List �
 length-steps n T z X inv = length-append (solvingSteps X (rev T)) _ ∙ ap (λ x. length (solvingSteps X (rev T)) + x)
     (length-append (scratchSteps n X z) _ ∙ ap (λ x. length (scratchSteps n X z) + x) (length-append (fittingSteps n inv X) _))
 
--- ---- kept checks are some of the checks
+-- ---- kept checks are some of the checks, and have no more ones
 choose-few : (f : List ℕ → ℕ) (K : List ℕ) (cs : List (List ℕ)) → (length (choose XorGroup isZero f K cs) ≤ length cs) × (ones (choose XorGroup isZero f K cs) ≤ ones cs)
 choose-few f K [] = (omega arith, omega arith)
 choose-few f K (c ∷ cs) = byBool (isSum XorGroup isZero K (f c))
     (λ e. let r = choose-few f K cs in rw (e, choose) (omega (arith, r .0), omega (arith, r .1)))
     (λ e. let r = choose-few f (f c ∷ K) cs in rw (e, choose) (omega (arith, r .0), omega (arith, r .1)))
 
-module _ (n : ℕ) (cs : List (List ℕ)) where
-  -- the information places are strictly ascending
-  pub info-up : Up 0 (plan n cs .info)
-  info-up = up-filter _ (down-rev (down-below n))
+pub kept-length : (cs : List (List ℕ)) → length (kept cs) ≤ length cs
+kept-length cs = choose-few rowOf [] cs .0
 
-  -- no more kept checks than checks, and no more ones
-  pub kept-length : plan n cs .M ≤ length cs
-  kept-length = choose-few rowOf [] cs .0
+-- nor more ones
+pub kept-weight : (cs : List (List ℕ)) → ones (kept cs) ≤ ones cs
+kept-weight cs = choose-few rowOf [] cs .1
 
-  -- nor more ones
-  pub kept-weight : plan n cs .W ≤ ones cs
-  kept-weight = choose-few rowOf [] cs .1
+-- the information places are strictly ascending
+pub info-up : (ch : Chooses) (n : ℕ) (cs : List (List ℕ)) → Up 0 (planBy (ch .choice) n cs .info)
+info-up ch n cs = up-filter _ (down-rev (down-below n))
 
-module _ (n : ℕ) (cs : List (List ℕ)) (d : All Distinct cs) (low : All (λ c. All (λ p. p < n) c) cs) where
+module _ (ch : Chooses) (n : ℕ) (cs : List (List ℕ)) (d : All Distinct cs) (low : All (λ c. All (λ p. p < n) c) cs) where
   -- short names
+  abbrev P : Plan
+  P = planBy (ch .choice) n cs
+
   abbrev T : List Solved
-  T = ts n cs d low
+  T = ts ch n cs d low
 
   abbrev Z : List (List ℕ)
-  Z = az n cs d low
+  Z = az ch n cs d low
 
   abbrev FF : List ℕ
-  FF = F n cs d low
+  FF = F ch n cs d low
 
   abbrev g : ℕ
-  g = plan n cs .g
+  g = P .g
 
   -- only kept checks are set aside
-  pub aside-few : g ≤ plan n cs .M
-  aside-few = let e : plan n cs .M ≡ length T + g = peels-count (peels n cs d low) in omega arith
+  pub aside-few : g ≤ P .M
+  aside-few = let e : P .M ≡ length T + g = peels-count (peels ch n cs d low) in omega arith
 
   -- by whether a check was set aside
   parts : (z : List (List ℕ)) → z ≡ Z → length (planSteps n T z) ≤ 2 * solvedOnes T + (ones Z + g) + (g * g + g)
-  parts [] e = let h = pass n cs d low [] in let k = solving-clears [] (rev T) in let r = length-rev T in omega arith
+  parts [] e = let h = pass ch n cs d low [] in let k = solving-clears [] (rev T) in let r = length-rev T in omega arith
   parts (c ∷ z) e = subst (λ y. length (stepsWithGap n T y (fittedPlaces n T y) (inverse (reduced T y) (fittedPlaces n T y))) ≤ 2 * solvedOnes T + (ones Z + g) + (g * g + g)) (sym e)
       (let i = inverse (reduced T Z) FF in let r = length-rev T in
-      let a = pass n cs d low FF in let a′ = solving-clears FF (rev T) in
-      let b = pass n cs d low [] in let b′ = solving-clears [] (rev T) in
+      let a = pass ch n cs d low FF in let a′ = solving-clears FF (rev T) in
+      let b = pass ch n cs d low [] in let b′ = solving-clears [] (rev T) in
       let c = count-scratch n FF Z in let c′ = scratch-clears n FF Z in
-      let f = fitting-most n cs d low in let f′ = fitting-clears n i FF in let f″ = fitted-number n cs d low in
+      let f = fitting-most ch n cs d low in let f′ = fitting-clears n i FF in let f″ = fitted-number ch n cs d low in
       let h = length-steps n T Z FF i in omega arith)
 
   -- all steps, clear and add, number at most 2W + g(g + 1)
-  steps-most : length (plan n cs .steps) ≤ 2 * plan n cs .W + g * (g + 1)
-  steps-most = let a = parts Z refl in let b = asides-some n cs d low in
-      let e : plan n cs .W ≡ solvedOnes T + ones Z = peels-ones (peels n cs d low) in
+  steps-most : length (P .steps) ≤ 2 * P .W + g * (g + 1)
+  steps-most = let a = parts Z refl in let b = asides-some ch n cs d low in
+      let e : P .W ≡ solvedOnes T + ones Z = peels-ones (peels ch n cs d low) in
       let f = square-more g in omega arith
 
   -- so they are within the encoder's limit ..
-  pub steps-limit : ones cs ≤ mostOnes → g ≤ mostAside → length (plan n cs .steps) ≤ mostSteps
-  steps-limit w h = let a = steps-most in let b = kept-weight n cs in
+  pub steps-limit : ones cs ≤ mostOnes → g ≤ mostAside → length (P .steps) ≤ mostSteps
+  steps-limit w h = let a = steps-most in let b : P .W ≤ ones cs = kept-weight cs in
       let c : g * (g + 1) ≤ mostAside * (mostAside + 1) = mul-le-mul {m₁ = g + 1} {m₂ = mostAside + 1} h (omega arith) in omega arith
 
   -- .. and the plan's numbers within the planner's buffer
-  pub numbers-limit : n ≤ mostPlaces → ones cs ≤ mostOnes → g ≤ mostAside → leastNumbers + length (plan n cs .info) + length (plan n cs .steps) ≤ leastPlan
-  numbers-limit l w h = let a = steps-limit w h in let b = info-number n cs d low in omega arith
+  pub numbers-limit : n ≤ mostPlaces → ones cs ≤ mostOnes → g ≤ mostAside → leastNumbers + length (P .info) + length (P .steps) ≤ leastPlan
+  numbers-limit l w h = let a = steps-limit w h in let b = info-number ch n cs d low in omega arith

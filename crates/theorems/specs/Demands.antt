@@ -19,13 +19,14 @@ use Rattle.plan.specs.declared.Step.the-variants.{Clear, Add}
 use Rattle.plan.specs.Step.{addSteps}
 use Rattle.plan.specs.Steps.{carryOutAll, atStart}
 use Rattle.plan.specs.Layout.{stepsOf, mostAside, planKept, planGap, infoIn, infoCount, stepCount}
-use Rattle.rule.specs.Rule.{plan}
+use Rattle.rule.specs.Choices.{Chooses, byFreed}
+use Rattle.rule.specs.Rule.{Plan}
 use Rattle.rule.specs.Encoded.{encode}
 use Rattle.rule.specs.OneBlock.{Encodes, block, block-encodes, one-block}
 use Rattle.rule.specs.Info.{info-number, kept-few}
 use Rattle.rule.specs.Bound.{adds-most, kept-ones, adds-bound, fitted-number}
 use Rattle.rule.specs.WellFormed.{info-low}
-use Rattle.planner.specs.Planning.{planOf, numbersOf, planningRefusal, planningAnswer, planningPlanAfter, planningAnswerAt}
+use Rattle.planner.specs.Planning.{planOf, numbersOf, planningRefusal, planningAnswer, planningPlanAfter, planningAnswerAt, numbersBy, planOfBy}
 use Rattle.planner.specs.PlanningLaws.{accepted-planning}
 use Rattle.encoder.specs.Encoding.{stepsWithin, slotsAfter, encodeRefusal, encodeAnswer, encodeAnswerAt, encodeBlockAfter}
 use Rattle.encoder.specs.EncodingLaws.{accepted as accepted-encoding, not-refused-at, count-within, limit-all}
@@ -92,121 +93,134 @@ answered : (r a : ℕ) → encodeAnswerAt r a .additions ≤ a
 answered zero a = omega arith
 answered (suc r) a = omega arith
 
+-- after the last step every add step is counted
+pub last-counted : (p : List ℕ) (s : ℕ) (i b c : List ℕ) (limit : ℕ) → encodeRefusal p s i b c ≡ 0 → stepCount p ≤ limit → encodeAnswer p s i b c limit .additions ≡ addSteps (stepsOf p)
+last-counted p s i b c limit ok all = count-within p s i b c limit ok
+    ∙ ap addSteps (limit-all p limit (accepted-encoding p s (length i) (length b) (length c) ok .plan) all)
+
+-- the rule's numbers, and the bound
 module _ (t : List ℕ) (ok : refusal t ≡ 0) where
   good : Good t
-  unfolding planOf numbersOf
   good = accepted t ok
 
   pub rule-numbers : RuleNumbers t
-  unfolding planOf numbersOf
+  unfolding planOfBy
   rule-numbers = record {
-    fitted = fitted-number (places t) (checks t) (good .distinct) (good .low);
-    information = info-number (places t) (checks t) (good .distinct) (good .low);
-    few-kept = kept-few (places t) (checks t) (good .distinct) (good .low);
-    some-ones = kept-ones (places t) (checks t) (good .distinct) (good .low);
+    fitted = fitted-number byFreed (places t) (checks t) (good .distinct) (good .low);
+    information = info-number byFreed (places t) (checks t) (good .distinct) (good .low);
+    few-kept = kept-few byFreed (places t) (checks t) (good .distinct) (good .low);
+    some-ones = kept-ones byFreed (places t) (checks t) (good .distinct) (good .low);
   }
 
   module _ (few : planOf t .g ≤ mostAside) where
     counted : (s : ℕ) (information b c : List ℕ) (limit : ℕ) → encodeAnswer (numbersOf t) s information b c limit .additions ≤ addSteps (planOf t .steps)
-    unfolding planOf numbersOf
     counted s information b c limit =
         let p = answered (encodeRefusal (numbersOf t) s information b c) (addSteps (stepsWithin (numbersOf t) limit)) in
         let q : addSteps (stepsWithin (numbersOf t) limit) ≤ addSteps (planOf t .steps) =
-        subst (λ l. addSteps (take limit l) ≤ addSteps (planOf t .steps)) (sym (own-steps t ok few)) (fewer limit (planOf t .steps)) in
+        subst (λ l. addSteps (take limit l) ≤ addSteps (planOf t .steps)) (sym (own-steps byFreed t ok few)) (fewer limit (planOf t .steps)) in
         omega arith
 
     -- demand 3, the bound
     pub addition-bound : AdditionBound t (numbersOf t)
-    unfolding planOf numbersOf
+    unfolding planOfBy
     addition-bound = record {
-      some-ones = kept-ones (places t) (checks t) (good .distinct) (good .low);
-      always = λ s i b c limit. let p = counted s i b c limit in let q = adds-most (places t) (checks t) (good .distinct) (good .low) in
-          let r = kept-ones (places t) (checks t) (good .distinct) (good .low) in omega arith;
-      four = λ h s i b c limit. let p = counted s i b c limit in let q = adds-bound (places t) (checks t) (good .distinct) (good .low) h in omega arith;
+      some-ones = kept-ones byFreed (places t) (checks t) (good .distinct) (good .low);
+      always = λ s i b c limit. let p = counted s i b c limit in let q = adds-most byFreed (places t) (checks t) (good .distinct) (good .low) in
+          let r = kept-ones byFreed (places t) (checks t) (good .distinct) (good .low) in omega arith;
+      four = λ h s i b c limit. let p = counted s i b c limit in let q = adds-bound byFreed (places t) (checks t) (good .distinct) (good .low) h in omega arith;
     }
 
-    module _ (s : ℕ) (information blockBuffer scratchBuffer : List ℕ) (limit : ℕ) (lent : ToTheLastStep t (numbersOf t) s information blockBuffer scratchBuffer limit) where
-      abbrev n : ℕ
-      n = places t
+-- the one block, whatever the choice of checks to set aside
+module _ (ch : Chooses) (t : List ℕ) (ok : refusal t ≡ 0) (few : planOfBy (ch .choice) t .g ≤ mostAside) where
+  -- short names: the plan, and its numbers
+  abbrev P : Plan
+  P = planOfBy (ch .choice) t
 
-      abbrev k : ℕ
-      k = places t - planOf t .M
+  abbrev p : List ℕ
+  p = numbersBy (ch .choice) t
 
-      -- the information packets
-      abbrev ps : List (List ℕ)
-      ps = packets s k information
+  module _ (s : ℕ) (information blockBuffer scratchBuffer : List ℕ) (limit : ℕ) (lent : ToTheLastStep t p s information blockBuffer scratchBuffer limit) where
+    abbrev n : ℕ
+    n = places t
 
-      fits : encodeRefusal (numbersOf t) s information blockBuffer scratchBuffer ≡ 0
-      unfolding planOf numbersOf
-      fits = not-refused-at (numbersOf t) s (length information) (length blockBuffer) (length scratchBuffer) (record {
-        size = within mostBytes s (lent .some-bytes) (lent .few-bytes);
-        plan = own-accepted t ok few;
-        information = lent .info-long ∙ ap (λ x. x * s) (sym (own-places t ok few));
-        block = lent .block-long;
-        scratch = lent .scratch-long;
-      })
+    abbrev k : ℕ
+    k = places t - P .M
 
-      -- the slots are those of the rule's plan
-      slots-are : slotsAfter (numbersOf t) s information limit ≡ encode n s (planOf t) ps
-      unfolding planOf numbersOf
-      slots-are = ap₂ (λ I l. carryOutAll s (atStart (n + planOf t .g) s I (packets s (infoCount (numbersOf t)) information)) (take limit l)) (own-info t ok few) (own-steps t ok few)
-          ∙ ap₂ (λ c l. carryOutAll s (atStart (n + planOf t .g) s (planOf t .info) (packets s c information)) l) (own-places t ok few) (take-all limit (planOf t .steps) (subst (λ m. m ≤ limit) (own-count t ok few) (lent .all-steps)))
+    -- the information packets
+    abbrev ps : List (List ℕ)
+    ps = packets s k information
 
-      after : encodeBlockAfter (numbersOf t) s information blockBuffer scratchBuffer limit ≡ joined (block n s (checks t) ps)
-      unfolding planOf numbersOf
-      after = rw (fits, encodeBlockAfter) (ap (λ st. joined (take n st)) slots-are)
+    fits : encodeRefusal p s information blockBuffer scratchBuffer ≡ 0
+    unfolding planOfBy numbersBy
+    fits = not-refused-at p s (length information) (length blockBuffer) (length scratchBuffer) (record {
+      size = within mostBytes s (lent .some-bytes) (lent .few-bytes);
+      plan = own-accepted ch t ok few;
+      information = lent .info-long ∙ ap (λ x. x * s) (sym (own-places ch t ok few));
+      block = lent .block-long;
+      scratch = lent .scratch-long;
+    })
 
-      sized : Packets s ps
-      unfolding planOf numbersOf
-      sized = packets-sized s k information (lent .info-long)
+    -- the slots are those of the rule's plan
+    slots-are : slotsAfter p s information limit ≡ encode n s P ps
+    unfolding planOfBy numbersBy
+    slots-are = ap₂ (λ I l. carryOutAll s (atStart (n + P .g) s I (packets s (infoCount p) information)) (take limit l)) (own-info ch t ok few) (own-steps ch t ok few)
+        ∙ ap₂ (λ c l. carryOutAll s (atStart (n + P .g) s (P .info) (packets s c information)) l) (own-places ch t ok few) (take-all limit (P .steps) (subst (λ m. m ≤ limit) (own-count ch t ok few) (lent .all-steps)))
 
-      made : Encodes n s (checks t) ps (block n s (checks t) ps)
-      unfolding planOf numbersOf
-      made = block-encodes n s (checks t) (good .distinct) (good .low) ps sized (packets-length s k information)
+    after : encodeBlockAfter p s information blockBuffer scratchBuffer limit ≡ joined (block P n s ps)
+    unfolding planOfBy numbersBy
+    after = rw (fits, encodeBlockAfter) (ap (λ st. joined (take n st)) slots-are)
 
-      info-below : (j : ℕ) → j < k → getD (planOf t .info) j 0 < n
-      unfolding planOf numbersOf
-      info-below j h = let m = info-number n (checks t) (good .distinct) (good .low) in
-          all-in (λ p. p < n) _ (getD-has (planOf t .info) j (omega arith)) (info-low n (checks t) (good .distinct) (good .low))
+    sized : Packets s ps
+    unfolding planOfBy numbersBy
+    sized = packets-sized s k information (lent .info-long)
 
-      -- the plan has as many information places as the rule
-      own-number : (j : ℕ) → j < infoCount (numbersOf t) → j < k
-      own-number j h = subst (λ m. j < m) (own-places t ok few) h
+    made : Encodes P n s (checks t) ps (block P n s ps)
+    unfolding planOfBy numbersBy
+    made = block-encodes ch n s (checks t) (good t ok .distinct) (good t ok .low) ps sized (packets-length s k information)
 
-      -- there and back
-      back : packets s n (joined (block n s (checks t) ps)) ≡ block n s (checks t) ps
-      unfolding planOf numbersOf
-      back = packets-of s n (made .long) (made .sized)
+    info-below : (j : ℕ) → j < k → getD (P .info) j 0 < n
+    unfolding planOfBy numbersBy
+    info-below j h = let m = info-number ch n (checks t) (good t ok .distinct) (good t ok .low) in
+        all-in (λ q. q < n) _ (getD-has (P .info) j (omega arith)) (info-low ch n (checks t) (good t ok .distinct) (good t ok .low))
 
-      made-carries : Carries t (numbersOf t) s information (joined (block n s (checks t) ps))
-      unfolding planOf numbersOf
-      made-carries = record {
-        long = joined-length s (made .sized) ∙ ap (λ m. m * s) (made .long);
-        carries = λ j l. let h = own-number j l in ap (λ I. partAt s (getD I j 0) (joined (block n s (checks t) ps))) (own-info t ok few)
-            ∙ sym (packet-at s n (joined (block n s (checks t) ps)) (getD (planOf t .info) j 0) (info-below j h))
-            ∙ ap (λ l. getD l (getD (planOf t .info) j 0) []) back ∙ made .carries j h ∙ packet-at s k information j h;
-        codeword = subst (Codeword s (checks t)) (sym back) (made .zero-sums);
-      }
+    -- the plan has as many information places as the rule
+    own-number : (j : ℕ) → j < infoCount p → j < k
+    own-number j h = subst (λ m. j < m) (own-places ch t ok few) h
 
-      taken : (b : List ℕ) → Carries t (numbersOf t) s information b → Encodes n s (checks t) ps (packets s n b)
-      unfolding planOf numbersOf
-      taken b r = record {
-        long = packets-length s n b;
-        sized = packets-sized s n b (r .long);
-        carries = λ j h. packet-at s n b (getD (planOf t .info) j 0) (info-below j h) ∙ ap (λ I. partAt s (getD I j 0) b) (sym (own-info t ok few))
-            ∙ r .carries j (subst (λ m. j < m) (sym (own-places t ok few)) h) ∙ sym (packet-at s k information j h);
-        zero-sums = r .codeword;
-      }
+    -- there and back
+    back : packets s n (joined (block P n s ps)) ≡ block P n s ps
+    unfolding planOfBy numbersBy
+    back = packets-of s n (made .long) (made .sized)
 
-      -- demand 2, planning and then encoding
-      pub the-one-block : TheOneBlock t (numbersOf t) s information blockBuffer scratchBuffer limit
-      unfolding planOf numbersOf
-      the-one-block = record {
-        not-refused = fits;
-        carries = subst (Carries t (numbersOf t) s information) (sym after) made-carries;
-        only = λ b r. sym (packets-joined s n b (r .long))
-            ∙ ap joined (one-block n s (checks t) (good .distinct) (good .low) ps sized (packets-length s k information) (packets s n b) (taken b r)) ∙ sym after;
-      }
+    made-carries : Carries t p s information (joined (block P n s ps))
+    unfolding planOfBy numbersBy
+    made-carries = record {
+      long = joined-length s (made .sized) ∙ ap (λ m. m * s) (made .long);
+      carries = λ j l. let h = own-number j l in ap (λ I. partAt s (getD I j 0) (joined (block P n s ps))) (own-info ch t ok few)
+          ∙ sym (packet-at s n (joined (block P n s ps)) (getD (P .info) j 0) (info-below j h))
+          ∙ ap (λ l. getD l (getD (P .info) j 0) []) back ∙ made .carries j h ∙ packet-at s k information j h;
+      codeword = subst (Codeword s (checks t)) (sym back) (made .zero-sums);
+    }
+
+    taken : (b : List ℕ) → Carries t p s information b → Encodes P n s (checks t) ps (packets s n b)
+    unfolding planOfBy numbersBy
+    taken b r = record {
+      long = packets-length s n b;
+      sized = packets-sized s n b (r .long);
+      carries = λ j h. packet-at s n b (getD (P .info) j 0) (info-below j h) ∙ ap (λ I. partAt s (getD I j 0) b) (sym (own-info ch t ok few))
+          ∙ r .carries j (subst (λ m. j < m) (sym (own-places ch t ok few)) h) ∙ sym (packet-at s k information j h);
+      zero-sums = r .codeword;
+    }
+
+    -- demand 2, planning and then encoding
+    pub the-one-block : TheOneBlock t p s information blockBuffer scratchBuffer limit
+    unfolding planOfBy numbersBy
+    the-one-block = record {
+      not-refused = fits;
+      carries = subst (Carries t p s information) (sym after) made-carries;
+      only = λ b r. sym (packets-joined s n b (r .long))
+          ∙ ap joined (one-block ch n s (checks t) (good t ok .distinct) (good t ok .low) ps sized (packets-length s k information) (packets s n b) (taken b r)) ∙ sym after;
+    }
 
 -- ---- the calls, one after the other
 module _ (t planBuffer work : List ℕ) (ok : planningRefusal t planBuffer work ≡ 0) where
@@ -224,7 +238,7 @@ module _ (t planBuffer work : List ℕ) (ok : planningRefusal t planBuffer work 
   pub planning-then-encoding : (s : ℕ) (information blockBuffer scratchBuffer : List ℕ) (limit : ℕ) → ToTheLastStep t (handed t planBuffer work) s information blockBuffer scratchBuffer limit
       → TheOneBlock t (handed t planBuffer work) s information blockBuffer scratchBuffer limit
   planning-then-encoding s i b c limit =
-      subst (λ p. ToTheLastStep t p s i b c limit → TheOneBlock t p s i b c limit) (sym plan-written) (the-one-block t table-ok few-aside s i b c limit)
+      subst (λ p. ToTheLastStep t p s i b c limit → TheOneBlock t p s i b c limit) (sym plan-written) (the-one-block byFreed t table-ok few-aside s i b c limit)
 
   -- which is a codeword under the table of that size
   pub encoding-codeword : (s : ℕ) (information blockBuffer scratchBuffer : List ℕ) (limit : ℕ) → ToTheLastStep t (handed t planBuffer work) s information blockBuffer scratchBuffer limit
@@ -237,7 +251,7 @@ module _ (t planBuffer work : List ℕ) (ok : planningRefusal t planBuffer work 
 
   -- the planner's reported number of add steps is the plan's
   pub additions-reported : planningAnswer t planBuffer work .additions ≡ addSteps (stepsOf (handed t planBuffer work))
-  additions-reported = ap (λ r. planningAnswerAt r t .additions) ok ∙ sym (ap (λ p. addSteps (stepsOf p)) plan-written ∙ ap addSteps (own-steps t table-ok few-aside))
+  additions-reported = ap (λ r. planningAnswerAt r t .additions) ok ∙ sym (ap (λ p. addSteps (stepsOf p)) plan-written ∙ ap addSteps (own-steps byFreed t table-ok few-aside))
 
   -- demand 3: the last step
   pub all-counted : (s : ℕ) (information blockBuffer scratchBuffer : List ℕ) (limit : ℕ) → ToTheLastStep t (handed t planBuffer work) s information blockBuffer scratchBuffer limit
@@ -248,5 +262,4 @@ module _ (t planBuffer work : List ℕ) (ok : planningRefusal t planBuffer work 
       one = planning-then-encoding s i b c limit lent
 
       every : encodeAnswer (handed t planBuffer work) s i b c limit .additions ≡ addSteps (stepsOf (handed t planBuffer work))
-      every = count-within (handed t planBuffer work) s i b c limit (one .not-refused)
-          ∙ ap addSteps (limit-all (handed t planBuffer work) limit (accepted-encoding (handed t planBuffer work) s (length i) (length b) (length c) (one .not-refused) .plan) (lent .all-steps))
+      every = last-counted (handed t planBuffer work) s i b c limit (one .not-refused) (lent .all-steps)

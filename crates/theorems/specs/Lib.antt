@@ -10,5 +10,6 @@ pub mod StairsKept
 pub mod StairsPeeled
 pub mod StairsPlanned
 pub mod Starred
+pub mod StoredPlans
 pub mod Week
 pub mod Worked

@@ -1,4 +1,5 @@
--- The planner's own plan: it is well-formed, and read back it is the rule's.
+-- The planner's own plan: it is well-formed, and read back it is the rule's. So it is whatever the choice of checks to set aside, and hence of the
+-- plans that were made by document 01's.
 use mathlib.Core.Path.{_≡_, refl, ap, ap₂, _∙_}
 use mathlib.Core.Bool.{Bool, true, false, cond, not, _||_, _&&_}
 use mathlib.Core.List.{List}
@@ -13,12 +14,13 @@ use Rattle.plan.specs.Step.{unpack, unpackAll}
 use Rattle.plan.specs.LayoutLaws.{Sound}
 use Rattle.plan.specs.ReadBack.{numbers-length, info-back, count-back, steps-back, packed-good, packed-back}
 use Rattle.plan.specs.Layout.{mostAside, mostSteps, leastNumbers, infoCount, infoIn, stepCount, stepsAt, stepsOf, badCounts, goodStep, wellFormed, planRefusal, planKept}
+use Rattle.rule.specs.Choices.{Chooses}
 use Rattle.rule.specs.Rule.{Plan}
 use Rattle.rule.specs.WellFormed.{well-formed, info-low}
 use Rattle.rule.specs.Info.{info-number, kept-few}
 use Rattle.lists.specs.Ascending.{Up, Up.none as unone, Up.then as uthen}
 use Rattle.rule.specs.WithinLimits.{info-up, kept-length, aside-few, steps-limit}
-use Rattle.planner.specs.Planning.{planOf, numbersOf}
+use Rattle.planner.specs.Planning.{planOfBy, numbersBy}
 
 -- ---- tests
 or-no : {a b : Bool} → a ≡ false → b ≡ false → (a || b) ≡ false
@@ -32,79 +34,83 @@ up-rising : (n : ℕ) {b : ℕ} {l : List ℕ} → Up b l → All (λ p. p < n) 
 up-rising n unone nil = refl
 up-rising n {b} (uthen {x = x} h u) (cons k a) = and-yes (and-yes (le-leb b x h) (lt-ltb x n k)) (up-rising n u a)
 
--- ---- for every accepted table
-module _ (t : List ℕ) (ok : refusal t ≡ 0) (few : planOf t .g ≤ mostAside) where
+-- ---- for every choice and every accepted table
+module _ (ch : Chooses) (t : List ℕ) (ok : refusal t ≡ 0) (few : planOfBy (ch .choice) t .g ≤ mostAside) where
   good : Good t
-  unfolding planOf numbersOf
+  unfolding planOfBy numbersBy
   good = accepted t ok
 
   abbrev n : ℕ
   n = places t
 
   abbrev P : Plan
-  P = planOf t
+  P = planOfBy (ch .choice) t
+
+  -- its numbers
+  abbrev w : List ℕ
+  w = numbersBy (ch .choice) t
 
   sounds : All (Sound (n + P .g) (P .info)) (P .steps)
-  unfolding planOf numbersOf
-  sounds = well-formed n (checks t) (good .distinct) (good .low)
+  unfolding planOfBy numbersBy
+  sounds = well-formed ch n (checks t) (good .distinct) (good .low)
 
   fits : n + P .g ≤ 4096
-  unfolding planOf numbersOf
+  unfolding planOfBy numbersBy
   fits = let a = good .few-places in omega arith
 
   -- reading back
-  pub own-info : infoIn (numbersOf t) ≡ P .info
-  unfolding planOf numbersOf
+  pub own-info : infoIn w ≡ P .info
+  unfolding planOfBy numbersBy
   own-info = info-back n (P .g) (P .M) (P .info) (P .steps)
 
-  pub own-count : stepCount (numbersOf t) ≡ length (P .steps)
-  unfolding planOf numbersOf
+  pub own-count : stepCount w ≡ length (P .steps)
+  unfolding planOfBy numbersBy
   own-count = count-back n (P .g) (P .M) (P .info) (P .steps)
 
-  pub own-length : length (numbersOf t) ≡ leastNumbers + length (P .info) + length (P .steps)
-  unfolding planOf numbersOf
+  pub own-length : length w ≡ leastNumbers + length (P .info) + length (P .steps)
+  unfolding planOfBy numbersBy
   own-length = numbers-length n (P .g) (P .M) (P .info) (P .steps)
 
-  pub own-steps : stepsOf (numbersOf t) ≡ P .steps
-  unfolding planOf numbersOf
+  pub own-steps : stepsOf w ≡ P .steps
+  unfolding planOfBy numbersBy
   own-steps = ap unpackAll (steps-back n (P .g) (P .M) (P .info) (P .steps)) ∙ packed-back (n + P .g) (P .info) fits sounds
 
-  pub own-places : infoCount (numbersOf t) ≡ n - P .M
-  unfolding planOf numbersOf
-  own-places = info-number n (checks t) (good .distinct) (good .low)
+  pub own-places : infoCount w ≡ n - P .M
+  unfolding planOfBy numbersBy
+  own-places = info-number ch n (checks t) (good .distinct) (good .low)
 
-  pub own-kept : planKept (numbersOf t) ≡ P .M
-  unfolding planOf numbersOf
+  pub own-kept : planKept w ≡ P .M
+  unfolding planOfBy numbersBy
   own-kept = refl
 
-  counts : badCounts (numbersOf t) ≡ false
-  unfolding planOf numbersOf
+  counts : badCounts w ≡ false
+  unfolding planOfBy numbersBy
   counts =
       let a = own-length in let b = own-count in let c = own-places in
       let g1 = good .few-places in let g2 = good .few-checks in
-      let k = kept-few n (checks t) (good .distinct) (good .low) in
-      let l = kept-length n (checks t) in
-      let f = aside-few n (checks t) (good .distinct) (good .low) in
-      let m = steps-limit n (checks t) (good .distinct) (good .low) (good .few-ones) few in
-      or-no (or-no (le-ltb (length (numbersOf t)) leastNumbers (omega arith)) refl)
+      let k = kept-few ch n (checks t) (good .distinct) (good .low) in
+      let l = kept-length (checks t) in
+      let f = aside-few ch n (checks t) (good .distinct) (good .low) in
+      let m = steps-limit ch n (checks t) (good .distinct) (good .low) (good .few-ones) few in
+      or-no (or-no (le-ltb (length w) leastNumbers (omega arith)) refl)
       (or-no (or-no (within mostPlaces n (good .some-places) (good .few-places))
       (or-no (le-ltb mostAside (P .g) few)
       (or-no (le-ltb (P .M) (P .g) f)
       (or-no (le-ltb n (P .M) k)
       (le-ltb mostChecks (P .M) (omega arith))))))
       (or-no (ap not (eq-eqb (length (P .info)) (n - P .M) c))
-      (or-no (le-ltb (length (numbersOf t)) (stepsAt (numbersOf t)) (omega arith))
-      (or-no (le-ltb mostSteps (stepCount (numbersOf t)) (omega arith))
-      (ap not (eq-eqb (length (numbersOf t)) (stepsAt (numbersOf t) + stepCount (numbersOf t)) (omega arith)))))))
+      (or-no (le-ltb (length w) (stepsAt w) (omega arith))
+      (or-no (le-ltb mostSteps (stepCount w) (omega arith))
+      (ap not (eq-eqb (length w) (stepsAt w + stepCount w) (omega arith)))))))
 
   -- "the planner's own plan is well-formed"
-  pub own-well-formed : wellFormed (numbersOf t) ≡ true
-  unfolding planOf numbersOf
+  pub own-well-formed : wellFormed w ≡ true
+  unfolding planOfBy numbersBy
   own-well-formed = and-yes (ap not counts)
-      (and-yes (ap (rising n 0) own-info ∙ up-rising n (info-up n (checks t)) (info-low n (checks t) (good .distinct) (good .low)))
+      (and-yes (ap (rising n 0) own-info ∙ up-rising n (info-up ch n (checks t)) (info-low ch n (checks t) (good .distinct) (good .low)))
       (ap₂ (λ I l. allPass (λ x. goodStep (n + P .g) I (unpack x)) l) own-info (steps-back n (P .g) (P .M) (P .info) (P .steps)) ∙ packed-good (n + P .g) (P .info) fits sounds))
 
   -- so that the encoder never refuses it with 9
-  pub own-accepted : planRefusal (numbersOf t) ≡ 0
-  unfolding planOf numbersOf
+  pub own-accepted : planRefusal w ≡ 0
+  unfolding planOfBy numbersBy
   own-accepted = ap (λ b. cond (not b) 9 0) own-well-formed

@@ -21,8 +21,9 @@ use Rattle.staircase.specs.Staircase.{staircaseChecks, staircaseRefusal, stairc
 use Rattle.staircase.specs.StaircaseLaws.{MadeTable, LeftSide, made-accepted, left-side}
 use Rattle.staircase.specs.Stairs.{staircase}
 use Rattle.plan.specs.Layout.{mostAside, planKept, infoIn, infoCount}
-use Rattle.rule.specs.Rule.{plan}
-use Rattle.planner.specs.Planning.{leastPlan, workWords, tooManyAside, planOf, planningRefusal}
+use Rattle.rule.specs.Choices.{byFreed}
+use Rattle.rule.specs.Rule.{mostFreed, plan}
+use Rattle.planner.specs.Planning.{leastPlan, workWords, tooManyAside, planOf, planningRefusal, planOfBy}
 use Rattle.planner.specs.PlanningLaws.{gap-decides, lengths-decide}
 use Rattle.encoder.specs.Encoding.{encodeBlockAfter}
 use Rattle.theorems.specs.Demands.{handed, plan-written, ToTheLastStep, TheOneBlock, planning-then-encoding}
@@ -58,14 +59,14 @@ module _ (k n ones seed s : ℕ) (buffer : List ℕ) (made : staircaseRefusal k 
 
   -- the rule's plan of it
   natural : Natural k (checks t) (planOf t)
-  unfolding planOf
+  unfolding planOfBy
   natural =
       let a = left .above in
       let b = left .rows in
       let z : k + length (left .left) ≡ places t = omega (arith, facts .places-are) in
       subst (λ x. Natural k x (plan (places t) x)) (sym by-left)
       (subst (λ x. Natural k (staircase k (left .left)) (plan x (staircase k (left .left)))) z
-      (staircase-planned k (left .left) (all-map (λ l r. rising-low k 0 l r) (left .ascending))))
+      (staircase-planned mostFreed k (left .left) (all-map (λ l r. rising-low k 0 l r) (left .ascending))))
 
   few : planOf t .g ≤ mostAside
   few = let g = natural .none-aside in omega arith
@@ -102,11 +103,11 @@ module _ (k n ones seed s : ℕ) (buffer : List ℕ) (made : staircaseRefusal k 
     kept-are = natural .all-kept ∙ checks-count
 
     info-is : infoIn p ≡ from 0 k
-    info-is = ap infoIn (plan-written t planBuffer work planned) ∙ own-info t (facts .accepted) few ∙ natural .information
+    info-is = ap infoIn (plan-written t planBuffer work planned) ∙ own-info byFreed t (facts .accepted) few ∙ natural .information
 
     below : (j : ℕ) → j < k → j < infoCount p
     below j h =
-        let e : infoCount p ≡ places t - planOf t .M = ap infoCount (plan-written t planBuffer work planned) ∙ own-places t (facts .accepted) few in
+        let e : infoCount p ≡ places t - planOf t .M = ap infoCount (plan-written t planBuffer work planned) ∙ own-places byFreed t (facts .accepted) few in
         let m = kept-are in
         let q = facts .places-are in
         let a = left .above in
@@ -121,7 +122,7 @@ module _ (k n ones seed s : ℕ) (buffer : List ℕ) (made : staircaseRefusal k 
     information-long =
         let a = left .above in
         let q = facts .places-are in
-        let m : planKept p ≡ n - k = ap planKept (plan-written t planBuffer work planned) ∙ own-kept t (facts .accepted) few ∙ kept-are in
+        let m : planKept p ≡ n - k = ap planKept (plan-written t planBuffer work planned) ∙ own-kept byFreed t (facts .accepted) few ∙ kept-are in
         let e : places t - planKept p ≡ k = omega arith in
         lent .info-long ∙ ap (λ x. x * z) e
 

@@ -1,4 +1,4 @@
--- A staircase is peeled from its last check to its first; none is set aside.
+-- A staircase is peeled from its last check to its first; none is set aside, whatever the choice of checks to set aside.
 use mathlib.Core.Path.{_≡_, refl, sym, ap, ap₂, _∙_, subst}
 use mathlib.Core.Bool.{Bool, true, false}
 use mathlib.Core.List.{List, [], _∷_, _++_, append-assoc, append-nil}
@@ -11,24 +11,15 @@ use Rattle.lists.specs.Lists.{highest, rev, has, All, All.nil, All.cons, count}
 use Rattle.lists.specs.ListLaws.{all-snoc}
 use Rattle.lists.specs.Tests.{eqb-true, eqb-false, byBool}
 use Rattle.staircase.specs.Stairs.{stair, stairsFrom, staircase}
-use Rattle.rule.specs.Rule.{first, without, inOneOnly, peel, PeelEvent.took, Solved, solvedOf, setAsideOf}
+use Rattle.rule.specs.Choices.{first-at, without-at}
+use Rattle.rule.specs.Rule.{Choice, inOneOnly, peelBy, PeelEvent.took, Solved, solvedOf, setAsideOf}
 use Rattle.theorems.specs.StairsKept.{Sources, has-stair, has-own}
 
 -- ---- a list with one check more at its end
--- no check but the last passes: it is counted once ..
+-- no check but the last passes: it is counted once
 count-last : (f : List ℕ → Bool) {L : List (List ℕ)} (c : List ℕ) → All (λ d. f d ≡ false) L → f c ≡ true → count f (L ++ (c ∷ [])) ≡ 1
 count-last f c nil h = rw (h, count)
 count-last f c (cons e a) h = rw (e, count) (count-last f c a h)
-
--- .. it is the first that passes ..
-first-last : (f : List ℕ → Bool) {L : List (List ℕ)} (c : List ℕ) → All (λ d. f d ≡ false) L → f c ≡ true → first f (L ++ (c ∷ [])) ≡ c
-first-last f c nil h = rw (h, first)
-first-last f c (cons e a) h = rw (e, first) (first-last f c a h)
-
--- .. and the others are left
-without-last : (f : List ℕ → Bool) {L : List (List ℕ)} (c : List ℕ) → All (λ d. f d ≡ false) L → f c ≡ true → without f (L ++ (c ∷ [])) ≡ L
-without-last f c nil h = rw (h, without)
-without-last f c (cons {x = d} e a) h = rw (e, without) (ap (λ x. d ∷ x) (without-last f c a h))
 
 -- a test that none passes
 count-no : (f : List ℕ → Bool) {L : List (List ℕ)} → All (λ d. f d ≡ false) L → count f L ≡ 0
@@ -78,9 +69,9 @@ owned-snoc p (d ∷ L) c = let z : suc p + length L ≡ p + suc (length L) = ome
     ap (λ x. record { own = p; check = d } ∷ x) (owned-snoc (suc p) L c ∙ ap (λ x. ownedFrom (suc p) L ++ (record { own = x; check = c } ∷ [])) z)
 
 -- the last check goes first, with the highest place
-peel-last : {k j : ℕ} {L : List (List ℕ)} {l : List ℕ} (n : ℕ) → Stairs k j L → All (λ p. p < k) l → k + j < n
-    → peel (suc j) n (L ++ ((l ++ stair k j) ∷ [])) ≡ took (k + j) (l ++ stair k j) ∷ peel j n L
-peel-last {k} {j} {L} {l} n s a h =
+peel-last : (choice : Choice) {k j : ℕ} {L : List (List ℕ)} {l : List ℕ} (n : ℕ) → Stairs k j L → All (λ p. p < k) l → k + j < n
+    → peelBy choice (suc j) n (L ++ ((l ++ stair k j) ∷ [])) ≡ took (k + j) (l ++ stair k j) ∷ peelBy choice j n L
+peel-last choice {k} {j} {L} {l} n s a h =
     let c = l ++ stair k j in
     let M = L ++ (c ∷ []) in
     let low = stairs-low s (k + j) (omega arith) in
@@ -88,20 +79,20 @@ peel-last {k} {j} {L} {l} n s a h =
     let top : highest n (inOneOnly M) ≡ some (k + j) = highest-at n (inOneOnly M) (k + j) h
     (ap (λ x. eqb x 1) (count-last (has (k + j)) c low own))
     (λ p g. ap (λ x. eqb x 1) (count-no (has p) (all-snoc (stairs-low s p (omega arith)) (has-stair k j p a g)))) in
-    rw (top, peel) (ap₂ (λ x y. took (k + j) x ∷ peel j n y) (first-last (has (k + j)) c low own) (without-last (has (k + j)) c low own))
+    rw (top, peelBy) (ap₂ (λ x y. took (k + j) x ∷ peelBy choice j n y) (first-at (has (k + j)) c [] low own) (without-at (has (k + j)) c [] low own ∙ append-nil L))
 
 -- none is set aside
-pub none-aside : {k j : ℕ} {L : List (List ℕ)} (n : ℕ) → Stairs k j L → k + j ≤ n → setAsideOf (peel j n L) ≡ []
-none-aside n none h = refl
-none-aside n (more s a) h = ap setAsideOf (peel-last n s a (omega arith)) ∙ none-aside n s (omega arith)
+pub none-aside : (choice : Choice) {k j : ℕ} {L : List (List ℕ)} (n : ℕ) → Stairs k j L → k + j ≤ n → setAsideOf (peelBy choice j n L) ≡ []
+none-aside choice n none h = refl
+none-aside choice n (more s a) h = ap setAsideOf (peel-last choice n s a (omega arith)) ∙ none-aside choice n s (omega arith)
 
 -- check i is solved i-th, with its own place k + i
-pub solved-stairs : {k j : ℕ} {L : List (List ℕ)} (n : ℕ) → Stairs k j L → k + j ≤ n → rev (solvedOf (peel j n L)) ≡ ownedFrom k L
-solved-stairs n none h = refl
-solved-stairs {k} n (more {j = j} {L = L} {l = l} s a) h =
+pub solved-stairs : (choice : Choice) {k j : ℕ} {L : List (List ℕ)} (n : ℕ) → Stairs k j L → k + j ≤ n → rev (solvedOf (peelBy choice j n L)) ≡ ownedFrom k L
+solved-stairs choice n none h = refl
+solved-stairs choice {k} n (more {j = j} {L = L} {l = l} s a) h =
     let c = l ++ stair k j in
-    ap (λ x. rev (solvedOf x)) (peel-last n s a (omega arith))
-    ∙ ap₂ (λ x y. x ++ (record { own = k + y; check = c } ∷ [])) (solved-stairs n s (omega arith)) (sym (stairs-length s))
+    ap (λ x. rev (solvedOf x)) (peel-last choice n s a (omega arith))
+    ∙ ap₂ (λ x y. x ++ (record { own = k + y; check = c } ∷ [])) (solved-stairs choice n s (omega arith)) (sym (stairs-length s))
     ∙ sym (owned-snoc k L c)
 
 -- the whole staircase

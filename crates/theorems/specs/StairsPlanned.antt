@@ -1,4 +1,4 @@
--- staircase-planned: every check is kept, none set aside, the sources are the information places.
+-- staircase-planned: every check is kept, none set aside, the sources are the information places; whatever the choice of checks to set aside.
 use mathlib.Core.Path.{_≡_, refl, sym, ap, ap₂, _∙_}
 use mathlib.Core.Bool.{Bool, true, false, not, _||_}
 use mathlib.Core.List.{List, [], _∷_, _++_, append-nil}
@@ -12,7 +12,7 @@ use Rattle.lists.specs.Numbers.{from-below, from-add, from-all, from-has, from-
 use Rattle.gf2.specs.Gf2.{isZero, column, choose, XorGroup}
 use Rattle.staircase.specs.Ascending.{stairs-count}
 use Rattle.staircase.specs.Stairs.{staircase}
-use Rattle.rule.specs.Rule.{kept, peel, Solved, solvedOf, setAsideOf, owns, fittedPlaces, unowned, solvingSteps, planSteps, Plan, plan}
+use Rattle.rule.specs.Rule.{Choice, kept, peelBy, Solved, solvedOf, setAsideOf, owns, fittedPlaces, unowned, solvingSteps, planSteps, Plan, planBy}
 use Rattle.theorems.specs.StairsKept.{Sources, all-kept}
 use Rattle.theorems.specs.StairsPeeled.{ownedFrom, stairs-all, none-aside, solved-stairs}
 
@@ -55,7 +55,7 @@ pub record Natural (k : ℕ) (cs : List (List ℕ)) (p : Plan) : Type 0 where
   pub information : p .info ≡ from 0 k
   pub steps : p .steps ≡ solvingSteps [] (ownedFrom k cs)
 
-module _ (k : ℕ) (ls : List (List ℕ)) (sources : Sources k ls) where
+module _ (choice : Choice) (k : ℕ) (ls : List (List ℕ)) (sources : Sources k ls) where
   -- the checks
   abbrev cs : List (List ℕ)
   cs = staircase k ls
@@ -66,19 +66,19 @@ module _ (k : ℕ) (ls : List (List ℕ)) (sources : Sources k ls) where
 
   -- the checks in the order of taking
   abbrev ts : List (List ℕ) → List Solved
-  ts K = solvedOf (peel (length K) n K)
+  ts K = solvedOf (peelBy choice (length K) n K)
 
   -- those set aside
   abbrev az : List (List ℕ) → List (List ℕ)
-  az K = setAsideOf (peel (length K) n K)
+  az K = setAsideOf (peelBy choice (length K) n K)
 
   -- none
   az-none : az cs ≡ []
-  az-none = ap (λ x. setAsideOf (peel x n cs)) (stairs-count k 0 ls) ∙ none-aside n (stairs-all k sources) (omega arith)
+  az-none = ap (λ x. setAsideOf (peelBy choice x n cs)) (stairs-count k 0 ls) ∙ none-aside choice n (stairs-all k sources) (omega arith)
 
   -- check i has place k + i
   ts-owned : rev (ts cs) ≡ ownedFrom k cs
-  ts-owned = ap (λ x. rev (solvedOf (peel x n cs))) (stairs-count k 0 ls) ∙ solved-stairs n (stairs-all k sources) (omega arith)
+  ts-owned = ap (λ x. rev (solvedOf (peelBy choice x n cs))) (stairs-count k 0 ls) ∙ solved-stairs choice n (stairs-all k sources) (omega arith)
 
   -- who owns a place
   owner : (p : ℕ) → has p (owns (ts cs)) ≡ has p (from k (length ls))
@@ -95,7 +95,7 @@ module _ (k : ℕ) (ls : List (List ℕ)) (sources : Sources k ls) where
       ∙ append-nil (from 0 k)
 
   -- the plan of a staircase
-  pub staircase-planned : Natural k cs (plan n cs)
+  pub staircase-planned : Natural k cs (planBy choice n cs)
   staircase-planned =
       let K : kept cs ≡ cs = all-kept k sources in
       let F : fittedPlaces n (ts cs) (az cs) ≡ [] = ap (fittedPlaces n (ts cs)) az-none ∙ none-fitted n (ts cs) in

@@ -16,13 +16,15 @@ use Rattle.alist.specs.Alist.{alistReadRefusalAt, alistTable}
 use Rattle.alist.specs.AlistText.{alistText, alistWriteRefusalAt}
 use Rattle.plan.specs.Layout.{mostSteps}
 use Rattle.plan.specs.Step.{addSteps}
-use Rattle.planner.specs.Planning.{planOf, numbersOf, planningRefusalAt, leastPlan, workWords}
+use Rattle.rule.specs.Buffers.{peeling}
+use Rattle.rule.specs.Rule.{kept, heaviest, peelBy, setAsideOf}
+use Rattle.planner.specs.Planning.{planOf, numbersOf, planningRefusalAt, leastPlan, workWords, numbersBy, planOfBy}
 use Rattle.encoder.specs.Encoding.{encodeRefusalAt, encodeAnswer, encodeBlockAfter, encodeScratchAfter}
 use Rattle.repair.specs.Repair.{repairRefusal, repairAnswer, repairBlockAfter, repairMapAfter}
 use Rattle.repair.specs.RepairTheorems.{oldAnswer}
 use Rattle.full.specs.Full.{fullRefusal, fullAnswer, fullBlockAfter, fullMapAfter}
 use Rattle.table.specs.Packets.{lowestNonzero}
-use Rattle.table.specs.Table.{atSize}
+use Rattle.table.specs.Table.{atSize, checks}
 use Rattle.verify.specs.Verify.{verifyRefusal, verifyAnswer}
 
 -- ---- the tables and the block of P2
@@ -42,6 +44,17 @@ planB = 3 ∷ 4 ∷ 1 ∷ 3 ∷ restB
 -- A "with a fourth check 0 1 4 5 added"
 abbrev tableA4 : List ℕ
 tableA4 = 2 ∷ 7 ∷ 1 ∷ 4 ∷ 4 ∷ 4 ∷ 4 ∷ 4 ∷ 16 ∷ 0 ∷ 2 ∷ 4 ∷ 6 ∷ 1 ∷ 2 ∷ 5 ∷ 6 ∷ 3 ∷ 4 ∷ 5 ∷ 6 ∷ 0 ∷ 1 ∷ 4 ∷ 5 ∷ []
+
+-- checks 1 2 3 4, 0 1 3 4, 0 2 3 4 and 1 2 4: the first of greatest weight frees no place, the next two free place 0
+abbrev tableC : List ℕ
+tableC = 2 ∷ 5 ∷ 1 ∷ 4 ∷ 4 ∷ 4 ∷ 4 ∷ 3 ∷ 15 ∷ 1 ∷ 2 ∷ 3 ∷ 4 ∷ 0 ∷ 1 ∷ 3 ∷ 4 ∷ 0 ∷ 2 ∷ 3 ∷ 4 ∷ 1 ∷ 2 ∷ 4 ∷ []
+
+-- its plan with one check set aside, and the plan that was made of it before C-18, with two
+abbrev planC : List ℕ
+planC = 3 ∷ 5 ∷ 1 ∷ 4 ∷ 1 ∷ 1 ∷ 26 ∷ 16384 ∷ 16793601 ∷ 12288 ∷ 16789505 ∷ 16789508 ∷ 0 ∷ 16777219 ∷ 16777220 ∷ 20480 ∷ 16797696 ∷ 16797697 ∷ 16797699 ∷ 16797700 ∷ 8192 ∷ 16785413 ∷ 16384 ∷ 16793601 ∷ 16793602 ∷ 12288 ∷ 16789505 ∷ 16789506 ∷ 16789508 ∷ 0 ∷ 16777218 ∷ 16777219 ∷ 16777220 ∷ []
+
+abbrev storedC : List ℕ
+storedC = 3 ∷ 5 ∷ 2 ∷ 4 ∷ 1 ∷ 0 ∷ 23 ∷ 16384 ∷ 12288 ∷ 16789504 ∷ 16789508 ∷ 20480 ∷ 16797699 ∷ 16797700 ∷ 24576 ∷ 16801792 ∷ 16801795 ∷ 16801796 ∷ 4096 ∷ 16781317 ∷ 8192 ∷ 16785413 ∷ 16785414 ∷ 16384 ∷ 16793601 ∷ 16793602 ∷ 12288 ∷ 16789504 ∷ 16789506 ∷ 16789508 ∷ []
 
 abbrev table9 : List ℕ
 table9 = 2 ∷ 1 ∷ 1 ∷ 1 ∷ 1 ∷ 1 ∷ 0 ∷ []
@@ -189,8 +202,18 @@ starred =
     ∷ record { given = answered (4 ∷ 4 ∷ 1 ∷ 3 ∷ restB) 1 (0xa5 ∷ []) (9 ∷ 9 ∷ 9 ∷ 9 ∷ []) (9 ∷ []); wanted = (9 ∷ 0 ∷ []) ∷ (9 ∷ 9 ∷ 9 ∷ 9 ∷ []) ∷ (9 ∷ []) ∷ [] }
     -- C-16: B's plan at size 2 with buffers for packets of one byte: refusal 5
     ∷ record { given = answered planB 2 (0xa5 ∷ []) (9 ∷ 9 ∷ 9 ∷ 9 ∷ []) (9 ∷ []); wanted = (5 ∷ 0 ∷ []) ∷ (9 ∷ 9 ∷ 9 ∷ 9 ∷ []) ∷ (9 ∷ []) ∷ [] }
+    -- C-18: "Table B keeps its plan": P3 and C-16's row of B's numbers are by the new rule; by the old one they are the same
+    ∷ record { given = numbersBy heaviest tableB ∷ []; wanted = planB ∷ [] }
+    -- C-18: the check that frees the most places, lowest number on a tie, is set aside; by the old rule the heaviest, and then a second one
+    ∷ record { given = setAsideOf (peeling tableC); wanted = (0 ∷ 1 ∷ 3 ∷ 4 ∷ []) ∷ [] }
+    ∷ record { given = setAsideOf (peelBy heaviest 4 5 (kept (checks tableC))); wanted = (1 ∷ 2 ∷ 3 ∷ 4 ∷ []) ∷ (0 ∷ 1 ∷ 3 ∷ 4 ∷ []) ∷ [] }
+    ∷ record { given = planned tableC; wanted = (0 ∷ []) ∷ (4 ∷ 3 ∷ 0 ∷ []) ∷ (1 ∷ []) ∷ (4 ∷ 15 ∷ 1 ∷ 18 ∷ []) ∷ [] }
+    ∷ record { given = numbersOf tableC ∷ numbersBy heaviest tableC ∷ []; wanted = planC ∷ storedC ∷ [] }
+    -- C-18: a5 by the new plan, at place 1, and by the stored one, at place 0
+    ∷ record { given = answered planC 1 (0xa5 ∷ []) (9 ∷ 9 ∷ 9 ∷ 9 ∷ 9 ∷ []) (9 ∷ []); wanted = (0 ∷ 18 ∷ []) ∷ (0xa5 ∷ 0xa5 ∷ 0xa5 ∷ 0x00 ∷ 0x00 ∷ []) ∷ (0xa5 ∷ []) ∷ [] }
+    ∷ record { given = answered storedC 1 (0xa5 ∷ []) (9 ∷ 9 ∷ 9 ∷ 9 ∷ 9 ∷ []) (9 ∷ 9 ∷ []); wanted = (0 ∷ 15 ∷ []) ∷ (0xa5 ∷ 0xa5 ∷ 0xa5 ∷ 0x00 ∷ 0x00 ∷ []) ∷ (0xa5 ∷ 0x00 ∷ []) ∷ [] }
     ∷ []
 
 pub starred-cases : map (λ c. c .given) starred ≡ map (λ c. c .wanted) starred
-unfolding planningRefusalAt encodeRefusalAt repairRefusal blamed fullRefusal verifyRefusal lowestNonzero planOf numbersOf alistWriteRefusalAt alistReadRefusalAt alistText alistTable numbersIn digitsWithin from
+unfolding planningRefusalAt encodeRefusalAt repairRefusal blamed fullRefusal verifyRefusal lowestNonzero planOfBy numbersBy alistWriteRefusalAt alistReadRefusalAt alistText alistTable numbersIn digitsWithin from
 starred-cases = refl
