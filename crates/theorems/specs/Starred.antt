@@ -96,7 +96,7 @@ encoded t s information buffer scratch = let r = encodeAnswer (numbersOf t) s in
     planning t ∷ (r .refusal ∷ r .additions ∷ []) ∷ encodeBlockAfter (numbersOf t) s information buffer scratch mostSteps ∷ []
 
 -- encoding by the plan w: refusal and additions, the block and the scratch
-abbrev answered : List ℕ → ℕ → List ℕ → List ℕ → List ℕ → List (List ℕ)
+abbrev pub answered : List ℕ → ℕ → List ℕ → List ℕ → List ℕ → List (List ℕ)
 answered w s information buffer scratch = let r = encodeAnswer w s information buffer scratch mostSteps in
     (r .refusal ∷ r .additions ∷ []) ∷ encodeBlockAfter w s information buffer scratch mostSteps ∷ encodeScratchAfter w s information buffer scratch mostSteps ∷ []
 
