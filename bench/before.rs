@@ -1,10 +1,18 @@
-//! Encoding by two builds of the uplink's library, as ratios within one run.
+//! Planning and encoding by two builds of the uplink's library, as ratios within
+//! one run.
 //!
 //! A round is one call of each on the same buffers; the one that comes first in
-//! one round comes last in the next. A block is cold if block, scratch and
-//! information were flushed from the caches before each call; the plan stays.
-//! A plan is made once and used at each size. Before anything is timed answer,
-//! block and scratch of both are compared.
+//! one round comes last in the next.
+//!
+//! Planning: the builds may plan a table differently, as before and after C-18.
+//! Both accept it, and each gives the same plan in all rounds. How many checks of
+//! a table are set aside is chance: the rounds of several tables of a kind are
+//! put together.
+//!
+//! Encoding: a plan is made once and used at each size, by both. A block is cold
+//! if block, scratch and information were flushed from the caches before each
+//! call; the plan stays. Before anything is timed answer, block and scratch of
+//! both are compared.
 //!
 //! Both builds have the call with the size, that is, since C-16. An older one has
 //! another call and another plan, and can't be measured here.
@@ -18,47 +26,107 @@ mod model;
 mod plain;
 mod rounds;
 mod tuned;
+#[macro_use]
+mod uplink;
 
 use gen::Rng;
-use rounds::{flush, micros, millis, plan, rounds, table, Ratio, SIZES, TABLES};
-use std::time::Instant;
+use rounds::{flush, micros, millis, plan, rounds, table, tables, Ratio, SIZES, TABLES};
+use std::time::{Duration, Instant};
+use uplink::{Build, LIBRARY};
 
-/// As uplink.h has it.
-type Call = unsafe extern "C" fn(
-    *const u32,
-    usize,
-    usize,
-    *const u8,
-    usize,
-    *mut u8,
-    usize,
-    *mut u8,
-    usize,
-    usize,
-) -> model::Encoded;
+build!(BEFORE, "before", before_bs_plan, before_bs_encode);
 
-macro_rules! encode {
-    ($library:literal, $name:ident) => {
-        #[link(name = $library, kind = "static")]
-        extern "C" {
-            fn $name(
-                plan: *const u32,
-                plan_len: usize,
-                size: usize,
-                information: *const u8,
-                information_len: usize,
-                block: *mut u8,
-                block_len: usize,
-                scratch: *mut u8,
-                scratch_len: usize,
-                limit: usize,
-            ) -> model::Encoded;
+/// The later build and the earlier one.
+const BUILDS: [Build; 2] = [LIBRARY, BEFORE];
+
+/// Times of both builds in each round.
+fn measure(long: Duration, mut timed: impl FnMut(usize) -> f64) -> Vec<[f64; 2]> {
+    let mut first = 1;
+    rounds(long, || {
+        first = 1 - first;
+        let mut times = [0.0; 2];
+        for build in [first, 1 - first] {
+            times[build] = timed(build);
         }
-    };
+        times
+    })
 }
 
-encode!("uplink", bs_encode);
-encode!("before", before_bs_encode);
+/// The time of the later build, and its ratio to the earlier one.
+fn figures(times: &[[f64; 2]]) -> (f64, Ratio) {
+    let time = Ratio::of(times.iter().map(|times| times[0])).median;
+    (time, Ratio::of(times.iter().map(|times| times[0] / times[1])))
+}
+
+// ----------------------------------------------------------------- planning
+
+/// Beside the tables of the other benchmarks: 32 checks set aside.
+const COPIES: (&str, usize, usize) = ("copies", 128, 96);
+
+/// So many tables of a kind.
+const MANY: usize = 8;
+
+/// The most that planning may take beside the earlier build, on regular and
+/// staircase tables.
+const MARK: f64 = 1.3;
+
+/// A table that both builds accept, the answer and the plan of each, and what is
+/// lent.
+struct Planning {
+    table: Vec<u16>,
+    made: [(model::Planned, Vec<u32>); 2],
+    plan: Vec<u32>,
+    work: Vec<u64>,
+}
+
+impl Planning {
+    fn new(table: Vec<u16>) -> Option<Self> {
+        let (mut plan, mut work) = (vec![7; model::PLAN_BUFFER], vec![7; model::WORK_BUFFER]);
+        let made = BUILDS.map(|build| {
+            let answer = (build.plan)(&table, &mut plan, &mut work);
+            (answer, plan[..answer.length as usize].to_vec())
+        });
+        let accepted = made.iter().all(|(answer, _)| answer.refusal == 0);
+        accepted.then_some(Planning { table, made, plan, work })
+    }
+    fn timed(&mut self, build: usize) -> f64 {
+        let Planning { table, made, plan, work } = self;
+        let start = Instant::now();
+        let answer = (BUILDS[build].plan)(table, plan, work);
+        let time = micros(start);
+        let (expected, words) = &made[build];
+        assert!(answer == *expected && plan.starts_with(words), "another plan");
+        time
+    }
+}
+
+/// The gaps are medians over the tables.
+fn compare_planning() {
+    println!(
+        "{:<18} {:>6} {:>10} {:>7} {:>8}  {:<22} {:>4}  verdict",
+        "table", "tables", "gap before", "gap now", "us", "plan, now to before", "mark"
+    );
+    for (kind, n, m) in TABLES.into_iter().chain([COPIES]) {
+        let mut some: Vec<Planning> =
+            tables(kind, n, m, 1).filter_map(Planning::new).take(MANY).collect();
+        let gap = |build: usize| {
+            Ratio::of(some.iter().map(|with| with.made[build].0.gap as f64)).median
+        };
+        let gaps = format!("{:>10} {:>7}", gap(1), gap(0));
+        let long = millis(4000) / MANY as u32;
+        let times: Vec<[f64; 2]> =
+            some.iter_mut().flat_map(|with| measure(long, |build| with.timed(build))).collect();
+        let (time, ratio) = figures(&times);
+        let verdict = match kind {
+            "regular" | "staircase" => format!("{MARK:.2}  {}", ratio.verdict(MARK)),
+            _ => format!("{:>4}", "-"),
+        };
+        let table = format!("{kind} {n} {m}");
+        println!("{table:<18} {MANY:>6} {gaps} {time:>8.1}  {ratio:<22} {verdict}");
+    }
+}
+
+// ----------------------------------------------------------------- encoding
 
 /// Beside the tables of the other benchmarks: no step at all, and every other
 /// place an information place, so that no two stand together.
@@ -79,65 +147,37 @@ impl Lent {
         let (block, scratch) = (vec![7; p.n * size], vec![7; p.g * size]);
         Lent { plan: plan.to_vec(), size, information, block, scratch }
     }
-    fn encode(&mut self, call: Call) -> model::Encoded {
+    fn encode(&mut self, build: usize) -> model::Encoded {
         let Lent { plan, size, information, block, scratch } = self;
-        unsafe {
-            call(
-                plan.as_ptr(),
-                plan.len(),
-                *size,
-                information.as_ptr(),
-                information.len(),
-                block.as_mut_ptr(),
-                block.len(),
-                scratch.as_mut_ptr(),
-                scratch.len(),
-                usize::MAX,
-            )
-        }
+        (BUILDS[build].encode)(plan, *size, information, block, scratch)
     }
-    fn timed(&mut self, call: Call, warm: bool) -> f64 {
+    fn timed(&mut self, build: usize, warm: bool) -> f64 {
         if !warm {
             [&self.block, &self.scratch, &self.information].into_iter().for_each(|b| flush(b));
         }
         let start = Instant::now();
-        self.encode(call);
+        self.encode(build);
         micros(start)
     }
     /// Answer, block and scratch, whatever they held.
-    fn outcome(&mut self, call: Call) -> (model::Encoded, Vec<u8>, Vec<u8>) {
+    fn outcome(&mut self, build: usize) -> (model::Encoded, Vec<u8>, Vec<u8>) {
         self.block.fill(7);
         self.scratch.fill(7);
-        (self.encode(call), self.block.clone(), self.scratch.clone())
+        (self.encode(build), self.block.clone(), self.scratch.clone())
     }
 }
 
-/// Times of the later and of the earlier build in each round.
-fn measure(lent: &mut Lent, warm: bool) -> Vec<[f64; 2]> {
-    let mut first = false;
-    rounds(millis(1000), || {
-        first = !first;
-        if first {
-            [lent.timed(bs_encode, warm), lent.timed(before_bs_encode, warm)]
-        } else {
-            let before = lent.timed(before_bs_encode, warm);
-            [lent.timed(bs_encode, warm), before]
-        }
-    })
-}
-
-fn main() {
-    println!("{:<18} {:<5} {:>5} {:>8}  now to before", "table", "block", "s", "us");
+fn compare_encoding() {
+    println!("{:<18} {:<5} {:>5} {:>8}  encode, now to before", "table", "block", "s", "us");
     let mut slower = Vec::new();
     for (kind, n, m) in TABLES.into_iter().chain(MORE) {
         let (plan, _) = plan(&table(kind, n, m, 1));
         for s in SIZES {
             let mut lent = Lent::new(&plan, s);
-            assert!(lent.outcome(bs_encode) == lent.outcome(before_bs_encode), "another outcome");
+            assert!(lent.outcome(0) == lent.outcome(1), "another outcome");
             for (block, warm) in [("warm", true), ("cold", false)] {
-                let times = measure(&mut lent, warm);
-                let time = Ratio::of(times.iter().map(|times| times[0])).median;
-                let ratio = Ratio::of(times.iter().map(|times| times[0] / times[1]));
+                let times = measure(millis(1000), |build| lent.timed(build, warm));
+                let (time, ratio) = figures(&times);
                 let line = format!("{:<18} {block:<5} {s:>5}", format!("{kind} {n} {m}"));
                 println!("{line} {time:>8.1}  {ratio}");
                 if ratio.low > 1.0 {
@@ -148,4 +188,10 @@ fn main() {
     }
     println!("\nslower in nine rounds of ten: {}", slower.len());
     slower.iter().for_each(|line| println!("{line}"));
+}
+
+fn main() {
+    compare_planning();
+    println!();
+    compare_encoding();
 }

@@ -1,10 +1,10 @@
 #!/bin/sh
-# Encoding by two builds of the uplink's library in one program, called in turn:
-# bench/before.sh BEFORE NOW
+# Planning and encoding by two builds of the uplink's library in one program,
+# called in turn: bench/before.sh BEFORE NOW
 # Each of the two directories holds a libuplink.a whose encode is given the size,
 # as it is since C-16. QUICK=1: fewer rounds.
-# A line for each table and size: the time of the later build, and its ratio to
-# the earlier one.
+# A line for each kind of table planned, and one for each table and size encoded:
+# the time of the later build, and its ratio to the earlier one.
 set -eu
 here=$(cd "$(dirname "$0")" && pwd)
 if [ $# -ne 2 ] || [ ! -f "$1/libuplink.a" ] || [ ! -f "$2/libuplink.a" ]; then

@@ -18,6 +18,8 @@ mod model;
 mod plain;
 mod rounds;
 mod tuned;
+#[cfg(uplink)]
+mod uplink;
 
 use calls::{Call, Lent};
 use rounds::{flush, micros, millis, plan, rounds, table, with_size, Ratio, SIZES, TABLES};
@@ -230,7 +232,7 @@ fn mark_of_wrong(s: usize) -> f64 {
 }
 
 fn mark_line(call: &str, kind: &str, s: usize, to: &str, mark: f64, ratio: Ratio) -> String {
-    let verdict = if ratio.median <= mark { "holds" } else { "missed" };
+    let verdict = ratio.verdict(mark);
     format!("{call:<12} {kind:<10} {s:>5}  {to:<14} {mark:>7.2}  {ratio:<25} {verdict}")
 }
 

@@ -91,30 +91,7 @@ fn additions_of<'a>(checks: impl IntoIterator<Item = &'a Vec<usize>>) -> usize {
 #[cfg(uplink)]
 mod uplink {
     use super::*;
-
-    #[link(name = "uplink", kind = "static")]
-    extern "C" {
-        fn bs_plan(
-            table: *const u16,
-            table_len: usize,
-            plan: *mut u32,
-            plan_len: usize,
-            work: *mut u64,
-            work_len: usize,
-        ) -> model::Planned;
-        fn bs_encode(
-            plan: *const u32,
-            plan_len: usize,
-            size: usize,
-            information: *const u8,
-            information_len: usize,
-            block: *mut u8,
-            block_len: usize,
-            scratch: *mut u8,
-            scratch_len: usize,
-            limit: usize,
-        ) -> model::Encoded;
-    }
+    use crate::uplink::LIBRARY;
 
     /// Plain Rust is the tuned planner here.
     pub struct Plan {
@@ -143,17 +120,7 @@ mod uplink {
     impl Call for Plan {
         fn library(&mut self) {
             let Plan { lent, plan, work } = self;
-            let answer = unsafe {
-                bs_plan(
-                    lent.table.as_ptr(),
-                    lent.table.len(),
-                    plan.as_mut_ptr(),
-                    plan.len(),
-                    work.as_mut_ptr(),
-                    work.len(),
-                )
-            };
-            assert_eq!(answer, lent.planned);
+            assert_eq!((LIBRARY.plan)(&lent.table, plan, work), lent.planned);
         }
         fn plain(&mut self) {
             let answer = tuned::plan(black_box(&self.lent.table), &mut self.plan, &mut self.work);
@@ -191,20 +158,7 @@ mod uplink {
             let bytes = self.lent.bytes();
             let Lent { plan, planned, s, information, slots, .. } = &mut self.lent;
             let (block, scratch) = slots.split_at_mut(bytes);
-            let answer = unsafe {
-                bs_encode(
-                    plan.as_ptr(),
-                    plan.len(),
-                    *s,
-                    information.as_ptr(),
-                    information.len(),
-                    block.as_mut_ptr(),
-                    block.len(),
-                    scratch.as_mut_ptr(),
-                    scratch.len(),
-                    usize::MAX,
-                )
-            };
+            let answer = (LIBRARY.encode)(plan, *s, information, block, scratch);
             assert_eq!((answer.refusal, answer.additions), (0, planned.additions));
         }
         fn real(&mut self) {

@@ -31,6 +31,10 @@ impl Ratio {
         let at = |percent: usize| values[(values.len() - 1) * percent / 100];
         Ratio { median: at(50), low: at(10), high: at(90) }
     }
+    /// A mark is the most that the median may be.
+    pub fn verdict(&self, mark: f64) -> &'static str {
+        if self.median <= mark { "holds" } else { "missed" }
+    }
 }
 
 impl fmt::Display for Ratio {
@@ -81,9 +85,9 @@ pub fn flush(bytes: &[u8]) {
     }
 }
 
-/// The first table of a kind, by seed, that the planner takes.
-pub fn table(kind: &str, n: usize, m: usize, s: usize) -> Vec<u16> {
-    let of_seed = |seed| {
+/// The tables of a kind, by seed.
+pub fn tables(kind: &str, n: usize, m: usize, s: usize) -> impl Iterator<Item = Vec<u16>> + '_ {
+    (1..).map(move |seed| {
         let mut rng = Rng::new(seed, 0);
         let checks = match kind {
             "regular" => gen::regular(&mut rng, n, m, 3),
@@ -92,11 +96,21 @@ pub fn table(kind: &str, n: usize, m: usize, s: usize) -> Vec<u16> {
             "few" => (0..m).map(|_| rng.some_below(n, 4)).collect(),
             // Each packet twice: every other place is an information place.
             "pairs" => (0..m).map(|c| vec![2 * c, 2 * c + 1]).collect(),
+            // Copies of table B side by side, a check set aside in each.
+            "copies" => {
+                let (_, mut checks) = gen::side_by_side(&vec![gen::table_b(); m / 3]);
+                rng.shuffle(&mut checks);
+                checks
+            }
             _ => panic!("no such kind"),
         };
         model::table_words(n, s, &checks)
-    };
-    (1..).map(of_seed).find(|t| plan(t).1.refusal == 0).unwrap()
+    })
+}
+
+/// The first table of a kind that the planner takes.
+pub fn table(kind: &str, n: usize, m: usize, s: usize) -> Vec<u16> {
+    tables(kind, n, m, s).find(|t| plan(t).1.refusal == 0).unwrap()
 }
 
 /// The same table with another packet size.

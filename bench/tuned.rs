@@ -4,11 +4,14 @@
 //! and only the words up to it. For each place there are the number of live
 //! checks and the exclusive-or of their numbers, so that a place in exactly one
 //! of them names it; the scan down for the highest such place starts from a
-//! bound that is raised where a place becomes single. A column is one u32 a
-//! place, pushed through the checks; fitted places and the inverse come from
-//! one scan over masks.
+//! bound that is raised where a place becomes single. When a check is to be set
+//! aside no place is single. So a place in exactly two live checks then lies in
+//! both the next time, or both are gone: what a live check would free only grows,
+//! by places of checks gone in between. A column is one u32 a place, pushed
+//! through the checks; fitted places and the inverse come from one scan over
+//! masks.
 
-use crate::model::{Planned, MAX_GAP, MAX_PLACES, PLAN_BUFFER, WORK_BUFFER};
+use crate::model::{Planned, MAX_CHECKS, MAX_GAP, MAX_PLACES, PLAN_BUFFER, WORK_BUFFER};
 use crate::plain::{look_over, Checks};
 
 /// Words of a row.
@@ -48,27 +51,79 @@ fn kept_checks(t: &Checks, work: &mut [u64]) -> Vec<u16> {
     kept
 }
 
+/// For step 3: how many places of each live check lie in exactly two live checks.
+struct Freed {
+    /// The checks that hold each place, place by place, and where they start.
+    holders: Vec<u16>,
+    starts: [u16; MAX_PLACES + 1],
+    /// The places that have come down to two, and are counted for both.
+    counted: [bool; MAX_PLACES],
+    /// One more than the number for each live check, 0 for others.
+    keys: [u8; MAX_CHECKS],
+}
+
+impl Freed {
+    /// For the kept checks that aren't taken.
+    fn new(t: &Checks, kept: &[u16], taken: &[(u16, u16)], count: &[u16; MAX_PLACES]) -> Self {
+        let mut keys = [0; MAX_CHECKS];
+        kept.iter().for_each(|c| keys[*c as usize] = 1);
+        taken.iter().for_each(|(c, _)| keys[*c as usize] = 0);
+        // First the end of each place's holders, then down as they are filled in.
+        let mut starts = [0; MAX_PLACES + 1];
+        let mut sum = 0;
+        for (start, k) in starts.iter_mut().zip(count) {
+            sum += *k;
+            *start = sum;
+        }
+        starts[MAX_PLACES] = sum;
+        let mut holders = vec![0; sum as usize];
+        for c in kept.iter().filter(|c| keys[**c as usize] == 1) {
+            for p in t.check(*c as usize) {
+                let start = &mut starts[*p as usize];
+                *start -= 1;
+                holders[*start as usize] = *c;
+            }
+        }
+        let mut freed = Freed { holders, starts, counted: [false; MAX_PLACES], keys };
+        freed.add(0..t.n as u16, count);
+        freed
+    }
+    /// Counts those of some places that lie in exactly two live checks by now.
+    #[inline]
+    fn add(&mut self, places: impl Iterator<Item = u16>, count: &[u16; MAX_PLACES]) {
+        for p in places.map(usize::from) {
+            if count[p] == 2 && !self.counted[p] {
+                self.counted[p] = true;
+                for c in &self.holders[self.starts[p] as usize..self.starts[p + 1] as usize] {
+                    let key = &mut self.keys[*c as usize];
+                    *key += (*key > 0) as u8;
+                }
+            }
+        }
+    }
+    /// The live check with the most, the lowest number on a tie.
+    fn most(&self) -> u16 {
+        let most = self.keys.iter().fold(0, |most, key| most.max(*key));
+        self.keys.iter().position(|key| *key == most).unwrap() as u16
+    }
+}
+
 /// Steps 2 and 3: checks with their own places in the order of taking, and the
 /// checks set aside.
 fn triangulate(t: &Checks, kept: &[u16]) -> (Vec<(u16, u16)>, Vec<u16>) {
     let mut count = [0u16; MAX_PLACES];
     let mut names = [0u16; MAX_PLACES];
-    let mut live = vec![false; t.m];
     for c in kept {
-        live[*c as usize] = true;
         for p in t.check(*c as usize) {
             count[*p as usize] += 1;
             names[*p as usize] ^= *c;
         }
     }
-    // Checks from the heaviest down, the lowest number first.
-    let weight = |c: u16| t.check(c as usize).len();
-    let greatest = kept.iter().map(|c| weight(*c)).max().unwrap_or(0);
-    let of_weight = |w| kept.iter().copied().filter(move |c| weight(*c) == w);
-    let mut heavy = (0..=greatest).rev().flat_map(of_weight);
-
     let mut taken = Vec::with_capacity(kept.len());
     let mut aside = Vec::with_capacity(MAX_GAP);
+    let mut freed: Option<Freed> = None;
+    // Checks gone since one was last set aside, that one too.
+    let mut gone: Vec<u16> = Vec::with_capacity(kept.len());
     // No place from here on is single.
     let mut bound = t.n;
     for _ in 0..kept.len() {
@@ -80,12 +135,17 @@ fn triangulate(t: &Checks, kept: &[u16]) -> (Vec<(u16, u16)>, Vec<u16>) {
                 names[p]
             }
             None => {
-                let c = heavy.by_ref().find(|c| live[*c as usize]).unwrap();
+                let freed = freed.get_or_insert_with(|| Freed::new(t, kept, &taken, &count));
+                gone.iter().for_each(|c| freed.keys[*c as usize] = 0);
+                for c in gone.drain(..) {
+                    freed.add(t.check(c as usize).iter().copied(), &count);
+                }
+                let c = freed.most();
                 aside.push(c);
                 c
             }
         };
-        live[c as usize] = false;
+        gone.push(c);
         for p in t.check(c as usize) {
             let p = *p as usize;
             count[p] -= 1;
