@@ -4,15 +4,16 @@ use mathlib.Core.Path.{_≡_, refl, sym, ap, ap₂, _∙_, subst}
 use mathlib.Core.Bool.{Bool, true, false, false≢true}
 use mathlib.Core.List.{List, [], _∷_, _++_}
 use mathlib.Core.Logic.{⊎-elim}
-use Prim.Native.Nat.{ℕ, zero, suc, _+_, _<_, _≤_, max}
+use mathlib.Core.Option.{none}
+use Prim.Native.Nat.{ℕ, suc, _<_, _≤_, max}
 use native.Mathlib.Omega.{arith}
 use borrow.Author.Tests.{ne-eqb}
 use lib.Dec.{eqb}
 use lib.ListN.{length}
-use Rattle.lists.specs.Lists.{anyOf, All, All.nil, All.cons}
+use Rattle.lists.specs.Lists.{anyOf, highest, All, All.nil, All.cons}
 use Rattle.lists.specs.ListLaws.{all-map}
 use Rattle.lists.specs.Tests.{eqb-true, eqb-false, eqb-self, byBool, side, or-l, or-r}
-use Rattle.rule.specs.Rule.{Choice, first, without, freed, greatest, worthMost, mostFreed}
+use Rattle.rule.specs.Rule.{Choice, first, without, inOneOnly, freed, greatest, worthMost, mostFreed, peelBy, peel, aside}
 
 -- a choice by which some live check is chosen, wherever there is one
 pub record Chooses : Type 0 where
@@ -117,9 +118,23 @@ module _ (worth : List (List ℕ) → List ℕ → ℕ) where
       let off : All (λ d. f d ≡ false) (r .before) = all-map (λ d l. ap (eqb (w d)) G ∙ ne-eqb (w d) (w c) (λ e. omega arith)) (r .less) in
       (ap (first f) (r .among) ∙ first-at f c (r .after) off on, ap (without f) (r .among) ∙ without-at f c (r .after) off on ∙ sym (r .others))
 
--- document 02, C-18: "Step 3 now takes the live check with the most places that lie in exactly two live checks, lowest number on a tie."
-pub step-three : (x : List ℕ) (L : List (List ℕ)) → FirstMost (freed (x ∷ L)) (x ∷ L) (first (mostFreed (x ∷ L)) (x ∷ L)) (without (mostFreed (x ∷ L)) (x ∷ L))
-step-three x L = most-taken freed x L
+-- ---- document 02, C-18: "Step 3 now takes the live check with the most places that lie in exactly two live checks, lowest number on a tie."
+-- where no place lies in exactly one live check, such a check is set aside and the others stay live; k of them are left
+pub record StepThree (k n : ℕ) (live : List (List ℕ)) : Type 0 where
+  pub check : List ℕ
+  pub rest : List (List ℕ)
+  pub most : FirstMost (freed live) live check rest
+  pub event : peel (suc k) n live ≡ aside check ∷ peel k n rest
 
-pub step-three-only : (live : List (List ℕ)) (c : List ℕ) (rest : List (List ℕ)) → FirstMost (freed live) live c rest → (first (mostFreed live) live ≡ c) × (without (mostFreed live) live ≡ rest)
-step-three-only live c rest r = most-only freed live c rest r
+pub step-three : (k n : ℕ) (x : List ℕ) (L : List (List ℕ)) → highest n (inOneOnly (x ∷ L)) ≡ none → StepThree k n (x ∷ L)
+step-three k n x L e = record {
+  check = first (mostFreed (x ∷ L)) (x ∷ L);
+  rest = without (mostFreed (x ∷ L)) (x ∷ L);
+  most = most-taken freed x L;
+  event = rw (e, peelBy);
+}
+
+-- and no other is
+pub step-three-only : (k n : ℕ) (live : List (List ℕ)) (c : List ℕ) (rest : List (List ℕ)) → highest n (inOneOnly live) ≡ none → FirstMost (freed live) live c rest
+    → peel (suc k) n live ≡ aside c ∷ peel k n rest
+step-three-only k n live c rest e r = let q = most-only freed live c rest r in rw (e, peelBy) (ap₂ (λ x y. aside x ∷ peel k n y) (q .0) (q .1))

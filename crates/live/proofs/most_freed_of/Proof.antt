@@ -4,7 +4,7 @@ use Rattle.table.specs.Checks.{check}
 use Rattle.live.specs.Most.{lives, mostFrom, twos}
 use Rattle.live.proofs.Freed.{freed-check}
 use Rattle.live.proofs.Most.{lives-hit, lives-miss, lives-end, most-up, most-keep}
-use Prim.Native.Nat.{_+_, _-_, _≤_}
+use Prim.Native.Nat.{_-_, _≤_}
 use mathlib.Core.Path.{_≡_, refl, sym, ap, _∙_}
 use mathlib.Core.Logic.{⊎-elim}
 use native.Mathlib.Omega.{arith}
