@@ -27,8 +27,15 @@
  * must have as s the size that was encoded with.
  *
  * Earlier plans started with 4, n, s, g, M. A stored one is refused with 9:
- * make it anew from its table. bs_encode has grown by size: build callers
- * anew.
+ * write 3 for the 4 and leave out s, or make it anew from its table. bs_encode
+ * has grown by size: build callers anew.
+ *
+ * Which checks the planner sets aside has changed since (C-18). A table that
+ * has any may get another plan than before: other information places, another
+ * gap, and 6 where it was accepted or the other way round. A plan stored
+ * before, in the layout above, still runs and gives the block that carries the
+ * information at its own information places; go by those of the plan that
+ * encodes.
  *
  * No call writes a byte that isn't named here. Lengths count elements, not
  * bytes. Buffers lent to one call don't overlap, and a pointer isn't null even

@@ -36,11 +36,11 @@ inOneOnly live p = eqb (count (has p) live) 1
 abbrev pub inTwoOnly : List (List ℕ) → ℕ → Bool
 inTwoOnly live p = eqb (count (has p) live) 2
 
--- which live check is set aside: the first that passes
+-- a choice of the check to set aside: given the live checks, a test; the first of them that passes is taken
 abbrev pub Choice : Type 0
 Choice = List (List ℕ) → List ℕ → Bool
 
--- by what a check is worth: one of those that are worth most
+-- the choice of a check that is worth most
 abbrev pub greatest : (List ℕ → ℕ) → List (List ℕ) → ℕ
 greatest worth [] = 0
 greatest worth (c ∷ cs) = max (worth c) (greatest worth cs)
@@ -48,15 +48,16 @@ greatest worth (c ∷ cs) = max (worth c) (greatest worth cs)
 abbrev pub worthMost : (List (List ℕ) → List ℕ → ℕ) → Choice
 worthMost worth live c = eqb (worth live c) (greatest (worth live) live)
 
--- how many places of a check it would free
+-- "the places it would free": how many of its places lie in exactly two live checks
 abbrev pub freed : List (List ℕ) → List ℕ → ℕ
 freed live c = count (inTwoOnly live) c
 
--- document 02, C-18: "the live check with the most places that lie in exactly two live checks". This is what to change for another choice.
+-- document 02, C-18: "Step 3 now takes the live check with the most places that lie in exactly two live checks, lowest number on a
+-- tie." This is what to change for another choice.
 abbrev pub mostFreed : Choice
 mostFreed = worthMost freed
 
--- document 01: "the live check of greatest weight", by which plans were made before C-18
+-- document 01, before C-18: "set aside the live check of greatest weight, lowest number on a tie". Stored plans were made by it.
 abbrev pub heaviest : Choice
 heaviest = worthMost (λ live c. length c)
 
