@@ -41,7 +41,7 @@ fn bytes(words: &[u16]) -> Vec<u8> {
 }
 
 fn random_case(program: &str, rng: &mut Rng) -> Result<(), String> {
-    let t = gen::table(rng);
+    let t = if rng.once_in(3) { gen::gap_table(rng) } else { gen::table(rng) };
     let mut words = gen::words(&t);
     if rng.once_in(3) {
         for _ in 0..rng.range(1, 2) {
@@ -94,6 +94,8 @@ fn main() {
         ("a place not below n", bytes(&[2, 2, 1, 1, 2, 2, 0, 2])),
         ("32 copies of B", bytes(&table_of(gen::side_by_side(&vec![gen::table_b(); 32])))),
         ("33 copies of B", bytes(&table_of(gen::side_by_side(&vec![gen::table_b(); 33])))),
+        ("the heaviest check frees none", bytes(&table_of(gen::heaviest_frees_none()))),
+        ("a check of weight 1 set aside", bytes(&table_of(gen::weight_one_first()))),
     ];
     for (name, file) in &fixed {
         run.fixed(name, listed(&program, file));

@@ -1,6 +1,8 @@
 //! The uplink's library against the model: planner and encoder. The cases of one
-//! plan at many packet sizes are in sizes.rs.
+//! plan at many packet sizes are in sizes.rs, those of the check that is set aside
+//! and of stored plans in aside.rs.
 
+mod aside;
 mod gen;
 mod harness;
 mod model;
@@ -8,7 +10,7 @@ mod sizes;
 
 use gen::Rng;
 use harness::{equal, holds, same, Lent, Run};
-use model::{Encoded, Plan, Planned, Step, Table};
+use model::{Encoded, Layout, Plan, Planned, Step, Table};
 
 #[link(name = "uplink", kind = "static")]
 extern "C" {
@@ -36,7 +38,19 @@ extern "C" {
 
 // ------------------------------------------------ one call, both ways
 
-/// The library's answer and plan buffer, if they are the model's.
+/// What is claimed of the counts of an accepted plan.
+fn bounds(answer: &Planned) -> Result<(), String> {
+    let (g, kept, ones) = (answer.gap as usize, answer.kept as usize, answer.ones as usize);
+    let adds = answer.additions as usize;
+    holds("additions at most 2(W - M) + g(g + 1)", adds <= 2 * (ones - kept) + g * (g + 1))?;
+    if g * (g + 1) <= 2 * (ones - kept) {
+        holds("additions at most 4(W - M)", adds <= 4 * (ones - kept))?;
+    }
+    Ok(())
+}
+
+/// The library's answer and plan buffer, if they are the model's and an accepted
+/// plan keeps its bounds.
 fn plan_into(
     rng: &mut Rng,
     table: &[u16],
@@ -62,6 +76,9 @@ fn plan_into(
     lent_table.kept("plan, table")?;
     lent_plan.holds("plan, plan", &plan)?;
     lent_work.holds("plan, work", &work)?;
+    if answer.refusal == 0 {
+        bounds(&answer)?;
+    }
     Ok((answer, plan))
 }
 
@@ -153,7 +170,13 @@ fn information_of(rng: &mut Rng, p: &Plan, size: usize) -> Vec<u8> {
     rng.bytes((p.n - p.kept) * size)
 }
 
-/// The encoder under limits: all of a short plan, some of a long one.
+/// The packets of a block at a plan's information places.
+fn carried(p: &Plan, block: &[u8], size: usize) -> Vec<u8> {
+    p.information.iter().flat_map(|place| &block[place * size..][..size]).copied().collect()
+}
+
+/// The encoder under limits: all of a short plan, some of a long one. The block
+/// after all steps; each carries the information.
 fn encode_limits(rng: &mut Rng, words: &[u32], size: usize) -> Result<Vec<u8>, String> {
     let p = model::read_plan(words).ok_or("the plan isn't well-formed")?;
     let information = information_of(rng, &p, size);
@@ -171,6 +194,7 @@ fn encode_limits(rng: &mut Rng, words: &[u32], size: usize) -> Result<Vec<u8>, S
     for limit in limits {
         let (answer, block, scratch) = encode(rng, words, size, &information, lengths, limit)?;
         same("refusal", &answer.refusal, &0)?;
+        equal("information in the block", &carried(&p, &block, size), &information)?;
         if limit >= count {
             same("additions", &(answer.additions as usize), &model::adds(&p.steps))?;
             let result = (block, scratch);
@@ -185,17 +209,6 @@ fn encode_limits(rng: &mut Rng, words: &[u32], size: usize) -> Result<Vec<u8>, S
 
 // ------------------------------------------------------------ random cases
 
-/// What is claimed of the counts of an accepted plan.
-fn bounds(answer: &Planned) -> Result<(), String> {
-    let (g, kept, ones) = (answer.gap as usize, answer.kept as usize, answer.ones as usize);
-    let adds = answer.additions as usize;
-    holds("additions at most 2(W - M) + g(g + 1)", adds <= 2 * (ones - kept) + g * (g + 1))?;
-    if g * (g + 1) <= 2 * (ones - kept) {
-        holds("additions at most 4(W - M)", adds <= 4 * (ones - kept))?;
-    }
-    Ok(())
-}
-
 fn plan_case(rng: &mut Rng) -> Result<(), String> {
     let t = gen::table(rng);
     let table = gen::words(&t);
@@ -209,11 +222,7 @@ fn plan_case(rng: &mut Rng) -> Result<(), String> {
         }
         _ => {}
     }
-    let (answer, _) = plan_into(rng, &table, &plan, &work)?;
-    if answer.refusal == 0 {
-        bounds(&answer)?;
-    }
-    Ok(())
+    plan_into(rng, &table, &plan, &work).map(|_| ())
 }
 
 /// Planning, then encoding: the block is a codeword with the information.
@@ -224,7 +233,6 @@ fn encode_case(rng: &mut Rng) -> Result<(), String> {
     if answer.refusal != 0 {
         return same("refusal", &answer.refusal, &6);
     }
-    bounds(&answer)?;
     let block = encode_limits(rng, &plan, t.s)?;
     same("codeword", &model::verify(&table, &block).codeword, &1)?;
 
@@ -319,16 +327,17 @@ fn damaged_table_case(rng: &mut Rng) -> Result<(), String> {
 
 /// Small tables: layouts by trying subsets, codewords by trying them all.
 fn brute_case(rng: &mut Rng) -> Result<(), String> {
-    let t = gen::small_table(rng, 10, 9);
+    let t = match rng.below(2) {
+        0 => gen::small_table(rng, 10, 9),
+        _ => gen::small_gap_table(rng, 10, 9),
+    };
     let table = gen::words(&t);
     let layout = model::layout_by_subsets(&t);
     same("layout", &model::layout(&t).as_ref(), &Ok(&layout))?;
 
     let (answer, plan) = plan(rng, &table)?;
-    let steps = model::steps(&t, &layout);
     let g = layout.aside.len();
-    let words = model::plan_words(t.n, g, layout.kept.len(), &layout.information, &steps);
-    same("plan by subsets", &plan, &words)?;
+    same("plan by subsets", &plan, &model::words_of_layout(&t, &layout))?;
     same(
         "counts",
         &(answer.kept, answer.ones, answer.gap),
@@ -356,24 +365,26 @@ fn brute_case(rng: &mut Rng) -> Result<(), String> {
 }
 
 fn random_case(rng: &mut Rng, number: u64) -> Result<(), String> {
-    match number % 18 {
+    match number % 24 {
         0..=2 => plan_case(rng),
         3..=6 => encode_case(rng),
         7..=8 => foreign_case(rng),
         9..=11 => damaged_plan_case(rng),
         12..=13 => damaged_table_case(rng),
         14..=15 => brute_case(rng),
-        _ => sizes::random_case(rng),
+        16..=17 => sizes::random_case(rng),
+        _ => aside::random_case(rng),
     }
 }
 
 // ------------------------------------------------------------- fixed cases
 
-/// What is known of a table: g, fitted and information places, the block for
-/// information 01 02 04 .. and the additions.
+/// What is known of a table: checks set aside, fitted and information places, the
+/// block for information 01 02 04 .. and the additions.
 struct Known<'a> {
     name: &'a str,
     table: &'a [u16],
+    aside: &'a [usize],
     information: &'a [usize],
     fitted: &'a [usize],
     packets: &'a [u8],
@@ -381,27 +392,36 @@ struct Known<'a> {
     additions: u32,
 }
 
-fn known(k: &Known) -> Result<(), String> {
-    let mut rng = Rng::new(0, 0);
-    let t = model::look_over(k.table).map_err(|e| format!("refused {e}"))?;
-    let layout = model::layout(&t).map_err(|e| format!("refused {e}"))?;
+/// What a layout of the table is known to hold.
+fn known_layout(k: &Known, layout: &Layout) -> Result<(), String> {
+    same("aside", &layout.aside, &k.aside.to_vec())?;
     same("information", &layout.information, &k.information.to_vec())?;
-    same("fitted", &layout.fitted, &k.fitted.to_vec())?;
-    let (answer, plan) = plan(&mut rng, k.table)?;
-    same("refusal", &answer.refusal, &0)?;
-    same("gap", &(answer.gap as usize), &k.fitted.len())?;
-    same("additions planned", &answer.additions, &k.additions)?;
-    bounds(&answer)?;
-    let lengths = (t.n, k.fitted.len());
+    same("fitted", &layout.fitted, &k.fitted.to_vec())
+}
+
+/// Block and additions of a plan of the table, under each limit.
+fn known_block(k: &Known, plan: &[u32]) -> Result<(), String> {
+    let mut rng = Rng::new(0, 0);
+    let lengths = (k.block.len(), k.fitted.len());
     let steps = plan.len() - 6 - k.information.len();
     for limit in 0..=steps + 2 {
-        let (answer, block, _) = encode(&mut rng, &plan, 1, k.packets, lengths, limit)?;
+        let (answer, block, _) = encode(&mut rng, plan, 1, k.packets, lengths, limit)?;
         if limit >= steps {
             same("additions", &answer.additions, &k.additions)?;
-            same("block", &block, &k.block.to_vec())?;
+            equal("block", &block, k.block)?;
         }
     }
     Ok(())
+}
+
+fn known(k: &Known) -> Result<(), String> {
+    let t = model::look_over(k.table).map_err(|e| format!("refused {e}"))?;
+    known_layout(k, &model::layout(&t).map_err(|e| format!("refused {e}"))?)?;
+    let (answer, plan) = plan(&mut Rng::new(0, 0), k.table)?;
+    same("refusal", &answer.refusal, &0)?;
+    same("gap", &(answer.gap as usize), &k.aside.len())?;
+    same("additions planned", &answer.additions, &k.additions)?;
+    known_block(k, &plan)
 }
 
 fn planned(t: &Table, expected: Planned) -> Result<(), String> {
@@ -422,6 +442,7 @@ fn fixed_cases(run: &mut Run) {
         Known {
             name: "P1 and P2",
             table: a,
+            aside: &[],
             information: &[0, 1, 2, 4],
             fitted: &[],
             packets: &[1, 2, 4, 8],
@@ -431,6 +452,7 @@ fn fixed_cases(run: &mut Run) {
         Known {
             name: "P3",
             table: b,
+            aside: &[0],
             information: &[1],
             fitted: &[0],
             packets: &[0xa5],
@@ -440,6 +462,7 @@ fn fixed_cases(run: &mut Run) {
         Known {
             name: "P9",
             table: &[2, 1, 1, 1, 1, 1, 0],
+            aside: &[],
             information: &[],
             fitted: &[],
             packets: &[],
@@ -449,6 +472,7 @@ fn fixed_cases(run: &mut Run) {
         Known {
             name: "P10",
             table: &[2, 3, 1, 0, 0],
+            aside: &[],
             information: &[0, 1, 2],
             fitted: &[],
             packets: &[1, 2, 4],
@@ -458,6 +482,7 @@ fn fixed_cases(run: &mut Run) {
         Known {
             name: "a fitted packet that isn't zero",
             table: &[2, 4, 1, 3, 3, 2, 4, 9, 0, 1, 2, 2, 3, 0, 1, 2, 3],
+            aside: &[2],
             information: &[0],
             fitted: &[1],
             packets: &[1],
@@ -467,35 +492,52 @@ fn fixed_cases(run: &mut Run) {
         Known {
             name: "gap 2",
             table: &[2, 5, 1, 4, 4, 4, 4, 3, 15, 0, 1, 2, 4, 0, 2, 3, 4, 0, 1, 2, 3, 1, 3, 4],
+            aside: &[0, 1],
             information: &[0],
             fitted: &[1, 2],
             packets: &[1],
             block: &[1, 0, 1, 0, 0],
             additions: 15,
         },
+        // By document 01's rule the next two had gap 3: stored plans in aside.rs.
         Known {
-            name: "gap 3",
+            name: "gap 2, 3 by the old rule",
             table: &[
                 2, 6, 1, 5, 5, 4, 5, 4, 5, 23, 0, 1, 3, 4, 5, 0, 1, 4, 5, 0, 1, 2, 3, 5, 0, 1, 2, 3,
                 1, 2, 3, 4, 5,
             ],
+            aside: &[0, 1],
             information: &[0],
-            fitted: &[1, 2, 4],
+            fitted: &[1, 2],
             packets: &[1],
             block: &[1, 0, 1, 0, 1, 0],
-            additions: 21,
+            additions: 25,
         },
         Known {
-            name: "gap 3, an inverse of its own",
+            name: "gap 2, 3 by the old rule, a check not kept",
             table: &[
                 2, 6, 1, 6, 5, 5, 4, 5, 4, 2, 25, 0, 1, 2, 3, 5, 1, 2, 3, 4, 5, 0, 1, 3, 5, 0, 2, 3,
                 4, 5, 1, 2, 4, 5, 2, 3,
             ],
-            information: &[0],
-            fitted: &[1, 2, 3],
+            aside: &[0, 2],
+            information: &[1],
+            fitted: &[2, 4],
             packets: &[1],
             block: &[1, 1, 0, 0, 1, 0],
-            additions: 19,
+            additions: 27,
+        },
+        Known {
+            name: "gap 3, an inverse of its own",
+            table: &[
+                2, 7, 1, 6, 3, 5, 4, 5, 5, 5, 27, 0, 3, 6, 0, 1, 4, 5, 6, 3, 4, 5, 6, 1, 2, 3, 4, 6,
+                1, 2, 4, 5, 6, 0, 1, 2, 3, 4,
+            ],
+            aside: &[0, 1, 3],
+            information: &[1],
+            fitted: &[2, 4, 5],
+            packets: &[1],
+            block: &[1, 1, 1, 0, 1, 0, 1],
+            additions: 30,
         },
     ];
     for case in &cases {
@@ -506,21 +548,25 @@ fn fixed_cases(run: &mut Run) {
     let layout = |table: &[u16]| model::layout(&model::look_over(table).unwrap()).unwrap();
     let own = |table: &[u16]| layout(table).solved.iter().map(|(_, p)| *p).collect::<Vec<_>>();
     run.fixed("P1, own places", same("own", &own(a), &vec![6, 5, 3]));
-    run.fixed("gap 2, aside", same("aside", &layout(cases[5].table).aside, &vec![0, 1]));
     run.fixed(
         "gap 2, inverse",
         same("inverse", &layout(cases[5].table).inverse, &vec![vec![0], vec![0, 1]]),
     );
-    run.fixed("gap 3, aside", same("aside", &layout(cases[6].table).aside, &vec![0, 2, 4]));
     run.fixed(
         "gap 3, inverse",
-        same("inverse", &layout(cases[6].table).inverse, &vec![vec![2], vec![0, 2], vec![1, 2]]),
+        same("inverse", &layout(cases[8].table).inverse, &vec![vec![0, 2], vec![0, 1, 2], vec![0]]),
     );
     let a4: &[u16] =
         &[2, 7, 1, 4, 4, 4, 4, 4, 16, 0, 2, 4, 6, 1, 2, 5, 6, 3, 4, 5, 6, 0, 1, 4, 5];
     let answer = plan(&mut Rng::new(0, 0), a4);
     run.fixed("P7, M stays 3", answer.and_then(|p| same("M", &p.0.kept, &3)));
 
+    let a_words: Vec<u32> = vec![
+        3, 7, 0, 3, 4, 0, 1, 2, 4, 12, 24576, 16801792, 16801794, 16801796, 20480, 16797697,
+        16797698, 16797702, 12288, 16789508, 16789509, 16789510,
+    ];
+    let got = plan(&mut Rng::new(0, 0), a);
+    run.fixed("plan of A", got.and_then(|p| same("words", &p.1, &a_words)));
     let b_words: Vec<u32> = vec![
         3, 4, 1, 3, 1, 1, 15, 12288, 16789505, 8192, 16785411, 16384, 16793601, 16793602, 0,
         16777220, 12288, 16789504, 16789505, 8192, 16785408, 16785411,
@@ -692,9 +738,10 @@ fn fixed_cases(run: &mut Run) {
 }
 
 fn main() {
-    let mut run = Run::from_arguments(4500);
+    let mut run = Run::from_arguments(6000);
     fixed_cases(&mut run);
     sizes::fixed_cases(&mut run);
+    aside::fixed_cases(&mut run);
     run.random(random_case);
     run.end()
 }

@@ -112,6 +112,22 @@ pub fn table_b() -> (usize, Checks) {
     (4, vec![vec![0, 1, 2], vec![0, 1, 3], vec![0, 2, 3]])
 }
 
+/// The heaviest check, 0, lies on places in three checks or more. By document 01's
+/// rule 0 and 1 are set aside, by C-18's only 1.
+pub fn heaviest_frees_none() -> (usize, Checks) {
+    let checks: [&[usize]; 6] =
+        [&[0, 1, 2, 3, 6, 7], &[0, 1, 4, 7], &[0, 2, 4, 7], &[1, 3, 5, 6], &[2, 3], &[3, 5, 6]];
+    (8, checks.map(|c| c.to_vec()).to_vec())
+}
+
+/// No place lies in exactly two checks, and the first has weight 1. By document 01's
+/// rule 2 and 3 are set aside, by C-18's 0, 1 and 2.
+pub fn weight_one_first() -> (usize, Checks) {
+    let checks: [&[usize]; 5] =
+        [&[0], &[1, 3, 4, 5], &[0, 1, 2, 4, 5], &[0, 2, 3, 4, 5], &[0, 1, 2, 3]];
+    (6, checks.map(|c| c.to_vec()).to_vec())
+}
+
 /// Small tables with gaps, of which larger ones are put together.
 fn gap_parts() -> Vec<(usize, Checks)> {
     vec![
@@ -322,6 +338,92 @@ pub fn table(rng: &mut Rng) -> Table {
     t
 }
 
+/// Each place in as many checks as is drawn from a list.
+fn by_columns(rng: &mut Rng, n: usize, m: usize, columns: &[usize]) -> Checks {
+    let mut checks = vec![Vec::new(); m];
+    for place in 0..n {
+        let column = rng.pick(columns);
+        for c in rng.some_below(m, column) {
+            checks[c].push(place);
+        }
+    }
+    checks
+}
+
+/// Every place in two checks or more, or in three or more, so that some check has
+/// to be set aside at once.
+fn stuck(rng: &mut Rng, n: usize, m: usize) -> Checks {
+    let columns: [&[usize]; 7] =
+        [&[2, 3], &[2, 2, 2, 3], &[2, 2, 3, 7], &[2, 4, 5], &[3], &[3, 3, 4], &[3, 5, 9]];
+    let columns = rng.pick(&columns);
+    by_columns(rng, n, m, columns)
+}
+
+fn insert_somewhere(rng: &mut Rng, checks: &mut Checks, check: Vec<usize>) {
+    let at = if rng.once_in(3) { 0 } else { rng.range(0, checks.len()) };
+    checks.insert(at, check);
+}
+
+/// Besides such checks: heavy ones on places that lie in two others already, so that
+/// they free none; checks of weight 1; and ones that leave at once, by a place of
+/// their own.
+fn stuck_with_others(rng: &mut Rng, n: usize, m: usize) -> (usize, Checks) {
+    let mut checks = stuck(rng, n, m);
+    for _ in 0..rng.pick(&[0, 0, 1, 2, 4]) {
+        let weight = rng.range(n / 3, n).clamp(1, model::MAX_WEIGHT);
+        let heavy = rng.some_below(n, weight);
+        insert_somewhere(rng, &mut checks, heavy);
+    }
+    for _ in 0..rng.pick(&[0, 0, 0, 1, 2]) {
+        let single = vec![rng.below(n)];
+        insert_somewhere(rng, &mut checks, single);
+    }
+    let leaving = rng.pick(&[0, 0, 1, 3, 8]);
+    for own in n..n + leaving {
+        let weight = rng.range(1, 5);
+        let mut check = rng.some_below(n, weight);
+        check.push(own);
+        insert_somewhere(rng, &mut checks, check);
+    }
+    (n + leaving, checks)
+}
+
+/// A table in which rule 3 has much to choose from.
+pub fn gap_table(rng: &mut Rng) -> Table {
+    let (n, mut checks) = match rng.below(12) {
+        0..=4 => {
+            let m = rng.range(3, 12);
+            let n = rng.range(3, 3 * m);
+            stuck_with_others(rng, n, m)
+        }
+        5..=7 => {
+            let m = rng.range(8, 40);
+            let n = rng.range(m, 3 * m);
+            stuck_with_others(rng, n, m)
+        }
+        // Weights up to 64.
+        8 => {
+            let m = rng.range(4, 12);
+            let n = 16 * m + rng.below(9 * m);
+            stuck_with_others(rng, n, m)
+        }
+        // The same again and again, so that all are tied.
+        9 | 10 => {
+            let m = rng.range(3, 7);
+            let n = rng.range(3, 2 * m);
+            let part = stuck_with_others(rng, n, m);
+            side_by_side(&vec![part; rng.range(2, 12)])
+        }
+        _ => {
+            let m = rng.range(40, 250);
+            let n = rng.range(m, 4 * m);
+            (n, by_columns(rng, n, m, &[2, 2, 2, 3]))
+        }
+    };
+    vary(rng, n, &mut checks);
+    Table { n, s: size(rng, n), checks: within_limits(checks) }
+}
+
 /// About half as many checks as places, so that peeling stalls where elimination
 /// still decides: regular, staircase, or of any weights.
 pub fn half_rate(rng: &mut Rng) -> Table {
@@ -356,6 +458,16 @@ pub fn small_table(rng: &mut Rng, most_places: usize, most_checks: usize) -> Tab
         1 if n > m && m > 0 => staircase(rng, n, m, 2),
         _ => random_checks(rng, n, m, heaviest),
     };
+    vary(rng, n, &mut checks);
+    checks.truncate(most_checks);
+    Table { n, s: 1, checks }
+}
+
+/// One of which some check is set aside, nearly always.
+pub fn small_gap_table(rng: &mut Rng, most_places: usize, most_checks: usize) -> Table {
+    let n = rng.range(3, most_places);
+    let m = rng.range(3, most_checks);
+    let mut checks = stuck(rng, n, m);
     vary(rng, n, &mut checks);
     checks.truncate(most_checks);
     Table { n, s: 1, checks }

@@ -438,11 +438,7 @@ fn damaged(rng: &mut Rng, p: &Plan, words: &[u32], size: usize) -> Result<(), St
 /// Every number of some plans changed: each bit, and to its neighbours and others.
 fn damage_cases(run: &mut Run) {
     let rng = &mut Rng::new(16, 0);
-    let of_table = |t: &Table| {
-        let l = model::layout(t).unwrap();
-        let steps = model::steps(t, &l);
-        model::plan_words(t.n, l.aside.len(), l.kept.len(), &l.information, &steps)
-    };
+    let of_table = |t: &Table| model::words_of_layout(t, &model::layout(t).unwrap());
     let old = gen::old_layout(&of_table(&table_b()), 2);
     for (name, t, words) in [
         ("A", table_a(), of_table(&table_a())),
