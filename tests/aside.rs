@@ -396,7 +396,27 @@ fn limit_cases(run: &mut Run) {
     run.fixed("weight 1, too many, stored", stored(&t));
 }
 
+/// A star: 21 groups of three checks, the first linked with each of the others, and
+/// a place in no check. Few ones, and a dense inverse.
+fn star() -> Table {
+    let group = |v: usize| {
+        let linked = if v == 0 { 1..21 } else { 0..1 };
+        let mut second: Vec<usize> = [v, 21 + 2 * v].into_iter().chain(linked).collect();
+        second.sort();
+        [vec![v, 21 + 2 * v, 22 + 2 * v], second, vec![v, 22 + 2 * v]]
+    };
+    table(64, (0..21).flat_map(group).collect())
+}
+
+/// More than 4(W - M) additions, which is 496, where g(g + 1) is above 2(W - M).
+fn beyond_four() -> Result<(), String> {
+    let t = star();
+    let length = 6 + 1 + 43 + 20 + 20 + 43 + 529;
+    planned(&t, Planned { refusal: 0, length, kept: 63, ones: 187, gap: 20, additions: 529 })
+}
+
 pub fn fixed_cases(run: &mut Run) {
+    run.fixed("more than 4(W - M) additions", beyond_four());
     for c in chosen_tables() {
         run.fixed(c.name, chosen(&c));
         run.fixed(&format!("{}, stored", c.name), stored_by_hand(&c));

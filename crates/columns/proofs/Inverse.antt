@@ -25,7 +25,7 @@ use Rattle.table.specs.TableLaws.{accepted}
 use Rattle.rule.specs.Rule.{Solved, putInAll, reduced, owns, restricted, inverse}
 use Rattle.rule.specs.Buffers.{solved, maskBits, Fitted}
 use Rattle.rule.specs.Inverse.{pow, res-bit-in}
-use Rattle.rule.specs.Choices.{Chooses, byFreed}
+use Rattle.rule.specs.Choices.{Chooses, byRule}
 use Rattle.rule.specs.AllChecksZero.{ts, az, E, C, F, same, own-zero, dF, ind, good, lens}
 use Rattle.gf2.specs.Linear.{lin-comb}
 use Rattle.gf2.specs.RowValue.{valOn-lin, sum-ext-in}
@@ -189,10 +189,10 @@ fits-table {t} {m} {n} {starts} {order} {owns} {taken} {aside} {g} y =
     let T = solved (check t (number t)) order owns taken in
     let Z = map (check t (number t)) (take g aside) in
     let len : length Z ≡ g = length-map (take g aside) (check t (number t)) ∙ length-take-le g aside rm in
-    let a : Ends (places t) (ts byFreed (places t) (checks t) (ok .distinct) (ok .low)) (az byFreed (places t) (checks t) (ok .distinct) (ok .low)) (length (az byFreed (places t) (checks t) (ok .distinct) (ok .low))) =
-    λ r M L s. fits byFreed (places t) (checks t) (ok .distinct) (ok .low) s in
+    let a : Ends (places t) (ts byRule (places t) (checks t) (ok .distinct) (ok .low)) (az byRule (places t) (checks t) (ok .distinct) (ok .low)) (length (az byRule (places t) (checks t) (ok .distinct) (ok .low))) =
+    λ r M L s. fits byRule (places t) (checks t) (ok .distinct) (ok .low) s in
     let b : Ends (places t) T Z (length Z) = subst (λ (x : List (List ℕ)). Ends (places t) T x (length x)) (y .chosen .set-aside)
-    (subst (λ (x : List Solved). Ends (places t) x (az byFreed (places t) (checks t) (ok .distinct) (ok .low)) (length (az byFreed (places t) (checks t) (ok .distinct) (ok .low)))) (y .chosen .took) a) in
+    (subst (λ (x : List Solved). Ends (places t) x (az byRule (places t) (checks t) (ok .distinct) (ok .low)) (length (az byRule (places t) (checks t) (ok .distinct) (ok .low)))) (y .chosen .took) a) in
     let e : Ends (places t) T Z g = subst (Ends (places t) T Z) len b in
     let h : Ends n T Z g = subst (λ (x : ℕ). Ends x T Z g) (sym (y .located .table .places-are)) e in
     subst (λ (x : ℕ). Ends n (solved (check t x) order owns taken) (map (check t x) (take g aside)) g) (sym (y .located .table .number-is)) h

@@ -13,7 +13,7 @@ use Rattle.plan.specs.declared.Step.{Step}
 use Rattle.plan.specs.Head.{HeadFits}
 use Rattle.plan.specs.Layout.{mostSteps, leastPlan, leastNumbers, planHead, infoNumbers, stepNumbers, planNumbers, infoCountAt}
 use Rattle.plan.specs.Step.{addSteps}
-use Rattle.rule.specs.Choices.{byFreed}
+use Rattle.rule.specs.Choices.{byRule}
 use Rattle.rule.specs.WithinLimits.{steps-limit, numbers-limit, kept-length}
 use Rattle.rule.specs.Buffers.{solved, peeling}
 use Rattle.rule.specs.PlanOf.{planOf, numbersOf, numbersBy, planOfBy}
@@ -79,12 +79,12 @@ module _ {t starts order us : List ℕ} {taken : ℕ} {aside : List ℕ} {g : �
   pub steps-few : length steps ≤ mostSteps
   unfolding planOfBy
   steps-few = let d = accepted t (q .located .table .accepted) in let f = q .few in
-      let h = steps-limit byFreed (places t) (checks t) (d .distinct) (d .low) (d .few-ones) (omega (arith, gap-are)) in omega (arith, ap length steps-are)
+      let h = steps-limit byRule (places t) (checks t) (d .distinct) (d .low) (d .few-ones) (omega (arith, gap-are)) in omega (arith, ap length steps-are)
 
   numbers-few : leastNumbers + length info + length steps ≤ leastPlan
   unfolding planOfBy
   numbers-few = let d = accepted t (q .located .table .accepted) in let f = q .few in
-      let h = numbers-limit byFreed (places t) (checks t) (d .distinct) (d .low) (d .few-places) (d .few-ones) (omega (arith, gap-are)) in omega (arith, ap length steps-are, ap length info-are)
+      let h = numbers-limit byRule (places t) (checks t) (d .distinct) (d .low) (d .few-places) (d .few-ones) (omega (arith, gap-are)) in omega (arith, ap length steps-are, ap length info-are)
 
   kept-low : {kept : ℕ} → kept ≡ planOf t .M → kept ≤ mostChecks
   unfolding planOfBy

@@ -13,8 +13,7 @@ use Rattle.plan.specs.Step.{addSteps}
 use Rattle.plan.specs.Layout.{stepsOf}
 use Rattle.planner.specs.declared.Planned.{Planned}
 use Rattle.planner.specs.Planning.{planOf, numbersOf, planningAnswerOf, planningAnswer, planningPlanAfter, planningRefusalAt, leastPlan, workWords}
-use Rattle.rule.specs.Choices.{byFreed}
-use Rattle.theorems.specs.OwnPlan.{own-steps}
+use Rattle.theorems.specs.OwnPlan.{byRule, own-steps}
 use Rattle.own_plan.specs.Own.{Own, lentWork, own-refusal, own-plan}
 use Rattle.table_file.specs.declared.Words.{Words}
 use Rattle.table_file.specs.declared.Words.the-variants.{Count}
@@ -47,7 +46,7 @@ module _ (t : List ℕ) (r : Planned) (a : planningAnswerOf r ≡ planningAnswer
     plan = take (r .length) buf
 
     pub plan-adds : r .additions ≡ addSteps (stepsOf plan)
-    plan-adds = own .additions ∙ sym (ap addSteps (ap stepsOf (own .numbers) ∙ own-steps byFreed t (own .accepted) (own .few)))
+    plan-adds = own .additions ∙ sym (ap addSteps (ap stepsOf (own .numbers) ∙ own-steps byRule t (own .accepted) (own .few)))
 
     module _ {s : ℕ} (e : s ≡ size t) where
       pub plan-fits : (out : List ℕ) → mostText ≤ length out → length (planTextOf plan s (r .ones)) ≤ length out

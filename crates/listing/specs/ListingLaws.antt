@@ -15,8 +15,7 @@ use Rattle.plan.specs.Layout.{mostAside}
 use Rattle.rule.specs.WithinLimits.{kept-weight}
 use Rattle.planner.specs.Planning.{planOf, numbersOf, planningRefusalAt, leastPlan, workWords, numbersBy, planOfBy}
 use Rattle.planner.specs.PlanningLaws.{accepted-planning}
-use Rattle.rule.specs.Choices.{byFreed}
-use Rattle.theorems.specs.OwnPlan.{own-info, own-steps, own-accepted}
+use Rattle.theorems.specs.OwnPlan.{byRule, own-info, own-steps, own-accepted}
 use Rattle.table_file.specs.Words.{wordsOf, unfit}
 use Rattle.listing.specs.Listing.{tableText, listing}
 use Rattle.plan_text.specs.PlanText.{planText, planTextOf, refusedLine, mostText}
@@ -31,7 +30,7 @@ ones-few t ok = let a = kept-weight (checks t) in let b = accepted t ok .few-one
 pub own-text : (t : List ℕ) → refusal t ≡ 0 → planOf t .g ≤ mostAside
     → planTextOf (numbersOf t) (size t) (planOf t .W) ≡ planText (places t) (size t) (planOf t .M) (planOf t .W) (planOf t .g) (planOf t .info) (planOf t .steps)
 unfolding numbersBy
-own-text t ok few = ap₂ (planText (places t) (size t) (planOf t .M) (planOf t .W) (planOf t .g)) (own-info byFreed t ok few) (own-steps byFreed t ok few)
+own-text t ok few = ap₂ (planText (places t) (size t) (planOf t .M) (planOf t .W) (planOf t .g)) (own-info byRule t ok few) (own-steps byRule t ok few)
 
 pub accepted-text : (t : List ℕ) → planningRefusalAt t leastPlan workWords ≡ 0 → refusal t ≡ 0 → planOf t .g ≤ mostAside
     → tableText t ≡ planTextOf (numbersOf t) (size t) (planOf t .W)
@@ -46,7 +45,7 @@ table-most : (t : List ℕ) → length (tableText t) ≤ mostText
 table-most t = byBool (eqb (planningRefusalAt t leastPlan workWords) 0)
     (λ e. let h = eqb-true (planningRefusalAt t leastPlan workWords) 0 e in
     let ok = accepted-planning t leastPlan workWords h in
-    rw (accepted-text t h (ok .0) (ok .1)) (plan-most (numbersOf t) (size t) (planOf t .W) (own-accepted byFreed t (ok .0) (ok .1)) (accepted t (ok .0) .few-bytes) (ones-few t (ok .0))))
+    rw (accepted-text t h (ok .0) (ok .1)) (plan-most (numbersOf t) (size t) (planOf t .W) (own-accepted byRule t (ok .0) (ok .1)) (accepted t (ok .0) .few-bytes) (ones-few t (ok .0))))
     (λ e. rw (refused-text t (eqb-false (planningRefusalAt t leastPlan workWords) 0 e)) (refused-most (planningRefusalAt t leastPlan workWords)))
 
 -- ---- a file

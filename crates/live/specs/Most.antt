@@ -11,10 +11,6 @@ unfoldable pub lives : List ℕ → ℕ → ℕ → List ℕ
 lives live i zero = []
 lives live i (suc c) = cond (eqb (getD live i 0) 1) (i ∷ lives live (suc i) c) (lives live (suc i) c)
 
--- the weight of check j
-unfoldable pub weight : List ℕ → ℕ → ℕ
-weight t j = getD t (4 + j) 0
-
 -- how many of the places ps lie in exactly two live checks, by the counts c
 unfoldable pub twos : List ℕ → List ℕ → ℕ
 twos c ps = count (λ p. eqb (getD c p 0) 2) ps

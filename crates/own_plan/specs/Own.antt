@@ -11,8 +11,7 @@ use Rattle.plan.specs.Layout.{planRefusal, mostAside}
 use Rattle.planner.specs.declared.Planned.{Planned}
 use Rattle.planner.specs.Planning.{planOf, numbersOf, planningAnswerOf, planningAnswerAt, planningRefusal, planningAnswer, planningPlanAfter, planningRefusalAt, workWords}
 use Rattle.planner.specs.PlanningLaws.{accepted-planning}
-use Rattle.rule.specs.Choices.{byFreed}
-use Rattle.theorems.specs.OwnPlan.{own-accepted}
+use Rattle.theorems.specs.OwnPlan.{byRule, own-accepted}
 
 -- the work that is lent to the planner
 unfoldable pub lentWork : List ℕ
@@ -53,7 +52,7 @@ module _ (t buf : List ℕ) (r : Planned) (a : planningAnswerOf r ≡ planningAn
         within = omega (arith, simp length-append at (ap length w));
         counts = sym (ap length k ∙ l);
         numbers = k;
-        formed = ap planRefusal k ∙ own-accepted byFreed t (ok .0) (ok .1);
+        formed = ap planRefusal k ∙ own-accepted byRule t (ok .0) (ok .1);
         ones = rw e at (ap (λ x. x .ones) a);
         additions = rw e at (ap (λ x. x .additions) a);
       }

@@ -14,9 +14,8 @@ use Rattle.rule.specs.Buffers.{peeling, solved}
 use Rattle.rule.specs.Rule.{kept, peel, solvedOf, setAsideOf}
 use Rattle.bits.specs.Front.{Front}
 use Rattle.keep.specs.Kept.{keptOf}
-use Rattle.live.specs.Most.{weight}
 use Rattle.peel.proofs.KeptNumbers.{kept-numbers}
-use Rattle.peel.specs.Choice.{ChoiceOf}
+use Rattle.peel.specs.Choice.{ChoiceOf, weight}
 use Rattle.peel.specs.Turn.{Room, Numbers, Peeled}
 use Rattle.peel.proofs.KeptLive.{kept-all, kept-few}
 

@@ -19,7 +19,7 @@ use Rattle.live.specs.Most.{lives}
 use Rattle.peel.specs.declared.Event.{Event}
 use Rattle.peel.specs.declared.Event.the-variants.{Took, Aside}
 use Rattle.peel.specs.Turn.{less, In, Pick, Picked, Picked.by-place, Picked.by-choice, Ready, Removed, Low, Peeled}
-use Rattle.peel.proofs.Turns.{in-length, in-flag}
+use Rattle.peel.proofs.Turns.{map-append, in-length, in-flag}
 
 pub record PlaceSays (g : ℕ → List ℕ) (JS : List ℕ) (n p j : ℕ) : Type 0 where
   pub top : highest n (inOneOnly (map g JS)) ≡ some p
@@ -61,10 +61,6 @@ solved-more g a b k j p la lb = ap (solved g (set a k j) (set b k p)) (add-one k
     ∙ ap₂ (λ (ts : List Solved) (t : Solved). ts ++ (t ∷ []))
     (solved-same g (set a k j) (set b k p) a b k (λ i z. getD-set-other a k i j 0 (λ (y : i ≡ k). omega arith)) (λ i z. getD-set-other b k i p 0 (λ (y : i ≡ k). omega arith)))
     (ap₂ (λ (x y : ℕ). record { own = y; check = g x }) (getD-set-same a k j 0 la) (getD-set-same b k p 0 lb))
-
-map-append : (g : ℕ → List ℕ) (l m : List ℕ) → map g (l ++ m) ≡ map g l ++ map g m
-map-append g [] m = refl
-map-append g (x ∷ l) m = ap (λ r. g x ∷ r) (map-append g l m)
 
 aside-more : (g : ℕ → List ℕ) (a : List ℕ) (k j : ℕ) → k < length a → map g (take (k + 1) (set a k j)) ≡ map g (take k a) ++ (g j ∷ [])
 aside-more g a k j h = ap (map g) (ap (λ (i : ℕ). take i (set a k j)) (add-one k) ∙ take-suc-set a k j h) ∙ map-append g (take k a) (j ∷ [])

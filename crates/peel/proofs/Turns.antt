@@ -1,7 +1,7 @@
 -- Laws of one turn.
 use mathlib.Core.Path.{_≡_, refl, sym, ap, ap₂, _∙_, subst, fun-ext}
 use mathlib.Core.Bool.{Bool, true, false, cond, true≢false}
-use mathlib.Core.List.{List, [], _∷_, map}
+use mathlib.Core.List.{List, [], _∷_, _++_, map}
 use mathlib.Core.Option.{Option, none, some}
 use Prim.Native.Nat.{ℕ, zero, suc, _+_, _<_, _≤_, max}
 use native.Mathlib.Nat.{suc-inj}
@@ -17,9 +17,9 @@ use Rattle.table.specs.Checks.{check, offset}
 use Rattle.table.specs.Table.{size}
 use Rattle.lists.specs.Tests.{eqb-true, eqb-false, eqb-self, byBool}
 use Rattle.lists.specs.Lists.{highest, has, All, All.nil, All.cons, count}
-use Rattle.lists.specs.ListLaws.{highest-is, all-map, all-of}
-use Rattle.rule.specs.Choices.{greatest-most}
-use Rattle.rule.specs.Rule.{first, without, freed, greatest}
+use Rattle.lists.specs.ListLaws.{highest-is, all-map, map-all}
+use Rattle.rule.specs.Choices.{FirstMost, most-passes, most-first, most-rest}
+use Rattle.rule.specs.Rule.{first, without, freed, worthMost}
 use Rattle.live.specs.Live.{Tally, Forgot, found}
 use Rattle.live.specs.Most.{lives, mostFrom, twos}
 use Rattle.live.specs.declared.Found.the-variants.{At, Nothing}
@@ -58,53 +58,63 @@ one-is g p (j ∷ JS) h = byBool (has p (g j))
 pub tally-pick : (g : ℕ → List ℕ) (p : ℕ) {JS c x : List ℕ} → Tally g JS c x → getD c p 0 ≡ 1 → Pick g (has p) JS (getD x p 0)
 tally-pick g p {JS} s h = subst (Pick g (has p) JS) (sym (s .names p)) (one-is g p JS (sym (s .counts p) ∙ h))
 
--- ---- the first that is worth most
-module _ (worth : List ℕ → ℕ) where
-  -- worth w
-  abbrev worthIs : ℕ → List ℕ → Bool
-  worthIs w c = eqb (worth c) w
+-- ---- the first that is worth most, on numbers
+-- what a scan from b and w comes to: nothing is worth w, or j is found, before which all are worth less and behind which none is worth more
+data Scanned (f : ℕ → ℕ) (b w : ℕ) : List ℕ → ℕ → Type 0 where
+  stay : {JS : List ℕ} → All (λ i. f i < w) JS → Scanned f b w JS b
+  got : {before after : List ℕ} {j : ℕ} → w ≤ f j → All (λ i. f i < f j) before → All (λ i. f i ≤ f j) after → Scanned f b w (before ++ (j ∷ after)) j
 
-  -- what a scan has found: nothing yet that is worth w, or the first that is worth most
-  data Scanned (g : ℕ → List ℕ) (b w : ℕ) (JS : List ℕ) (r : ℕ) : Type 0 where
-    stay : r ≡ b → All (λ c. worth c < w) (map g JS) → Scanned g b w JS r
-    got : w ≤ greatest worth (map g JS) → Pick g (worthIs (greatest worth (map g JS))) JS r → Scanned g b w JS r
+scans : (f : ℕ → ℕ) (b w : ℕ) (JS : List ℕ) → Scanned f b w JS (mostFrom f b w JS)
+unfolding mostFrom
+scans f b w [] = stay nil
+scans f b w (j ∷ JS) = byBool (leb w (f j))
+    (λ t. rw (t, mostFrom) (up (leb-true w (f j) t) (scans f j (f j + 1) JS)))
+    (λ t. rw (t, mostFrom) (keep (leb-false w (f j) t) (scans f b w JS)))
+  where
+    up : {K : List ℕ} {r : ℕ} → w ≤ f j → Scanned f j (f j + 1) K r → Scanned f b w (j ∷ K) r
+    up h (stay a) = got {before = []} h nil (all-map (λ i l. omega arith) a)
+    up h (got {before = A} {j = k} l a c) = got {before = j ∷ A} {j = k} (omega arith) (cons {x = j} (omega arith) a) c
 
-  grown : (g : ℕ → List ℕ) (j r : ℕ) (JS : List ℕ) → worth (g j) < greatest worth (map g JS) → Pick g (worthIs (greatest worth (map g JS))) JS r
-      → Pick g (worthIs (greatest worth (map g (j ∷ JS)))) (j ∷ JS) r
-  grown g j r JS h p =
-      let q : max (worth (g j)) (greatest worth (map g JS)) ≡ greatest worth (map g JS) = omega arith in
-      let out : worthIs (greatest worth (map g (j ∷ JS))) (g j) ≡ false = ap (eqb (worth (g j))) q ∙ ne-eqb _ _ (λ (z : worth (g j) ≡ greatest worth (map g JS)). omega arith) in
-      pick-there g (worthIs (greatest worth (map g (j ∷ JS)))) j r JS out (subst (λ (f : List ℕ → Bool). Pick g f JS r) (sym (ap worthIs q)) p)
+    keep : {K : List ℕ} {r : ℕ} → f j < w → Scanned f b w K r → Scanned f b w (j ∷ K) r
+    keep h (stay a) = stay (cons h a)
+    keep h (got {before = A} {j = k} l a c) = got {before = j ∷ A} {j = k} l (cons {x = j} (omega arith) a) c
 
-  up : (g : ℕ → List ℕ) (b w j r : ℕ) (JS : List ℕ) → w ≤ worth (g j) → Scanned g j (worth (g j) + 1) JS r → Scanned g b w (j ∷ JS) r
-  up g b w j r JS h (stay e a) =
-      let s : greatest worth (map g JS) ≤ worth (g j) = greatest-most worth (worth (g j)) (all-map (λ c l. omega arith) a) in
-      let q : max (worth (g j)) (greatest worth (map g JS)) ≡ worth (g j) = omega arith in
-      let on : worthIs (greatest worth (map g (j ∷ JS))) (g j) ≡ true = ap (eqb (worth (g j))) q ∙ eqb-self (worth (g j)) in
-      got (omega arith) (subst (Pick g (worthIs (greatest worth (map g (j ∷ JS)))) (j ∷ JS)) (sym e) (pick-here g (worthIs (greatest worth (map g (j ∷ JS)))) j JS on))
-  up g b w j r JS h (got l p) = got (omega arith) (grown g j r JS (omega arith) p)
+in-there : (j : ℕ) (before after : List ℕ) → In j (before ++ (j ∷ after))
+in-there j [] after = here
+in-there j (i ∷ before) after = there (in-there j before after)
 
-  keep : (g : ℕ → List ℕ) (b w j r : ℕ) (JS : List ℕ) → worth (g j) < w → Scanned g b w JS r → Scanned g b w (j ∷ JS) r
-  keep g b w j r JS h (stay e a) = stay e (cons h a)
-  keep g b w j r JS h (got l p) = got (omega arith) (grown g j r JS (omega arith) p)
+less-there : (j : ℕ) {before : List ℕ} (after : List ℕ) → All (λ i. eqb i j ≡ false) before → less j (before ++ (j ∷ after)) ≡ before ++ after
+unfolding less
+less-there j after nil = rw (eqb-self j)
+less-there j after (cons {x = i} e a) = rw e (ap (λ l. i ∷ l) (less-there j after a))
 
-  scans : (g : ℕ → List ℕ) (f : ℕ → ℕ) (b w : ℕ) {JS : List ℕ} → All (λ j. f j ≡ worth (g j)) JS → Scanned g b w JS (mostFrom f b w JS)
-  unfolding mostFrom
-  scans g f b w nil = stay refl nil
-  scans g f b w (cons {x = j} {l = JS} e a) = byBool (leb w (f j))
-      (λ t. let d = leb-true w (f j) t in rw (t, mostFrom) (up g b w j _ JS (omega arith)
-      (subst (λ (v : ℕ). Scanned g j v JS (mostFrom f j (f j + 1) JS)) (ap (λ (v : ℕ). v + 1) e) (scans g f j (f j + 1) a))))
-      (λ t. let d = leb-false w (f j) t in rw (t, mostFrom) (keep g b w j _ JS (omega arith) (scans g f b w a)))
+pub map-append : (g : ℕ → List ℕ) (l m : List ℕ) → map g (l ++ m) ≡ map g l ++ map g m
+map-append g [] m = refl
+map-append g (x ∷ l) m = ap (λ r. g x ∷ r) (map-append g l m)
 
-  most-pick : (g : ℕ → List ℕ) (f : ℕ → ℕ) (b : ℕ) {JS : List ℕ} → All (λ j. f j ≡ worth (g j)) JS → 0 < length JS → Pick g (worthIs (greatest worth (map g JS))) JS (mostFrom f b 0 JS)
-  most-pick g f b {JS} a h = go (scans g f b 0 a) h where
-    none : (K : List ℕ) → All (λ c. worth c < 0) (map g K) → 0 < length K → ⊥
-    none [] z l = omega arith
-    none (j ∷ K) (cons z zs) l = omega arith
-
-    go : Scanned g b 0 JS (mostFrom f b 0 JS) → 0 < length JS → Pick g (worthIs (greatest worth (map g JS))) JS (mostFrom f b 0 JS)
-    go (stay e z) l = absurd (none JS z l)
-    go (got l p) k = p
+-- so it picks what the choice by worth takes
+pub most-pick : (worth : List (List ℕ) → List ℕ → ℕ) (g : ℕ → List ℕ) (f : ℕ → ℕ) (b : ℕ) (JS : List ℕ) → ((j : ℕ) → f j ≡ worth (map g JS) (g j)) → 0 < length JS
+    → Pick g (worthMost worth (map g JS)) JS (mostFrom f b 0 JS)
+most-pick worth g f b JS e h = go e h (scans f b 0 JS)
+  where
+    go : {K : List ℕ} {r : ℕ} → ((j : ℕ) → f j ≡ worth (map g K) (g j)) → 0 < length K → Scanned f b 0 K r → Pick g (worthMost worth (map g K)) K r
+    go v l (stay nil) = absurd (omega arith)
+    go v l (stay (cons z zs)) = absurd (omega arith)
+    go v l (got {before = A} {after = B} {j = j} k a c) =
+        let m : FirstMost (worth (map g (A ++ (j ∷ B)))) (map g (A ++ (j ∷ B))) (g j) (map g (A ++ B)) = record {
+          before = map g A;
+          after = map g B;
+          among = map-append g A (j ∷ B);
+          others = map-append g A B;
+          less = map-all g (all-map (λ i u. omega (arith, v i, v j)) a);
+          no-more = map-all g (all-map (λ i u. omega (arith, v i, v j)) c);
+        } in
+        record {
+          member = in-there j A B;
+          passes = most-passes worth m;
+          is-first = most-first worth m;
+          is-rest = most-rest worth m ∙ ap (map g) (sym (less-there j B (all-map (λ i u. ne-eqb i j (λ q. let z = ap f q in omega arith)) a)));
+        }
 
 -- by the counts a check is worth what the rule says
 pub twos-freed : (g : ℕ → List ℕ) {JS c x : List ℕ} → Tally g JS c x → (ps : List ℕ) → twos c ps ≡ freed (map g JS) ps
@@ -143,7 +153,7 @@ pub picked-choice : (t : List ℕ) (m n : ℕ) (live : List ℕ) {c x : List ℕ
     → highest n (λ q. eqb (getD c q 0) 1) ≡ none → Picked (check t m) (lives live 0 m) n (Aside (mostFrom (λ j. twos c (check t m j)) m 0 (lives live 0 m)))
 picked-choice t m n live {c} {x} s h e =
     by-choice (sym (single-is (check t m) (lives live 0 m) c x n s) ∙ e)
-    (most-pick (freed (map (check t m) (lives live 0 m))) (check t m) (λ j. twos c (check t m j)) m (all-of (λ j. twos-freed (check t m) s (check t m j)) (lives live 0 m)) h)
+    (most-pick freed (check t m) (λ j. twos c (check t m j)) m (lives live 0 m) (λ j. twos-freed (check t m) s (check t m j)) h)
 
 -- ---- the removal
 pub in-out : (j : ℕ) {JS : List ℕ} → In j JS → Out j JS (less j JS)

@@ -11,8 +11,8 @@ ghost use Rattle.table.specs.Checks.{check};
 ghost use Rattle.table.specs.Table.{total, places, size};
 ghost use Rattle.keep.specs.Kept.{keptOf};
 ghost use Rattle.live.specs.Live.{Calm};
-ghost use Rattle.live.specs.Most.{lives, weight};
-ghost use Rattle.peel.specs.Choice.{ChoiceOf};
+ghost use Rattle.live.specs.Most.{lives};
+ghost use Rattle.peel.specs.Choice.{ChoiceOf, weight};
 ghost use Rattle.peel.specs.Turn.{In, Ready, Picked, Removed, Room, Peeled};
 ghost use Rattle.peel.specs.Turn.{Numbers, Fresh, Entered, First};
 

@@ -13,7 +13,7 @@ use Rattle.plan.specs.declared.Step.the-variants.{Clear, Add}
 use Rattle.plan.specs.Layout.{mostAside, leastPlan, leastNumbers}
 use Rattle.plan.specs.ReadBack.{numbers-length}
 use Rattle.plan.specs.Step.{addSteps}
-use Rattle.rule.specs.Choices.{byFreed}
+use Rattle.rule.specs.Choices.{byRule}
 use Rattle.rule.specs.WithinLimits.{numbers-limit, kept-length, kept-weight}
 use Rattle.rule.specs.Buffers.{solved, Fitted}
 use Rattle.rule.specs.PlanOf.{planOf, numbersOf, withNumbers, numbersBy, planOfBy}
@@ -55,7 +55,7 @@ module _ (t : List ℕ) (ok : refusal t ≡ 0) where
 
   numbers-fit : planOf t .g ≤ mostAside → leastNumbers + length (planOf t .info) + length (planOf t .steps) ≤ leastPlan
   unfolding planOfBy
-  numbers-fit h = let a = accepted t ok in numbers-limit byFreed (places t) (checks t) (a .distinct) (a .low) (a .few-places) (a .few-ones) h
+  numbers-fit h = let a = accepted t ok in numbers-limit byRule (places t) (checks t) (a .distinct) (a .low) (a .few-places) (a .few-ones) h
 
   length-few : planOf t .g ≤ mostAside → length (numbersOf t) ≤ leastPlan
   unfolding numbersBy

@@ -7,16 +7,19 @@ use lib.ListN.{length, getD, take}
 use Rattle.gf2.specs.Gf2.{bit}
 use Rattle.table.specs.Checks.{check}
 use Rattle.table.specs.Table.{places, number, checks}
-use Rattle.rule.specs.Rule.{Solved, kept, peel, solvedOf, setAsideOf, PeelEvent, reduced, fittedPlaces, inverse}
+use Rattle.rule.specs.Rule.{Choice, Solved, kept, mostFreed, peelBy, solvedOf, setAsideOf, PeelEvent, reduced, fittedPlaces, inverse}
 
 -- k solved checks: their numbers in order, their own places in owns, by the order of taking
 unfoldable pub solved : (ℕ → List ℕ) → List ℕ → List ℕ → ℕ → List Solved
 solved g order owns zero = []
 solved g order owns (suc k) = solved g order owns k ++ (record { own = getD owns k 0; check = g (getD order k 0) } ∷ [])
 
--- steps 2 and 3 for a table
+-- steps 2 and 3 for a table: by a choice of the checks to set aside, and by the rule's
+abbrev pub peelingBy : Choice → List ℕ → List PeelEvent
+peelingBy choice t = peelBy choice (length (kept (checks t))) (places t) (kept (checks t))
+
 abbrev pub peeling : List ℕ → List PeelEvent
-peeling t = peel (length (kept (checks t))) (places t) (kept (checks t))
+peeling = peelingBy mostFreed
 
 -- order and owns hold the solved checks of the table's rule, aside the numbers of those set aside
 pub record Chosen (t order owns aside : List ℕ) (taken put : ℕ) : Type 0 where

@@ -10,7 +10,7 @@ pub record Case : Type 0 where
 
 abbrev pub cases : List Case
 cases =
-    -- the heaviest check, 1 2 3 4, frees nothing; two free place 0, and the first of them is taken
+    -- of three checks of greatest weight the first frees nothing, the others place 0: the lower number of these
     record { live = (1 ∷ 2 ∷ 3 ∷ 4 ∷ []) ∷ (0 ∷ 1 ∷ 3 ∷ 4 ∷ []) ∷ (0 ∷ 2 ∷ 3 ∷ 4 ∷ []) ∷ (1 ∷ 2 ∷ 4 ∷ []) ∷ []; check = 0 ∷ 1 ∷ 3 ∷ 4 ∷ [] }
     -- no place lies in exactly two live checks: the lowest number
     ∷ record { live = (0 ∷ 1 ∷ 2 ∷ []) ∷ (0 ∷ 1 ∷ 3 ∷ []) ∷ (0 ∷ 2 ∷ 3 ∷ []) ∷ (1 ∷ 2 ∷ 3 ∷ []) ∷ []; check = 0 ∷ 1 ∷ 2 ∷ [] }

@@ -27,7 +27,7 @@ greatest-all f [] = nil
 greatest-all f (x ∷ L) = cons {x = x} (omega arith) (all-map (λ c h. omega arith) (greatest-all f L))
 
 -- so where all are worth at most a, it is at most a
-pub greatest-most : (f : List ℕ → ℕ) (a : ℕ) {L : List (List ℕ)} → All (λ c. f c ≤ a) L → greatest f L ≤ a
+greatest-most : (f : List ℕ → ℕ) (a : ℕ) {L : List (List ℕ)} → All (λ c. f c ≤ a) L → greatest f L ≤ a
 greatest-most f a nil = omega arith
 greatest-most f a (cons h hs) = let r = greatest-most f a hs in omega arith
 
@@ -46,9 +46,9 @@ greatest-any f x (y ∷ L) = ⊎-elim
 abbrev pub byWorth : (List (List ℕ) → List ℕ → ℕ) → Chooses
 byWorth worth = record { choice = worthMost worth; some-chosen = λ c live. greatest-any (worth (c ∷ live)) c live }
 
--- C-18's, and document 01's
-abbrev pub byFreed : Chooses
-byFreed = byWorth freed
+-- the rule's (`mostFreed`), and document 01's (`heaviest`)
+abbrev pub byRule : Chooses
+byRule = byWorth freed
 
 abbrev pub byWeight : Chooses
 byWeight = byWorth (λ live c. length c)
@@ -107,19 +107,25 @@ module _ (worth : List (List ℕ) → List ℕ → ℕ) where
   pub most-taken : (x : List ℕ) (L : List (List ℕ)) → FirstMost (worth (x ∷ L)) (x ∷ L) (first (worthMost worth (x ∷ L)) (x ∷ L)) (without (worthMost worth (x ∷ L)) (x ∷ L))
   most-taken x L = takes (worth (x ∷ L)) (greatest (worth (x ∷ L)) (x ∷ L)) (x ∷ L) (greatest-any (worth (x ∷ L)) x L) (greatest-all (worth (x ∷ L)) (x ∷ L)) .0
 
-  -- .. and no other
-  pub most-only : (live : List (List ℕ)) (c : List ℕ) (rest : List (List ℕ)) → FirstMost (worth live) live c rest
-      → (first (worthMost worth live) live ≡ c) × (without (worthMost worth live) live ≡ rest)
-  most-only live c rest r =
-      let w = worth live in
-      let G : greatest w live ≡ w c = ap (greatest w) (r .among) ∙ greatest-there w c (r .less) (r .no-more) in
-      let f = worthMost worth live in
-      let on : f c ≡ true = ap (eqb (w c)) G ∙ eqb-self (w c) in
-      let off : All (λ d. f d ≡ false) (r .before) = all-map (λ d l. ap (eqb (w d)) G ∙ ne-eqb (w d) (w c) (λ e. omega arith)) (r .less) in
-      (ap (first f) (r .among) ∙ first-at f c (r .after) off on, ap (without f) (r .among) ∙ without-at f c (r .after) off on ∙ sym (r .others))
+  -- .. and no other: such a check passes, and is the first
+  module _ {live : List (List ℕ)} {c : List ℕ} {rest : List (List ℕ)} (r : FirstMost (worth live) live c rest) where
+    greatest-is : greatest (worth live) live ≡ worth live c
+    greatest-is = ap (greatest (worth live)) (r .among) ∙ greatest-there (worth live) c (r .less) (r .no-more)
+
+    pub most-passes : worthMost worth live c ≡ true
+    most-passes = ap (eqb (worth live c)) greatest-is ∙ eqb-self (worth live c)
+
+    lesser : All (λ d. worthMost worth live d ≡ false) (r .before)
+    lesser = all-map (λ d l. ap (eqb (worth live d)) greatest-is ∙ ne-eqb (worth live d) (worth live c) (λ e. omega arith)) (r .less)
+
+    pub most-first : first (worthMost worth live) live ≡ c
+    most-first = ap (first (worthMost worth live)) (r .among) ∙ first-at (worthMost worth live) c (r .after) lesser most-passes
+
+    pub most-rest : without (worthMost worth live) live ≡ rest
+    most-rest = ap (without (worthMost worth live)) (r .among) ∙ without-at (worthMost worth live) c (r .after) lesser most-passes ∙ sym (r .others)
 
 -- ---- document 02, C-18: "Step 3 now takes the live check with the most places that lie in exactly two live checks, lowest number on a tie."
--- where no place lies in exactly one live check, such a check is set aside and the others stay live; k of them are left
+-- where no place lies in exactly one live check, such a check is set aside and the others stay live
 pub record StepThree (k n : ℕ) (live : List (List ℕ)) : Type 0 where
   pub check : List ℕ
   pub rest : List (List ℕ)
@@ -137,4 +143,4 @@ step-three k n x L e = record {
 -- and no other is
 pub step-three-only : (k n : ℕ) (live : List (List ℕ)) (c : List ℕ) (rest : List (List ℕ)) → highest n (inOneOnly live) ≡ none → FirstMost (freed live) live c rest
     → peel (suc k) n live ≡ aside c ∷ peel k n rest
-step-three-only k n live c rest e r = let q = most-only freed live c rest r in rw (e, peelBy) (ap₂ (λ x y. aside x ∷ peel k n y) (q .0) (q .1))
+step-three-only k n live c rest e r = rw (e, peelBy) (ap₂ (λ x y. aside x ∷ peel k n y) (most-first freed r) (most-rest freed r))

@@ -40,11 +40,12 @@ inTwoOnly live p = eqb (count (has p) live) 2
 abbrev pub Choice : Type 0
 Choice = List (List ℕ) → List ℕ → Bool
 
--- the choice of a check that is worth most
+-- the most that a check of a list is worth
 abbrev pub greatest : (List ℕ → ℕ) → List (List ℕ) → ℕ
 greatest worth [] = 0
 greatest worth (c ∷ cs) = max (worth c) (greatest worth cs)
 
+-- the choice of a check that is worth most
 abbrev pub worthMost : (List (List ℕ) → List ℕ → ℕ) → Choice
 worthMost worth live c = eqb (worth live c) (greatest (worth live) live)
 
@@ -53,7 +54,7 @@ abbrev pub freed : List (List ℕ) → List ℕ → ℕ
 freed live c = count (inTwoOnly live) c
 
 -- document 02, C-18: "Step 3 now takes the live check with the most places that lie in exactly two live checks, lowest number on a
--- tie." This is what to change for another choice.
+-- tie."
 abbrev pub mostFreed : Choice
 mostFreed = worthMost freed
 

@@ -26,7 +26,7 @@ pub length-steps : (n : ℕ) (T : List Solved) (z : List (List ℕ)) (X : List �
 length-steps n T z X inv = length-append (solvingSteps X (rev T)) _ ∙ ap (λ x. length (solvingSteps X (rev T)) + x)
     (length-append (scratchSteps n X z) _ ∙ ap (λ x. length (scratchSteps n X z) + x) (length-append (fittingSteps n inv X) _))
 
--- ---- kept checks are some of the checks, and have no more ones
+-- ---- kept checks are some of the checks
 choose-few : (f : List ℕ → ℕ) (K : List ℕ) (cs : List (List ℕ)) → (length (choose XorGroup isZero f K cs) ≤ length cs) × (ones (choose XorGroup isZero f K cs) ≤ ones cs)
 choose-few f K [] = (omega arith, omega arith)
 choose-few f K (c ∷ cs) = byBool (isSum XorGroup isZero K (f c))

@@ -19,7 +19,7 @@ use Rattle.plan.specs.declared.Step.the-variants.{Clear, Add}
 use Rattle.plan.specs.Step.{addSteps}
 use Rattle.plan.specs.Steps.{carryOutAll, atStart}
 use Rattle.plan.specs.Layout.{stepsOf, mostAside, planKept, planGap, infoIn, infoCount, stepCount}
-use Rattle.rule.specs.Choices.{Chooses, byFreed}
+use Rattle.rule.specs.Choices.{Chooses, byRule}
 use Rattle.rule.specs.Rule.{Plan}
 use Rattle.rule.specs.Encoded.{encode}
 use Rattle.rule.specs.OneBlock.{Encodes, block, block-encodes, one-block}
@@ -106,10 +106,10 @@ module _ (t : List ℕ) (ok : refusal t ≡ 0) where
   pub rule-numbers : RuleNumbers t
   unfolding planOfBy
   rule-numbers = record {
-    fitted = fitted-number byFreed (places t) (checks t) (good .distinct) (good .low);
-    information = info-number byFreed (places t) (checks t) (good .distinct) (good .low);
-    few-kept = kept-few byFreed (places t) (checks t) (good .distinct) (good .low);
-    some-ones = kept-ones byFreed (places t) (checks t) (good .distinct) (good .low);
+    fitted = fitted-number byRule (places t) (checks t) (good .distinct) (good .low);
+    information = info-number byRule (places t) (checks t) (good .distinct) (good .low);
+    few-kept = kept-few byRule (places t) (checks t) (good .distinct) (good .low);
+    some-ones = kept-ones byRule (places t) (checks t) (good .distinct) (good .low);
   }
 
   module _ (few : planOf t .g ≤ mostAside) where
@@ -117,17 +117,17 @@ module _ (t : List ℕ) (ok : refusal t ≡ 0) where
     counted s information b c limit =
         let p = answered (encodeRefusal (numbersOf t) s information b c) (addSteps (stepsWithin (numbersOf t) limit)) in
         let q : addSteps (stepsWithin (numbersOf t) limit) ≤ addSteps (planOf t .steps) =
-        subst (λ l. addSteps (take limit l) ≤ addSteps (planOf t .steps)) (sym (own-steps byFreed t ok few)) (fewer limit (planOf t .steps)) in
+        subst (λ l. addSteps (take limit l) ≤ addSteps (planOf t .steps)) (sym (own-steps byRule t ok few)) (fewer limit (planOf t .steps)) in
         omega arith
 
     -- demand 3, the bound
     pub addition-bound : AdditionBound t (numbersOf t)
     unfolding planOfBy
     addition-bound = record {
-      some-ones = kept-ones byFreed (places t) (checks t) (good .distinct) (good .low);
-      always = λ s i b c limit. let p = counted s i b c limit in let q = adds-most byFreed (places t) (checks t) (good .distinct) (good .low) in
-          let r = kept-ones byFreed (places t) (checks t) (good .distinct) (good .low) in omega arith;
-      four = λ h s i b c limit. let p = counted s i b c limit in let q = adds-bound byFreed (places t) (checks t) (good .distinct) (good .low) h in omega arith;
+      some-ones = kept-ones byRule (places t) (checks t) (good .distinct) (good .low);
+      always = λ s i b c limit. let p = counted s i b c limit in let q = adds-most byRule (places t) (checks t) (good .distinct) (good .low) in
+          let r = kept-ones byRule (places t) (checks t) (good .distinct) (good .low) in omega arith;
+      four = λ h s i b c limit. let p = counted s i b c limit in let q = adds-bound byRule (places t) (checks t) (good .distinct) (good .low) h in omega arith;
     }
 
 -- the one block, whatever the choice of checks to set aside
@@ -160,7 +160,7 @@ module _ (ch : Chooses) (t : List ℕ) (ok : refusal t ≡ 0) (few : planOfBy (c
       scratch = lent .scratch-long;
     })
 
-    -- the slots are those of the rule's plan
+    -- the slots are those of the plan
     slots-are : slotsAfter p s information limit ≡ encode n s P ps
     unfolding planOfBy numbersBy
     slots-are = ap₂ (λ I l. carryOutAll s (atStart (n + P .g) s I (packets s (infoCount p) information)) (take limit l)) (own-info ch t ok few) (own-steps ch t ok few)
@@ -183,7 +183,7 @@ module _ (ch : Chooses) (t : List ℕ) (ok : refusal t ≡ 0) (few : planOfBy (c
     info-below j h = let m = info-number ch n (checks t) (good t ok .distinct) (good t ok .low) in
         all-in (λ q. q < n) _ (getD-has (P .info) j (omega arith)) (info-low ch n (checks t) (good t ok .distinct) (good t ok .low))
 
-    -- the plan has as many information places as the rule
+    -- as many information places are read as the plan has
     own-number : (j : ℕ) → j < infoCount p → j < k
     own-number j h = subst (λ m. j < m) (own-places ch t ok few) h
 
@@ -212,7 +212,7 @@ module _ (ch : Chooses) (t : List ℕ) (ok : refusal t ≡ 0) (few : planOfBy (c
       zero-sums = r .codeword;
     }
 
-    -- demand 2, planning and then encoding
+    -- encoding by the plan gives the one block; of the rule's plan it is demand 2, planning and then encoding
     pub the-one-block : TheOneBlock t p s information blockBuffer scratchBuffer limit
     unfolding planOfBy numbersBy
     the-one-block = record {
@@ -238,7 +238,7 @@ module _ (t planBuffer work : List ℕ) (ok : planningRefusal t planBuffer work 
   pub planning-then-encoding : (s : ℕ) (information blockBuffer scratchBuffer : List ℕ) (limit : ℕ) → ToTheLastStep t (handed t planBuffer work) s information blockBuffer scratchBuffer limit
       → TheOneBlock t (handed t planBuffer work) s information blockBuffer scratchBuffer limit
   planning-then-encoding s i b c limit =
-      subst (λ p. ToTheLastStep t p s i b c limit → TheOneBlock t p s i b c limit) (sym plan-written) (the-one-block byFreed t table-ok few-aside s i b c limit)
+      subst (λ p. ToTheLastStep t p s i b c limit → TheOneBlock t p s i b c limit) (sym plan-written) (the-one-block byRule t table-ok few-aside s i b c limit)
 
   -- which is a codeword under the table of that size
   pub encoding-codeword : (s : ℕ) (information blockBuffer scratchBuffer : List ℕ) (limit : ℕ) → ToTheLastStep t (handed t planBuffer work) s information blockBuffer scratchBuffer limit
@@ -251,7 +251,7 @@ module _ (t planBuffer work : List ℕ) (ok : planningRefusal t planBuffer work 
 
   -- the planner's reported number of add steps is the plan's
   pub additions-reported : planningAnswer t planBuffer work .additions ≡ addSteps (stepsOf (handed t planBuffer work))
-  additions-reported = ap (λ r. planningAnswerAt r t .additions) ok ∙ sym (ap (λ p. addSteps (stepsOf p)) plan-written ∙ ap addSteps (own-steps byFreed t table-ok few-aside))
+  additions-reported = ap (λ r. planningAnswerAt r t .additions) ok ∙ sym (ap (λ p. addSteps (stepsOf p)) plan-written ∙ ap addSteps (own-steps byRule t table-ok few-aside))
 
   -- demand 3: the last step
   pub all-counted : (s : ℕ) (information blockBuffer scratchBuffer : List ℕ) (limit : ℕ) → ToTheLastStep t (handed t planBuffer work) s information blockBuffer scratchBuffer limit

@@ -1,5 +1,5 @@
--- The planner's own plan: it is well-formed, and read back it is the rule's. So it is whatever the choice of checks to set aside, and hence of the
--- plans that were made by document 01's.
+-- The plan of a table, whatever the choice of checks to set aside: it is well-formed, and read back it is the plan. By the rule's choice it is the
+-- planner's own plan, by document 01's a plan that was stored before C-18.
 use mathlib.Core.Path.{_≡_, refl, ap, ap₂, _∙_}
 use mathlib.Core.Bool.{Bool, true, false, cond, not, _||_, _&&_}
 use mathlib.Core.List.{List}
@@ -15,6 +15,7 @@ use Rattle.plan.specs.LayoutLaws.{Sound}
 use Rattle.plan.specs.ReadBack.{numbers-length, info-back, count-back, steps-back, packed-good, packed-back}
 use Rattle.plan.specs.Layout.{mostAside, mostSteps, leastNumbers, infoCount, infoIn, stepCount, stepsAt, stepsOf, badCounts, goodStep, wellFormed, planRefusal, planKept}
 use Rattle.rule.specs.Choices.{Chooses}
+pub use Rattle.rule.specs.Choices.{byRule}
 use Rattle.rule.specs.Rule.{Plan}
 use Rattle.rule.specs.WellFormed.{well-formed, info-low}
 use Rattle.rule.specs.Info.{info-number, kept-few}
@@ -103,7 +104,7 @@ module _ (ch : Chooses) (t : List ℕ) (ok : refusal t ≡ 0) (few : planOfBy (c
       (or-no (le-ltb mostSteps (stepCount w) (omega arith))
       (ap not (eq-eqb (length w) (stepsAt w + stepCount w) (omega arith)))))))
 
-  -- "the planner's own plan is well-formed"
+  -- so that, by the rule's choice, "the planner's own plan is well-formed"
   pub own-well-formed : wellFormed w ≡ true
   unfolding planOfBy numbersBy
   own-well-formed = and-yes (ap not counts)

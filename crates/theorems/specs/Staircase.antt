@@ -21,7 +21,7 @@ use Rattle.staircase.specs.Staircase.{staircaseChecks, staircaseRefusal, stairc
 use Rattle.staircase.specs.StaircaseLaws.{MadeTable, LeftSide, made-accepted, left-side}
 use Rattle.staircase.specs.Stairs.{staircase}
 use Rattle.plan.specs.Layout.{mostAside, planKept, infoIn, infoCount}
-use Rattle.rule.specs.Choices.{byFreed}
+use Rattle.rule.specs.Choices.{byRule}
 use Rattle.rule.specs.Rule.{mostFreed, plan}
 use Rattle.planner.specs.Planning.{leastPlan, workWords, tooManyAside, planOf, planningRefusal, planOfBy}
 use Rattle.planner.specs.PlanningLaws.{gap-decides, lengths-decide}
@@ -103,11 +103,11 @@ module _ (k n ones seed s : ℕ) (buffer : List ℕ) (made : staircaseRefusal k 
     kept-are = natural .all-kept ∙ checks-count
 
     info-is : infoIn p ≡ from 0 k
-    info-is = ap infoIn (plan-written t planBuffer work planned) ∙ own-info byFreed t (facts .accepted) few ∙ natural .information
+    info-is = ap infoIn (plan-written t planBuffer work planned) ∙ own-info byRule t (facts .accepted) few ∙ natural .information
 
     below : (j : ℕ) → j < k → j < infoCount p
     below j h =
-        let e : infoCount p ≡ places t - planOf t .M = ap infoCount (plan-written t planBuffer work planned) ∙ own-places byFreed t (facts .accepted) few in
+        let e : infoCount p ≡ places t - planOf t .M = ap infoCount (plan-written t planBuffer work planned) ∙ own-places byRule t (facts .accepted) few in
         let m = kept-are in
         let q = facts .places-are in
         let a = left .above in
@@ -122,7 +122,7 @@ module _ (k n ones seed s : ℕ) (buffer : List ℕ) (made : staircaseRefusal k 
     information-long =
         let a = left .above in
         let q = facts .places-are in
-        let m : planKept p ≡ n - k = ap planKept (plan-written t planBuffer work planned) ∙ own-kept byFreed t (facts .accepted) few ∙ kept-are in
+        let m : planKept p ≡ n - k = ap planKept (plan-written t planBuffer work planned) ∙ own-kept byRule t (facts .accepted) few ∙ kept-are in
         let e : places t - planKept p ≡ k = omega arith in
         lent .info-long ∙ ap (λ x. x * z) e
 

@@ -16,15 +16,15 @@ use Rattle.alist.specs.Alist.{alistReadRefusalAt, alistTable}
 use Rattle.alist.specs.AlistText.{alistText, alistWriteRefusalAt}
 use Rattle.plan.specs.Layout.{mostSteps}
 use Rattle.plan.specs.Step.{addSteps}
-use Rattle.rule.specs.Buffers.{peeling}
-use Rattle.rule.specs.Rule.{kept, heaviest, peelBy, setAsideOf}
+use Rattle.rule.specs.Buffers.{peelingBy, peeling}
+use Rattle.rule.specs.Rule.{heaviest, setAsideOf}
 use Rattle.planner.specs.Planning.{planOf, numbersOf, planningRefusalAt, leastPlan, workWords, numbersBy, planOfBy}
 use Rattle.encoder.specs.Encoding.{encodeRefusalAt, encodeAnswer, encodeBlockAfter, encodeScratchAfter}
 use Rattle.repair.specs.Repair.{repairRefusal, repairAnswer, repairBlockAfter, repairMapAfter}
 use Rattle.repair.specs.RepairTheorems.{oldAnswer}
 use Rattle.full.specs.Full.{fullRefusal, fullAnswer, fullBlockAfter, fullMapAfter}
 use Rattle.table.specs.Packets.{lowestNonzero}
-use Rattle.table.specs.Table.{atSize, checks}
+use Rattle.table.specs.Table.{atSize}
 use Rattle.verify.specs.Verify.{verifyRefusal, verifyAnswer}
 
 -- ---- the tables and the block of P2
@@ -206,7 +206,7 @@ starred =
     ∷ record { given = numbersBy heaviest tableB ∷ []; wanted = planB ∷ [] }
     -- C-18: the check that frees the most places, lowest number on a tie, is set aside; by the old rule the heaviest, and then a second one
     ∷ record { given = setAsideOf (peeling tableC); wanted = (0 ∷ 1 ∷ 3 ∷ 4 ∷ []) ∷ [] }
-    ∷ record { given = setAsideOf (peelBy heaviest 4 5 (kept (checks tableC))); wanted = (1 ∷ 2 ∷ 3 ∷ 4 ∷ []) ∷ (0 ∷ 1 ∷ 3 ∷ 4 ∷ []) ∷ [] }
+    ∷ record { given = setAsideOf (peelingBy heaviest tableC); wanted = (1 ∷ 2 ∷ 3 ∷ 4 ∷ []) ∷ (0 ∷ 1 ∷ 3 ∷ 4 ∷ []) ∷ [] }
     ∷ record { given = planned tableC; wanted = (0 ∷ []) ∷ (4 ∷ 3 ∷ 0 ∷ []) ∷ (1 ∷ []) ∷ (4 ∷ 15 ∷ 1 ∷ 18 ∷ []) ∷ [] }
     ∷ record { given = numbersOf tableC ∷ numbersBy heaviest tableC ∷ []; wanted = planC ∷ storedC ∷ [] }
     -- C-18: a5 by the new plan, at place 1, and by the stored one, at place 0

@@ -2,7 +2,7 @@
 use Rattle.table.specs.Accepted.{few-checks, has-weights}
 use Rattle.table.specs.Table.{total}
 use Rattle.keep.specs.Kept.{keptOf}
-use Rattle.live.specs.Most.{weight}
+use Rattle.peel.specs.Choice.{weight}
 use Rattle.peel.proofs.KeptLive.{ones-start, ones-turn, number-at, number-low, numbers-room}
 use Prim.Native.Nat.{_+_, _-_, _*_, _≤_}
 use mathlib.Core.Path.{_≡_, _∙_}
