@@ -6,7 +6,7 @@ use crate::gen::{self, Rng};
 use crate::harness::{bare, equal, same, Run};
 use crate::model::{self, Choice, Layout, Planned, Table};
 use crate::{carried, encode, encode_limits, known, known_block, known_layout, lengths_of};
-use crate::{plan, planned, refused, Known};
+use crate::{plan, planned, refused, Known, OLD_GAP_3, TABLE_B};
 
 /// Document 01's layout of a table. More than 32 checks set aside made no plan.
 fn old_layout(t: &Table) -> Result<Layout, u32> {
@@ -301,7 +301,7 @@ fn known_cases(run: &mut Run) {
     let old = [
         Known {
             name: "stored, P3",
-            table: &[2, 4, 1, 3, 3, 3, 3, 9, 0, 1, 2, 0, 1, 3, 0, 2, 3],
+            table: TABLE_B,
             aside: &[0],
             information: &[1],
             fitted: &[0],
@@ -311,10 +311,7 @@ fn known_cases(run: &mut Run) {
         },
         Known {
             name: "stored, gap 3",
-            table: &[
-                2, 6, 1, 5, 5, 4, 5, 4, 5, 23, 0, 1, 3, 4, 5, 0, 1, 4, 5, 0, 1, 2, 3, 5, 0, 1, 2, 3,
-                1, 2, 3, 4, 5,
-            ],
+            table: OLD_GAP_3[0],
             aside: &[0, 2, 4],
             information: &[0],
             fitted: &[1, 2, 4],
@@ -324,10 +321,7 @@ fn known_cases(run: &mut Run) {
         },
         Known {
             name: "stored, gap 3, an inverse of its own",
-            table: &[
-                2, 6, 1, 6, 5, 5, 4, 5, 4, 2, 25, 0, 1, 2, 3, 5, 1, 2, 3, 4, 5, 0, 1, 3, 5, 0, 2, 3,
-                4, 5, 1, 2, 4, 5, 2, 3,
-            ],
+            table: OLD_GAP_3[1],
             aside: &[0, 1, 3],
             information: &[0],
             fitted: &[1, 2, 3],

@@ -435,9 +435,23 @@ fn refused(table: &[u16], refusal: u32) -> Result<(), String> {
     same("answer", &answer, &Planned::refused(refusal))
 }
 
+const TABLE_B: &[u16] = &[2, 4, 1, 3, 3, 3, 3, 9, 0, 1, 2, 0, 1, 3, 0, 2, 3];
+
+/// Tables of which document 01's rule set three checks aside.
+const OLD_GAP_3: [&[u16]; 2] = [
+    &[
+        2, 6, 1, 5, 5, 4, 5, 4, 5, 23, 0, 1, 3, 4, 5, 0, 1, 4, 5, 0, 1, 2, 3, 5, 0, 1, 2, 3, 1, 2,
+        3, 4, 5,
+    ],
+    &[
+        2, 6, 1, 6, 5, 5, 4, 5, 4, 2, 25, 0, 1, 2, 3, 5, 1, 2, 3, 4, 5, 0, 1, 3, 5, 0, 2, 3, 4, 5,
+        1, 2, 4, 5, 2, 3,
+    ],
+];
+
 fn fixed_cases(run: &mut Run) {
     let a: &[u16] = &[2, 7, 1, 3, 4, 4, 4, 12, 0, 2, 4, 6, 1, 2, 5, 6, 3, 4, 5, 6];
-    let b: &[u16] = &[2, 4, 1, 3, 3, 3, 3, 9, 0, 1, 2, 0, 1, 3, 0, 2, 3];
+    let b = TABLE_B;
     let cases = [
         Known {
             name: "P1 and P2",
@@ -502,10 +516,7 @@ fn fixed_cases(run: &mut Run) {
         // By document 01's rule the next two had gap 3: stored plans in aside.rs.
         Known {
             name: "gap 2, 3 by the old rule",
-            table: &[
-                2, 6, 1, 5, 5, 4, 5, 4, 5, 23, 0, 1, 3, 4, 5, 0, 1, 4, 5, 0, 1, 2, 3, 5, 0, 1, 2, 3,
-                1, 2, 3, 4, 5,
-            ],
+            table: OLD_GAP_3[0],
             aside: &[0, 1],
             information: &[0],
             fitted: &[1, 2],
@@ -515,10 +526,7 @@ fn fixed_cases(run: &mut Run) {
         },
         Known {
             name: "gap 2, 3 by the old rule, a check not kept",
-            table: &[
-                2, 6, 1, 6, 5, 5, 4, 5, 4, 2, 25, 0, 1, 2, 3, 5, 1, 2, 3, 4, 5, 0, 1, 3, 5, 0, 2, 3,
-                4, 5, 1, 2, 4, 5, 2, 3,
-            ],
+            table: OLD_GAP_3[1],
             aside: &[0, 2],
             information: &[1],
             fitted: &[2, 4],
