@@ -1,6 +1,7 @@
 /* Repairs a block that lost three packets, then verifies it. Then repairs one
  * where no check has a single lost place. Then one with a wrong packet, and one
- * with two. Then finds where two packets differ that should be equal. */
+ * with two. Then finds where two packets differ that should be equal. Then merges
+ * what two receivers heard. */
 
 #include <stdio.h>
 #include <string.h>
@@ -139,8 +140,62 @@ static int find_the_byte(void)
     return 0;
 }
 
+/* What the first and the second receiver heard; zero and 1 where they didn't. */
+static const uint8_t first_block[7] = {0x01, 0x02, 0, 0x0e, 0, 0, 0x0d};
+static const uint8_t first_map[7] = {0, 0, 1, 0, 1, 1, 0};
+static const uint8_t second_block[7] = {0, 0, 0x04, 0x0e, 0, 0x0b, 0};
+static const uint8_t second_map[7] = {1, 1, 0, 0, 1, 0, 1};
+
+static bs_merged merge_with(const uint8_t *second, uint8_t *block, uint8_t *map)
+{
+    return bs_merge(table, table_len, first_block, 7, first_map, 7, second, 7, second_map, 7,
+                    block, 7, map, 7);
+}
+
+static int restores_none(const uint8_t *heard, const uint8_t *heard_map)
+{
+    uint8_t block[7], map[7];
+    memcpy(block, heard, 7);
+    memcpy(map, heard_map, 7);
+    return bs_repair(table, table_len, block, 7, map, 7).restored == 0;
+}
+
+static int merge_two(void)
+{
+    /* Alone neither restores a place: each check has lost two or more. */
+    if (!restores_none(first_block, first_map) || !restores_none(second_block, second_map)) {
+        printf("receiver.c: one receiver alone restored a place\n");
+        return 1;
+    }
+    uint8_t block[7], map[7];
+    bs_merged merged = merge_with(second_block, block, map);
+    if (merged.refusal != 0 || merged.lost != 0 || memcmp(block, sent, sizeof sent) != 0) {
+        printf("receiver.c: merging failed, refusal %u, lost %u\n",
+               (unsigned)merged.refusal, (unsigned)merged.lost);
+        return 1;
+    }
+    printf("receiver.c: merged: %u agreed, %u single, %u silent, %u clash; %u restored, %u lost\n",
+           (unsigned)merged.agreed, (unsigned)merged.single, (unsigned)merged.silent,
+           (unsigned)merged.clash, (unsigned)merged.restored, (unsigned)merged.lost);
+
+    /* One bit of place 3 is wrong at the second. Both heard that place, so that
+     * neither is believed, and it is restored from the others. */
+    uint8_t wrong[7];
+    memcpy(wrong, second_block, 7);
+    wrong[3] ^= 0x80;
+    merged = merge_with(wrong, block, map);
+    if (merged.refusal != 0 || merged.clash != 1 || map[3] != 2 ||
+        memcmp(block, sent, sizeof sent) != 0) {
+        printf("receiver.c: a clash: refusal %u, clash %u, mark %u\n",
+               (unsigned)merged.refusal, (unsigned)merged.clash, (unsigned)map[3]);
+        return 1;
+    }
+    printf("receiver.c: place 3 in clash, and restored as %02x\n", (unsigned)block[3]);
+    return 0;
+}
+
 int main(void)
 {
     return repair_and_verify() != 0 || repair_fully() != 0 || blame_a_place() != 0
-        || refuse_two_wrong() != 0 || find_the_byte() != 0;
+        || refuse_two_wrong() != 0 || find_the_byte() != 0 || merge_two() != 0;
 }

@@ -1,6 +1,7 @@
 //! Repairs a block that lost three packets, then verifies it. Then repairs one
 //! where no check has a single lost place. Then one with a wrong packet, and one
-//! with two. Then finds where two packets differ that should be equal.
+//! with two. Then finds where two packets differ that should be equal. Then
+//! merges what two receivers heard.
 
 #[repr(C)]
 struct Repaired {
@@ -17,6 +18,21 @@ struct FullyRepaired {
     refusal: u32,
     restored: u32,
     lost: u32,
+    check: u32,
+    byte: u32,
+}
+
+#[repr(C)]
+#[derive(Debug, PartialEq)]
+struct Merged {
+    refusal: u32,
+    agreed: u32,
+    single: u32,
+    silent: u32,
+    clash: u32,
+    restored: u32,
+    lost: u32,
+    additions: u32,
     check: u32,
     byte: u32,
 }
@@ -56,6 +72,22 @@ extern "C" {
         work: *mut u64,
         work_len: usize,
     ) -> FullyRepaired;
+    fn bs_merge(
+        table: *const u16,
+        table_len: usize,
+        block1: *const u8,
+        block1_len: usize,
+        map1: *const u8,
+        map1_len: usize,
+        block2: *const u8,
+        block2_len: usize,
+        map2: *const u8,
+        map2_len: usize,
+        block3: *mut u8,
+        block3_len: usize,
+        map3: *mut u8,
+        map3_len: usize,
+    ) -> Merged;
     fn bs_verify(table: *const u16, table_len: usize, block: *const u8, block_len: usize)
         -> Verified;
     fn bs_packet(n: usize, s: usize, place: usize, block: *const u8, block_len: usize) -> Part;
@@ -114,6 +146,37 @@ fn full_repair(table: &[u16], block: &mut [u8], map: &mut [u8]) -> Result<(u32, 
         (0, 0, 0) => Ok((r.restored, r.lost)),
         (refusal, ..) => Err(refusal),
     }
+}
+
+/// What a receiver heard: its block, and its map of 0 and 1.
+struct Heard {
+    block: [u8; 7],
+    map: [u8; 7],
+}
+
+/// Merges what two receivers heard into one block and map, and restores what
+/// can be restored of them.
+fn merge(table: &[u16], first: &Heard, second: &Heard) -> (Merged, [u8; 7], [u8; 7]) {
+    let (mut block, mut map) = ([0; 7], [0; 7]);
+    let merged = unsafe {
+        bs_merge(
+            table.as_ptr(),
+            table.len(),
+            first.block.as_ptr(),
+            first.block.len(),
+            first.map.as_ptr(),
+            first.map.len(),
+            second.block.as_ptr(),
+            second.block.len(),
+            second.map.as_ptr(),
+            second.map.len(),
+            block.as_mut_ptr(),
+            block.len(),
+            map.as_mut_ptr(),
+            map.len(),
+        )
+    };
+    (merged, block, map)
 }
 
 /// None for a codeword, else the lowest check that fails and the lowest byte
@@ -222,10 +285,46 @@ fn find_the_byte() {
     println!("receiver.rs: packets contradict: check 1 fails at byte 5");
 }
 
+fn merge_two() {
+    let first = Heard {
+        block: [0x01, 0x02, 0, 0x0e, 0, 0, 0x0d],
+        map: [0, 0, 1, 0, 1, 1, 0],
+    };
+    let mut second = Heard {
+        block: [0, 0, 0x04, 0x0e, 0, 0x0b, 0],
+        map: [1, 1, 0, 0, 1, 0, 1],
+    };
+
+    // Alone neither restores a place: each check has lost two or more.
+    let alone = [&first, &second].map(|h| repair(&TABLE, &mut h.block.clone(), &mut h.map.clone()));
+    if alone != [Ok((0, 3, 0)), Ok((0, 4, 0))] {
+        wrong(format!("{alone:?}"));
+    }
+    let (merged, block, _) = merge(&TABLE, &first, &second);
+    let counts = (merged.agreed, merged.single, merged.silent, merged.clash);
+    if merged.refusal != 0 || counts != (1, 5, 1, 0) || block != SENT {
+        wrong(format!("{merged:?}, {block:02x?}"));
+    }
+    println!(
+        "receiver.rs: merged: 1 agreed, 5 single, 1 silent, 0 clash; {} restored, {} lost",
+        merged.restored, merged.lost
+    );
+
+    // One bit of place 3 is wrong at the second. Both heard that place, so that
+    // neither is believed, and it is restored from the others.
+    second.block[3] ^= 0x80;
+    let (merged, block, map) = merge(&TABLE, &first, &second);
+    if merged.refusal != 0 || merged.clash != 1 || map[3] != 2 || block != SENT {
+        wrong(format!("{merged:?}, {block:02x?}, {map:?}"));
+    }
+    println!("receiver.rs: place 3 in clash, and restored as {:02x}", block[3]);
+}
+
 fn main() {
     repair_and_verify();
     repair_fully();
     blame_a_place();
     refuse_two_wrong();
     find_the_byte();
+    merge_two();
 }

@@ -1,4 +1,5 @@
-/* Receiver: repair, full repair and verification of sparse-check blocks.
+/* Receiver: repair, full repair, merging and verification of sparse-check
+ * blocks.
  *
  * A block is n packets of s bytes, at places 0 to n - 1. A check is a set of
  * places; the block is a codeword if the packets of each check sum to zero
@@ -15,8 +16,8 @@
  * where its length is 0.
  *
  * refusal is 0 if the call was accepted. A refused call gives 0 in all other
- * fields, but for check and byte with bs_repair's 8, and, where nothing else is
- * said, leaves its buffers as they were:
+ * fields, but for check and byte with 8 of bs_repair and bs_merge, and, where
+ * nothing else is said, leaves its buffers as they were:
  *
  *      1  a table of fewer than 5 words
  *      2  first word not 2, or n, s or m beyond its limits
@@ -24,10 +25,11 @@
  *         not the sum of the weights, or a table of wrong length
  *      4  a place not below n, or not ascending in its check
  *      5  a buffer of wrong length
- *      7  a byte of the lost map over 1
+ *      7  a byte of the lost map over 1; of bs_merge, in either listener's map
  *      8  of bs_repair: the received packets contradict each other, and not
- *         exactly one place can be blamed for it; of bs_full_repair: no
- *         codeword agrees with them
+ *         exactly one place can be blamed for it; of bs_merge: the merged
+ *         packets contradict each other; of bs_full_repair: no codeword agrees
+ *         with them
  *     10  a place not below n in bs_packet
  *
  * Of several causes the one with the lowest number is given.
@@ -130,6 +132,55 @@ bs_fully_repaired bs_full_repair(const uint16_t *table, size_t table_len,
                                  uint8_t *block, size_t block_len,
                                  uint8_t *map, size_t map_len,
                                  uint64_t *work, size_t work_len);
+
+typedef struct {
+    uint32_t refusal;
+    uint32_t agreed;    /* places that both heard, with the same packet */
+    uint32_t single;    /* places that one heard */
+    uint32_t silent;    /* places that none heard */
+    uint32_t clash;     /* places that both heard, with packets that differ */
+    uint32_t restored;  /* places restored */
+    uint32_t lost;      /* places still lost */
+    uint32_t additions; /* packets added: weight - 1 for each check used */
+    uint32_t check;     /* with 8 the lowest check that fails; else 0 */
+    uint32_t byte;      /* with 8 the lowest byte where it fails; else 0 */
+} bs_merged;
+
+/* Merges what two listeners have of one block, and repairs it. block1, map1
+ * and block2, map2 are the listeners', as for bs_repair: blocks of n * s bytes,
+ * maps of n bytes, 0 received and 1 lost. They are only read. block3 and map3
+ * are written, and have the same lengths; what they hold beforehand never
+ * counts, so that no byte of map3 gives 7. Neither do bytes at places that a
+ * listener's map says are lost. Which listener comes first doesn't matter.
+ *
+ * A place that both heard with the same packet, every byte of it, is agreed; one
+ * that a single listener heard is single; their packets are taken, with mark 0.
+ * A place that none heard is silent, and one that both heard with packets that
+ * differ is in clash: these are lost, with mark 1, and neither packet of a clash
+ * is believed. Then lost places are restored as bs_repair restores them; but
+ * where packets contradict no place is blamed.
+ *
+ * Accepted: the four counts add up to n, and restored and lost to silent and
+ * clash. Map bytes of restored places are 2, of places still lost 1, of all
+ * others 0. Packets of restored places are in block3, and places still lost
+ * hold zero bytes.
+ *
+ * If both listeners heard what was sent, wherever they heard anything, nothing
+ * clashes and nothing is refused with 8; every packet of block3 that isn't
+ * still lost is as it was sent; and no place is lost that either listener would
+ * have received, or that bs_repair would have restored from what it heard.
+ *
+ * Refusals: 1 to 5, 7 and 8. After 8 map3 holds the merged 0 and 1, block3 the
+ * merged packets, and zero bytes at its lost places; all counts are 0, and check
+ * and byte are as for bs_repair. After any other refusal block3 and map3 are as
+ * they were. */
+bs_merged bs_merge(const uint16_t *table, size_t table_len,
+                   const uint8_t *block1, size_t block1_len,
+                   const uint8_t *map1, size_t map1_len,
+                   const uint8_t *block2, size_t block2_len,
+                   const uint8_t *map2, size_t map2_len,
+                   uint8_t *block3, size_t block3_len,
+                   uint8_t *map3, size_t map3_len);
 
 typedef struct {
     uint32_t refusal;

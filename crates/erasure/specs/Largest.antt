@@ -90,3 +90,7 @@ pub largest-only : (t map : List ℕ) (L K : ℕ → Bool) → Largest t map L �
 largest-only t map L K l k p = byBool (L p)
     (λ e. e ∙ sym (k .holds L (l .among) p e))
     (λ e. byBool (K p) (λ f. absurd (true≢false (sym (l .holds K (k .among) p f) ∙ e))) (λ f. e ∙ sym f))
+
+-- with fewer places lost no other place stays lost
+pub largest-within : (t few many : List ℕ) (L K : ℕ → Bool) → Largest t few L → Largest t many K → ((p : ℕ) → isLost few p ≡ true → isLost many p ≡ true) → (p : ℕ) → L p ≡ true → K p ≡ true
+largest-within t few many L K l k within p h = k .holds L (record { stopping = l .among .stopping; lost = λ q e. within q (l .among .lost q e) }) p h

@@ -3,6 +3,8 @@ pub mod ContradictionLaws
 pub mod EachByte
 pub mod Largest
 pub mod LostLaws
+pub mod Offered
+pub mod OfferedLaws
 pub mod OldBytes
 pub mod OldRepair
 pub mod OutcomeLaws

@@ -8,10 +8,10 @@ use lib.ListN.{getD}
 use Rattle.decided.specs.Decided.{decided, value, clashes}
 use Rattle.decided.specs.DecidedTheorems.{none-agrees, one-agrees, all-have, decided-exactly}
 use Rattle.decided.specs.PeeledLaws.{beyond-peeling}
+use Rattle.erasure.specs.OfferedLaws.{agree-there}
+use Rattle.erasure.specs.Offered.{Fitting, Agree}
 use Rattle.erasure.specs.Restoring.{isLost, outcome, AgreeThere}
 use Rattle.lists.specs.Lists.{All}
-use Rattle.repair.specs.Repair.{Fitting, Agree}
-use Rattle.repair.specs.RepairTheorems.{agree-there}
 use Rattle.table.specs.Codewords.{IsCodeword}
 use Rattle.table.specs.PacketCall.{partAt}
 use Rattle.table.specs.Packets.{packets}

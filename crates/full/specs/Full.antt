@@ -7,10 +7,10 @@ use Prim.Native.Nat.{ℕ, zero, suc, _<_}
 use lib.Dec.{eqb}
 use lib.ListN.{length, replicate}
 use Rattle.decided.specs.Decided.{clashes, solvedBlock, solvedMap}
+use Rattle.erasure.specs.Offered.{wrongLengths, byteOver, Fitting, Agree}
 use Rattle.erasure.specs.Restoring.{zeroLost, tally}
 use Rattle.full.specs.declared.FullyRepaired.{FullyRepaired}
 use Rattle.lists.specs.Lists.{All}
-use Rattle.repair.specs.Repair.{wrongLengths, byteOver, Fitting, Agree}
 use Rattle.table.specs.Codewords.{IsCodeword}
 use Rattle.table.specs.FirstCause.{firstCause, wrongLength}
 use Rattle.table.specs.PacketCall.{partAt}

@@ -8,11 +8,11 @@ use borrow.Author.Tests.{eq-eqb, ne-eqb, not-false}
 use lib.Dec.{eqb, ltb}
 use lib.ListN.{length, replicate}
 use Rattle.decided.specs.Decided.{solvedBlock, solvedMap}
+use Rattle.erasure.specs.Offered.{wrongLengths, byteOver}
 use Rattle.erasure.specs.Restoring.{zeroLost}
 use Rattle.full.specs.Full.{wrongBuffers, clashing, fullCauses, fullRefusal, fullRefused, fullAnswerAt, fullAnswer, fullBlockAfter, fullMapAfter, fullWorkAfter, FittingAll}
 use Rattle.lists.specs.Lists.{anyOf, All.nil, All.cons}
 use Rattle.lists.specs.Tests.{eqb-true, or-false-l, or-false-r}
-use Rattle.repair.specs.Repair.{wrongLengths, byteOver}
 use Rattle.repair.specs.RepairLaws as old
 use Rattle.table.specs.FirstCause.{firstCause, wrongLength, NoneHolds}
 use Rattle.table.specs.FirstCauseLaws.{none-holds, none-refuses, first-decides, rest-decides, quiet, refused-by}

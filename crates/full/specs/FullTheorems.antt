@@ -16,6 +16,8 @@ use Rattle.decided.specs.Counted.{counted}
 use Rattle.decided.specs.Decided.{lostRow, decided, someOf, clashesAt, packetAfter, markAfter, solvedBlock, solvedMap}
 use Rattle.decided.specs.DecidedTheorems.{after-sums, after-part, after-right, after-whole}
 use Rattle.decided.specs.PeeledLaws.{calm-agrees, contradicted-clashes}
+use Rattle.erasure.specs.OfferedLaws.{bytes-all, byte-at, agree-there}
+use Rattle.erasure.specs.Offered.{wrongLengths, byteOver, Agree}
 use Rattle.erasure.specs.OldBytes.{old-bytes-cleared}
 use Rattle.erasure.specs.LostLaws.{not-lost, is-lost}
 use Rattle.erasure.specs.OldRepair.{part-is as old-part, cleared-kept, cleared-zero}
@@ -30,9 +32,9 @@ use Rattle.lists.specs.ListLaws.{all-map, map-same}
 use Rattle.lists.specs.Lists.{All}
 use Rattle.lists.specs.Numbers.{from-all}
 use Rattle.lists.specs.Tests.{byBool, eqb-true, eqb-false}
-use Rattle.repair.specs.Repair.{wrongLengths, byteOver, repairRefusal, repairBlockAfter, repairMapAfter, Agree}
-use Rattle.repair.specs.RepairLaws.{bytes-all, byte-at, agreed-refusal, contradicted-fits}
-use Rattle.repair.specs.RepairTheorems.{agree-there, plainly}
+use Rattle.repair.specs.Repair.{repairRefusal, repairBlockAfter, repairMapAfter}
+use Rattle.repair.specs.RepairLaws.{agreed-refusal, contradicted-fits}
+use Rattle.repair.specs.RepairTheorems.{plainly}
 use Rattle.table.specs.Codewords.{IsCodeword}
 use Rattle.table.specs.PacketCall.{partAt}
 use Rattle.table.specs.PacketLaws.{packet-at, same-packets}

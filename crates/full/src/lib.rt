@@ -117,7 +117,7 @@ pub fn full_repair(t: &[u16], block: &mut [u8], map: &mut [u8], work: &mut [u64]
     if work.len() != WORK_WORDS {
         return refused(5);
     }
-    if repair::over_one(map) {
+    if marks::over_one(map) {
         return refused(7);
     }
     full_packets(t, wide(t[3]), n, s, block, map, work)

@@ -1,14 +1,16 @@
--- Laws of buffers: a part written, number by number.
+-- Laws of buffers: a part written, number by number; filled from the start.
 use mathlib.Core.Path.{_≡_, refl, sym, ap, _∙_}
-use mathlib.Core.List.{List, [], _∷_, _++_, append-nil}
+use mathlib.Core.List.{List, [], _∷_, _++_, map, append-nil}
 use mathlib.Core.Logic.{_⊎_, ⊎-elim}
 use Prim.Native.Nat.{ℕ, _+_, _-_, _<_, _≤_}
 use native.Mathlib.Numerals.{add-one}
 use native.Mathlib.Omega.{arith}
-use lib.ListN.{length, getD, take, drop, length-append, length-take, length-drop, List·getD-append, drop-of-length-le}
-use lib.Seq.{getD-take, getD-drop, getD-append-add, ext-getD, take-suc}
-use Rattle.lists.specs.Lists.{written}
-use Rattle.lists.specs.Tests.{side}
+use lib.Dec.{eqb}
+use lib.ListN.{length, getD, set, take, drop, length-append, length-take, length-drop, length-map, List·getD-append, drop-of-length-le}
+use lib.Seq.{getD-take, getD-drop, getD-append-add, getD-set-same, getD-set-other, ext-getD, take-suc}
+use Rattle.lists.specs.Lists.{from, written}
+use Rattle.lists.specs.Numbers.{from-length, map-from-at}
+use Rattle.lists.specs.Tests.{eqb-true, eqb-false, byBool, side}
 
 -- past a first part of n elements
 getD-right : (p q : List ℕ) (n i : ℕ) → length p ≡ n → getD (p ++ q) (n + i) 0 ≡ getD q i 0
@@ -72,3 +74,14 @@ written-length b at x h = written-bytes b at x (length x) refl h .len
 -- all of a buffer
 pub written-whole : (b x : List ℕ) → length x ≡ length b → written b 0 x ≡ x
 written-whole b x h = ap (λ r. x ++ r) (drop-of-length-le b {i = 0 + length x} (omega arith)) ∙ append-nil x
+
+-- ---- filled from the start: one more
+pub filled-more : {X : Type 0} (d : X) (f : ℕ → X) (l : List X) (i : ℕ) (v : X) → i < length l → ((k : ℕ) → k < i → getD l k d ≡ f k) → v ≡ f i
+    → (k : ℕ) → k < i + 1 → getD (set l i v) k d ≡ f k
+filled-more d f l i v room sofar e k h = byBool (eqb k i)
+    (λ y. let z : k ≡ i = eqb-true k i y in rw z (getD-set-same l i v d room ∙ e))
+    (λ y. let ne = eqb-false k i y in getD-set-other l i k v d ne ∙ sofar k (omega arith))
+
+-- all of them
+pub filled-all : {X : Type 0} (d : X) (f : ℕ → X) (l : List X) (n : ℕ) → length l ≡ n → ((k : ℕ) → k < n → getD l k d ≡ f k) → l ≡ map f (from 0 n)
+filled-all d f l n long all = ext-getD d l (map f (from 0 n)) (long ∙ sym (length-map (from 0 n) f ∙ from-length 0 n)) (λ k h. let u : k < n = omega arith in all k u ∙ sym (map-from-at f d n k u))

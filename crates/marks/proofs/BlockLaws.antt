@@ -9,16 +9,11 @@ use borrow.Author.Tests.{ne-eqb}
 use lib.Dec.{eqb}
 use lib.ListN.{length, getD, set, take, drop, replicate, length-replicate, drop-of-length-le}
 use lib.Seq.{drop-cons, take-suc-set, drop-set-lt, set-getD, take-all}
-use Rattle.table.specs.BufferLaws.{set-written}
-use Rattle.table.specs.PacketLaws.{packets-length, packets-sized, packets-joined}
+use Rattle.table.specs.PacketLaws.{packets-length, packets-joined}
 use Rattle.table.specs.Packets.{packets, joined}
 use Rattle.lists.specs.Lists.{written}
 use Rattle.erasure.specs.Restoring.{zeroLost}
-use Rattle.packets.specs.SetLaws.{packets-set, bytes-set}
-
--- ---- one packet written
-written-set : (s n : ℕ) (b : List ℕ) → length b ≡ n * s → (i : ℕ) (v : List ℕ) → i < n → length v ≡ s → written b (i * s) v ≡ joined (set (packets s n b) i v)
-written-set s n b bytes i v inside long = ap (λ c. written c (i * s) v) (sym (packets-joined s n b bytes)) ∙ sym (set-written s (packets-sized s n b bytes) i v (subst (λ k. i < k) (sym (packets-length s n b)) inside) long)
+use Rattle.packets.specs.SetLaws.{written-set, packets-set, bytes-set}
 
 -- ---- where the zeroing of lost places stands
 abbrev pub zeroFrom : ℕ → List ℕ → List (List ℕ) → ℕ → List (List ℕ)

@@ -1,10 +1,25 @@
-// Marks of lost places and of checks: how many places are lost, zero bytes at each, and whether a check is to be summed.
+// Marks of lost places and of checks: whether a mark is over 1, how many places are lost, zero bytes at each, and whether a check is to be summed.
 ghost use mathlib.Core.Path.{_≡_};
 ghost use mathlib.Core.Bool.{true, false};
 ghost use Prim.Native.Nat.{_*_, _≤_};
 ghost use lib.ListN.{length};
 ghost use Rattle.table.specs.Packets.{packets, joined};
+ghost use Rattle.erasure.specs.Offered.{byteOver};
 ghost use Rattle.erasure.specs.Restoring.{tally, zeroLost};
+
+// a map byte over 1
+pub fn over_one(map: &[u8]) -> bool
+    ensures { λ r. ⌜ r ≡ byteOver (now (map .entry)) ⌝ }
+{
+    let mut p = 0;
+    while p < map.len() {
+        if map[p] > 1 {
+            return true;
+        }
+        p += 1;
+    }
+    false
+}
 
 // how many map bytes are v
 pub fn tally_of(map: &[u8], v: u8) -> u32

@@ -2,8 +2,10 @@
 use mathlib.Core.Bool.{Bool, true, false}
 use Prim.Native.Nat.{ℕ}
 use Rattle.full.specs.Full.{FullAnswer}
+use Rattle.merge.specs.Merge.{MergeAnswer}
 use Rattle.repair.specs.Repair.{RepairAnswer}
 use Rattle.receiver.specs.declared.FullRepair.{FullRepair}
+use Rattle.receiver.specs.declared.Merge.{Merge}
 use Rattle.receiver.specs.declared.Repair.{Repair}
 
 -- C has numbers: 1 or 0 for whether
@@ -16,3 +18,17 @@ repaired r = record { refusal = r .refusal; restored = r .restored; lost = r .lo
 
 abbrev pub fullyRepaired : FullRepair → FullAnswer
 fullyRepaired r = record { refusal = r .refusal; restored = r .restored; lost = r .lost; check = r .check; byte = r .byte }
+
+abbrev pub merged : Merge → MergeAnswer
+merged r = record {
+  refusal = r .refusal;
+  agreed = r .agreed;
+  single = r .single;
+  silent = r .silent;
+  clash = r .clash;
+  restored = r .restored;
+  lost = r .lost;
+  additions = r .additions;
+  check = r .check;
+  byte = r .byte;
+}

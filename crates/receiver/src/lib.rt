@@ -1,4 +1,4 @@
-// The receiver's library for C: the packet call, verification, repair and full repair.
+// The receiver's library for C: the packet call, verification, repair, full repair and merging.
 ghost use mathlib.Core.Path.{_≡_};
 ghost use Prim.Native.Nat.{_≤_};
 ghost use lib.ListN.{length};
@@ -7,7 +7,9 @@ ghost use Rattle.verify.specs.Verify.{verifyAnswer};
 ghost use Rattle.repair.specs.Repair.{repairAnswer, repairBlockAfter, repairMapAfter};
 ghost use Rattle.full.specs.Full.{fullAnswer, fullBlockAfter, fullMapAfter, fullWorkAfter};
 ghost use Rattle.faults.specs.Faults.{checkOf, byteOf};
-ghost use Rattle.receiver.specs.Answers.{oneIf, repaired, fullyRepaired};
+ghost use Rattle.aerials.specs.Aerials.{held};
+ghost use Rattle.merge.specs.Merge.{mergeAnswer, mergeAfter};
+ghost use Rattle.receiver.specs.Answers.{oneIf, repaired, fullyRepaired, merged};
 use verify::Verified;
 
 // Where in the block a packet lies: 0 and 0 on refusal.
@@ -148,5 +150,59 @@ pub extern "C" fn bs_full_repair(
         lost: f.lost,
         check: f.check,
         byte: f.byte,
+    }
+}
+
+// What merging reports: the refusal, 0 for none; the four counts; the repair's; and with refusal 8 the
+// lowest check that fails with its byte, else 0.
+#[repr(C)]
+pub struct Merge {
+    pub refusal: u32,
+    pub agreed: u32,
+    pub single: u32,
+    pub silent: u32,
+    pub clash: u32,
+    pub restored: u32,
+    pub lost: u32,
+    pub additions: u32,
+    pub check: u32,
+    pub byte: u32,
+}
+
+#[no_mangle]
+pub extern "C" fn bs_merge(
+    table: &[u16],
+    block1: &[u8],
+    map1: &[u8],
+    block2: &[u8],
+    map2: &[u8],
+    block3: &mut [u8],
+    map3: &mut [u8],
+) -> Merge
+    ensures report { λ r. ⌜
+        merged r
+        ≡ mergeAnswer (now (table .entry)) (held (now (block1 .entry)) (now (map1 .entry))) (held (now (block2 .entry)) (now (map2 .entry))) (held (now (block3 .entry)) (now (map3 .entry)))
+        ⌝ }
+    ensures block { λ _. ⌜
+        now (block3 .exit)
+        ≡ mergeAfter (now (table .entry)) (held (now (block1 .entry)) (now (map1 .entry))) (held (now (block2 .entry)) (now (map2 .entry))) (held (now (block3 .entry)) (now (map3 .entry))) .block
+        ⌝ }
+    ensures map { λ _. ⌜
+        now (map3 .exit)
+        ≡ mergeAfter (now (table .entry)) (held (now (block1 .entry)) (now (map1 .entry))) (held (now (block2 .entry)) (now (map2 .entry))) (held (now (block3 .entry)) (now (map3 .entry))) .map
+        ⌝ }
+{
+    let r = merge::merge(table, block1, map1, block2, map2, block3, map3);
+    Merge {
+        refusal: r.refusal,
+        agreed: r.agreed,
+        single: r.single,
+        silent: r.silent,
+        clash: r.clash,
+        restored: r.restored,
+        lost: r.lost,
+        additions: r.additions,
+        check: r.check,
+        byte: r.byte,
     }
 }

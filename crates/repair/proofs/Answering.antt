@@ -14,6 +14,8 @@ use Rattle.table.specs.Packets.{packets, joined}
 use Rattle.table.specs.Table.{places, size, checks, refusal}
 use Rattle.table.specs.TableLaws.{refusal-small}
 use Rattle.table.specs.Accepted.{Accepted}
+use Rattle.erasure.specs.OfferedLaws.{none-handed, bytes-all, sized, low}
+use Rattle.erasure.specs.Offered.{Fitting}
 use Rattle.erasure.specs.OldBytes.{old-bytes, old-bytes-cleared}
 use Rattle.erasure.specs.OldRepair.{cleared-kept}
 use Rattle.erasure.specs.OutcomeLaws.{tally-two}
@@ -26,9 +28,8 @@ use Rattle.restore.specs.Mending.{countsOf, Mends}
 use Rattle.restore.specs.MendsLaws.{agrees-told, check-told, byte-told}
 use Rattle.restore.specs.declared.Mended.{Mended}
 use Rattle.repair.specs.Parts.{Without}
-use Rattle.repair.specs.Repair.{believed, marked, repairRefusal, repairAnswerOf, acceptedWith, refusedWith, Answers, Fitting}
-use Rattle.repair.specs.RepairLaws.{agreed-refusal, blamed-refusal, contradicted-refusal, table-refused, block-short, map-short, byte-over, none-handed, bytes-all, block-accepted, block-contradicted, block-refused, map-accepted, map-refused}
-use Rattle.repair.specs.RepairTheorems.{sized, low}
+use Rattle.repair.specs.Repair.{believed, marked, repairRefusal, repairAnswerOf, acceptedWith, refusedWith, Answers}
+use Rattle.repair.specs.RepairLaws.{agreed-refusal, blamed-refusal, contradicted-refusal, table-refused, block-short, map-short, byte-over, block-accepted, block-contradicted, block-refused, map-accepted, map-refused}
 use Rattle.repair.specs.declared.Repaired.{Repaired}
 
 -- ---- what the core tells and leaves

@@ -11,12 +11,13 @@ use lib.ListN.{getD, set}
 use lib.Seq.{getD-set-same, getD-set-other}
 use Rattle.blame.specs.Blame.{lostToo, blamed, Suspect}
 use Rattle.blame.specs.BlameLaws.{mark-three, blamed-is}
+use Rattle.erasure.specs.OfferedLaws.{bytes-all, lost-byte}
+use Rattle.erasure.specs.Offered.{Fitting}
 use Rattle.erasure.specs.OldRepair.{word-agrees, word-values}
 use Rattle.erasure.specs.Restoring.{isLost, outcome, AgreeThere}
 use Rattle.lists.specs.Tests.{eqb-true, byBool}
-use Rattle.repair.specs.Repair.{repairBlockAfter, repairMapAfter, Fitting}
-use Rattle.repair.specs.RepairLaws.{bytes-all}
-use Rattle.repair.specs.RepairTheorems.{lost-byte, accepted-by-blame}
+use Rattle.repair.specs.Repair.{repairBlockAfter, repairMapAfter}
+use Rattle.repair.specs.RepairTheorems.{accepted-by-blame}
 use Rattle.table.specs.Codewords.{IsCodeword}
 use Rattle.table.specs.PacketCall.{partAt}
 use Rattle.table.specs.Packets.{joined}

@@ -1,31 +1,22 @@
 -- Repair (document 01, "Repair and the other calls"): the call with its refusals. The lost map has a byte a place: 0 received,
 -- 1 lost, 2 restored, and by document 02, C-17, 3 for a received place that is blamed: "answer with that repair and mark the place 3".
 use mathlib.Core.Path.{_≡_}
-use mathlib.Core.Bool.{Bool, true, false, not, _||_, _&&_}
+use mathlib.Core.Bool.{Bool, true, false, not, _&&_}
 use mathlib.Core.List.{List, [], _∷_, _++_}
 use mathlib.Core.Option.{Option, none, some}
-use Prim.Native.Nat.{ℕ, zero, suc, _*_, _<_}
-use lib.Dec.{eqb, ltb}
-use lib.ListN.{length, getD, set}
+use Prim.Native.Nat.{ℕ, zero, suc}
+use lib.Dec.{eqb}
+use lib.ListN.{set}
 use Rattle.blame.specs.Blame.{lostToo, blamed, nobody}
+use Rattle.erasure.specs.Offered.{wrongLengths, byteOver, handedOn}
 use Rattle.erasure.specs.Restoring.{State, zeroLost, tally, outcome, contradicting, agreeing}
 use Rattle.faults.specs.Faults.{Fault, checkOf, byteOf}
-use Rattle.lists.specs.Lists.{anyOf}
 use Rattle.repair.specs.declared.Repaired.{Repaired}
-use Rattle.table.specs.FirstCause.{firstCause, wrongLength}
-use Rattle.table.specs.PacketCall.{partAt}
+use Rattle.table.specs.FirstCause.{firstCause}
 use Rattle.table.specs.Packets.{packets, joined}
 use Rattle.table.specs.Table.{places, size, tableCauses, refusal}
 
 -- ---- the call: table t, block b and map of any length and content
--- 5: block or map of wrong length
-abbrev pub wrongLengths : List ℕ → List ℕ → List ℕ → Bool
-wrongLengths t b map = wrongLength (length b) (places t * size t) || wrongLength (length map) (places t)
-
--- 7: "a map byte over 1"
-abbrev pub byteOver : List ℕ → Bool
-byteOver map = anyOf (ltb 1) map
-
 -- the map that repair goes by: the blamed place is "marked lost too"
 abbrev pub believed : Option ℕ → List ℕ → List ℕ
 believed none map = map
@@ -60,11 +51,6 @@ pub record RepairAnswer : Type 0 where
   pub check : ℕ
   pub byte : ℕ
 
--- "verification and refusal 8 hand on the lowest failing check with that byte" (document 02, C-12); no other answer of repair has one.
--- "with 8, check and byte are those of the repair without this rule" (C-17)
-abbrev pub handedOn : ℕ → Option Fault → Option Fault
-handedOn r f = elim (eqb r 8) [ true ↦ f | false ↦ none ]
-
 -- accepted: the counts
 abbrev pub acceptedWith : ℕ → ℕ → ℕ → RepairAnswer
 acceptedWith restored lost additions = record { refusal = 0; restored = restored; lost = lost; additions = additions; check = 0; byte = 0 }
@@ -78,6 +64,7 @@ abbrev pub repairAnswerAt : ℕ → State → Option Fault → RepairAnswer
 repairAnswerAt zero m f = acceptedWith (tally 2 (m .map)) (tally 1 (m .map)) (m .adds)
 repairAnswerAt (suc r) m f = refusedWith (suc r) (checkOf f) (byteOf f)
 
+-- "with 8, check and byte are those of the repair without this rule" (C-17)
 abbrev pub repairAnswer : List ℕ → List ℕ → List ℕ → RepairAnswer
 repairAnswer t b map = repairAnswerAt (repairRefusal t b map) (repairOutcome t b map) (handedOn (repairRefusal t b map) (contradicting t b map))
 
@@ -103,14 +90,3 @@ pub record Answers (t b map : List ℕ) (r : Repaired) (b′ map′ : List ℕ) 
   pub report : repairAnswerOf r ≡ repairAnswer t b map
   pub block-is : b′ ≡ repairBlockAfter t b map
   pub map-is : map′ ≡ repairMapAfter t b map
-
--- a call that none of 1 to 7 refuses
-pub record Fitting (t b map : List ℕ) : Type 0 where
-  pub table : refusal t ≡ 0
-  pub block : length b ≡ places t * size t
-  pub map-length : length map ≡ places t
-  pub map-bytes : anyOf (ltb 1) map ≡ false
-
--- the same packet in b and w wherever the map says received
-abbrev pub Agree : List ℕ → List ℕ → List ℕ → List ℕ → Type 0
-Agree t b map w = (p : ℕ) → p < places t → getD map p 0 ≡ 0 → partAt (size t) p b ≡ partAt (size t) p w

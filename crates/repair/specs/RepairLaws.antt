@@ -4,19 +4,18 @@ use mathlib.Core.Bool.{Bool, true, false, cond, not, true≢false}
 use mathlib.Core.List.{List, [], _∷_, _++_}
 use mathlib.Core.Logic.{_≢_, _⊎_, inl, inr}
 use mathlib.Core.Option.{Option, none, some}
-use Prim.Native.Nat.{ℕ, _*_, _≤_}
-use native.Mathlib.Omega.{arith}
-use borrow.Author.Tests.{eq-eqb, ne-eqb, ltb-false, not-true, not-false}
+use Prim.Native.Nat.{ℕ, _*_}
+use borrow.Author.Tests.{eq-eqb, ne-eqb, not-true}
 use lib.Dec.{eqb, ltb}
-use lib.ListN.{length, getD}
+use lib.ListN.{length}
 use Rattle.blame.specs.Blame.{blamed, nobody}
+use Rattle.erasure.specs.Offered.{wrongLengths, byteOver, Fitting}
+use Rattle.erasure.specs.OfferedLaws.{offer-fits}
 use Rattle.erasure.specs.Restoring.{zeroLost, agreeing}
-use Rattle.faults.specs.Faults.{Fault}
-use Rattle.lists.specs.ListLaws.{all-read}
-use Rattle.lists.specs.Lists.{anyOf, All, All.nil, All.cons}
-use Rattle.lists.specs.Tests.{eqb-true, byBool, byOpt, or-false-l, or-false-r, and-false, and-l, and-r, and-both}
-use Rattle.repair.specs.Repair.{wrongLengths, byteOver, marked, repairOutcome, contradicts, repairCauses, repairRefusal, handedOn, repairBlockAfter, repairMapAfter, Fitting}
-use Rattle.table.specs.FirstCause.{firstCause, wrongLength, NoneHolds}
+use Rattle.lists.specs.Lists.{anyOf, All.nil, All.cons}
+use Rattle.lists.specs.Tests.{byBool, byOpt, and-false, and-l, and-r, and-both}
+use Rattle.repair.specs.Repair.{marked, repairOutcome, contradicts, repairCauses, repairRefusal, repairBlockAfter, repairMapAfter}
+use Rattle.table.specs.FirstCause.{firstCause, NoneHolds}
 use Rattle.table.specs.FirstCauseLaws.{none-holds, none-refuses, first-decides, rest-decides, quiet, refused-by}
 use Rattle.table.specs.Packets.{packets, joined}
 use Rattle.table.specs.Table.{places, size, tableCauses, refusal}
@@ -61,12 +60,7 @@ module _ (t b map : List ℕ) where
 
   -- the other way: no cause up to 7
   pub fits : NoneHolds ((wrongLengths t b map, 5) ∷ (byteOver map, 7) ∷ []) → refusal t ≡ 0 → Fitting t b map
-  fits (cons w (cons o n)) ok = record {
-    table = ok;
-    block = eqb-true (length b) (places t * size t) (not-false (eqb (length b) (places t * size t)) (or-false-l (wrongLength (length b) (places t * size t)) _ w));
-    map-length = eqb-true (length map) (places t) (not-false (eqb (length map) (places t)) (or-false-r (wrongLength (length b) (places t * size t)) _ w));
-    map-bytes = o;
-  }
+  fits (cons w (cons o n)) ok = offer-fits t b map ok w o
 
   -- an accepted call: the old repair accepts, or a place is blamed
   pub accepted-fits : repairRefusal t b map ≡ 0 → Fitting t b map × ((agreeing t b map ≡ true) ⊎ ((p : ℕ) × (blamed t b map ≡ some p)))
@@ -98,18 +92,6 @@ module _ (t b map : List ℕ) where
         fits n (quiet (cons c1 (cons c2 (cons c3 (cons c4 nil))))),
         (not-true (agreeing t b map) (and-l (not (agreeing t b map)) (nobody (blamed t b map)) a), nobody-is (blamed t b map) (and-r (not (agreeing t b map)) (nobody (blamed t b map)) a)),
       )
-
--- ---- what is handed on
-pub none-handed : (r : ℕ) (f : Option Fault) → eqb r 8 ≡ false → handedOn r f ≡ none
-none-handed r f e = rw (e, handedOn)
-
--- ---- the map's bytes
-pub bytes-all : (map : List ℕ) → anyOf (ltb 1) map ≡ false → All (λ x. x ≤ 1) map
-bytes-all [] h = nil
-bytes-all (x ∷ l) h = cons (ltb-false 1 x (or-false-l (ltb 1 x) (anyOf (ltb 1) l) h)) (bytes-all l (or-false-r (ltb 1 x) (anyOf (ltb 1) l) h))
-
-pub byte-at : {map : List ℕ} → All (λ x. x ≤ 1) map → (p : ℕ) → getD map p 0 ≤ 1
-byte-at a p = all-read 0 a (omega arith) p
 
 -- ---- block and map by the refusal
 pub block-accepted : (t b map : List ℕ) → repairRefusal t b map ≡ 0 → repairBlockAfter t b map ≡ joined (repairOutcome t b map .block)

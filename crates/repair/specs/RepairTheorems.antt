@@ -13,11 +13,13 @@ use lib.ListN.{length, getD, set, replicate, length-set}
 use lib.Seq.{getD-set-same, getD-set-other}
 use Rattle.blame.specs.Blame.{lostToo, blamed, Suspect, OnlySuspect}
 use Rattle.blame.specs.BlameLaws.{TwoSuspects, no-only, none-only, two-only, agreed-none, contradicted-only, blamed-contradicts, blamed-is, is-blamed, lostToo-bytes, lostToo-count, lostToo-known, mark-three, three-restored, three-lost, stays-without, suspect-changes, blamed-alike}
+use Rattle.erasure.specs.OfferedLaws.{none-handed, bytes-all, byte-at, agree-there, sized, low}
+use Rattle.erasure.specs.Offered.{handedOn, Fitting, Agree}
 use Rattle.erasure.specs.Largest.{stays-lost, largest-same}
 use Rattle.erasure.specs.LostLaws.{not-lost, is-lost}
 use Rattle.erasure.specs.OldBytes.{old-bytes, old-bytes-cleared}
 use Rattle.erasure.specs.OldRepair.{RestoredBy, part-is, old-repair, cleared-kept, cleared-zero, word-agrees, word-values}
-use Rattle.erasure.specs.OutcomeLaws.{tally-restored, tally-two, outcome-length, outcome-sized}
+use Rattle.erasure.specs.OutcomeLaws.{tally-restored, tally-two}
 use Rattle.erasure.specs.Restoring.{State, Counts, Largest, AgreeThere, lostPlaces, noneLost, contradiction, tally, outcome, contradicting, agreeing, countsIf, blockIf, mapIf, isLost}
 use Rattle.erasure.specs.RestoringLaws.{restoring-map, restoring-same, restoring-mark}
 use Rattle.erasure.specs.Tally.{none-restored}
@@ -26,14 +28,13 @@ use Rattle.faults.specs.Faults.{Fault, noFault, FirstFault}
 use Rattle.lists.specs.ListLaws.{all-map, all-of, filter-same}
 use Rattle.lists.specs.Lists.{All}
 use Rattle.lists.specs.Tests.{eqb-true, eqb-false, byBool, byOpt}
-use Rattle.repair.specs.Repair.{believed, marked, repairOutcome, repairRefusal, RepairAnswer, handedOn, acceptedWith, refusedWith, repairAnswerAt, repairAnswer, repairBlockAfter, repairMapAfter, Fitting, Agree}
-use Rattle.repair.specs.RepairLaws.{agreed-refusal, blamed-refusal, contradicted-refusal, accepted-fits, contradicted-fits, none-handed, bytes-all, byte-at, block-accepted, block-contradicted, map-accepted, map-refused}
+use Rattle.repair.specs.Repair.{believed, marked, repairOutcome, repairRefusal, RepairAnswer, acceptedWith, refusedWith, repairAnswerAt, repairAnswer, repairBlockAfter, repairMapAfter}
+use Rattle.repair.specs.RepairLaws.{agreed-refusal, blamed-refusal, contradicted-refusal, accepted-fits, contradicted-fits, block-accepted, block-contradicted, map-accepted, map-refused}
 use Rattle.table.specs.Codewords.{IsCodeword}
 use Rattle.table.specs.PacketCall.{partAt}
 use Rattle.table.specs.PacketLaws.{packet-at}
-use Rattle.table.specs.Packets.{Packets, packets, joined, packetSum}
+use Rattle.table.specs.Packets.{packets, joined, packetSum}
 use Rattle.table.specs.Table.{places, size, checks}
-use Rattle.table.specs.TableLaws.{accepted}
 
 -- ---- the old repair, "the repair without this rule"
 -- an answer of repair by what the core tells
@@ -124,14 +125,6 @@ pub record Contradicted (t b map : List ℕ) : Type 0 where
   -- the check that is reported "is the lowest that fails after restoring, among those then without a lost place": it has none, its sum
   -- isn't zero at the byte and is zero below it, and every lower check without a lost place sums to zero
   pub first : FirstFault (noneLost (outcome t b map .map)) (size t) (outcome t b map .block) (checks t) (reported t b map)
-
--- ---- the map's bytes
-pub lost-byte : {map : List ℕ} → All (λ x. x ≤ 1) map → (p : ℕ) → isLost map p ≡ false → getD map p 0 ≡ 0
-lost-byte {map} a p e = let k = byte-at a p in let z = eqb-false (getD map p 0) 1 e in omega arith
-
--- received and not lost are the same
-pub agree-there : (t b map : List ℕ) → Fitting t b map → (w : List ℕ) → Agree t b map w → AgreeThere t b map w
-agree-there t b map f w a p h e = a p h (lost-byte (bytes-all map (f .map-bytes)) p e)
 
 -- ---- the old repair's answer
 -- what is told where it accepts, and where it contradicts
@@ -348,14 +341,6 @@ module _ (t b map w : List ℕ) (f : Fitting t b map) (word : IsCodeword t w) (a
       old = plainly t b map f (agreed-none t b map calm)
 
 -- ---- refusal 8
--- the restored packets, and the places of the checks
-module _ (t b map : List ℕ) (f : Fitting t b map) where
-  pub sized : Packets (size t) (outcome t b map .block)
-  sized = outcome-sized t b map (f .table) (f .block)
-
-  pub low : All (λ c. All (λ p. p < length (outcome t b map .block)) c) (checks t)
-  low = subst (λ k. All (λ c. All (λ p. p < k) c) (checks t)) (sym (outcome-length t b map (f .table) (f .block))) (accepted t (f .table) .low)
-
 pub contradicted-repair : (t b map : List ℕ) → repairRefusal t b map ≡ 8 → Contradicted t b map
 contradicted-repair t b map h = record {
   no-codeword = λ w word agree. true≢false (sym (repairing t b map w fits word agree .agrees) ∙ bad);

@@ -4,12 +4,11 @@ use table::wide;
 ghost use mathlib.Core.Path.{_≡_};
 ghost use mathlib.Core.Bool.{true};
 ghost use Prim.Native.Nat.{_<_};
-ghost use lib.Dec.{ltb};
-ghost use Rattle.lists.specs.Lists.{anyOf};
 ghost use Rattle.table.specs.Accepted.{Accepted};
 ghost use Rattle.blame.specs.Blame.{lostToo};
+ghost use Rattle.erasure.specs.Offered.{Fitting};
 ghost use Rattle.erasure.specs.Restoring.{agreeing};
-ghost use Rattle.repair.specs.Repair.{Answers, Fitting, repairAnswerOf, acceptedWith, refusedWith};
+ghost use Rattle.repair.specs.Repair.{Answers, repairAnswerOf, acceptedWith, refusedWith};
 ghost use Rattle.repair.specs.Parts.{Without};
 
 // What repair reports: the refusal, 0 for none, the counts, and with refusal 8 the lowest check that
@@ -21,20 +20,6 @@ pub struct Repaired {
     pub additions: u32,
     pub check: u32,
     pub byte: u32,
-}
-
-// a map byte over 1
-pub fn over_one(map: &[u8]) -> bool
-    ensures { λ r. ⌜ r ≡ anyOf (ltb 1) (now (map .entry)) ⌝ }
-{
-    let mut p = 0;
-    while p < map.len() {
-        if map[p] > 1 {
-            return true;
-        }
-        p += 1;
-    }
-    false
 }
 
 // a refusal, counts 0, with a check and its byte
@@ -127,7 +112,7 @@ pub fn repair(t: &[u16], block: &mut [u8], map: &mut [u8]) -> Repaired
     if map.len() != n {
         return refused(5, 0, 0);
     }
-    if over_one(map) {
+    if marks::over_one(map) {
         return refused(7, 0, 0);
     }
     repair_packets(t, wide(t[3]), n, s, block, map)

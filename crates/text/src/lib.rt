@@ -1,9 +1,12 @@
 // Lines of text, and the numbers and files that a program's arguments name.
 use numerals::Number;
 use table_file::Words;
-ghost use mathlib.Core.List.{_++_};
+ghost use mathlib.Core.Bool.{true};
+ghost use mathlib.Core.List.{[], _∷_, _++_};
+ghost use mathlib.Core.Path.{_≡_};
 ghost use Prim.Native.Nat.{_+_, _≤_};
 ghost use lib.ListN.{length};
+ghost use Rattle.lists.specs.Lists.{has};
 ghost use Rattle.numerals.specs.Numerals.{decimal};
 ghost use Rattle.text.specs.Lines.{Appended};
 ghost use Rattle.text.specs.Files.{ReadInto};
@@ -69,6 +72,37 @@ pub fn print_restored(restored: u32, lost: u32, end: &[u8])
 // Says on standard error that a call refused, and its number.
 pub fn say_refused(number: u32) {
     print_count(libc::STDERR_FILENO, b"refused ", number as u64, b"\n");
+}
+
+// Says on standard error why a table is refused.
+pub fn say_table_refused(refusal: u32)
+    requires { ⌜ has refusal (1 ∷ 2 ∷ 3 ∷ 4 ∷ []) ≡ true ⌝ }
+{
+    if refusal == 1 {
+        io::write_all(
+            libc::STDERR_FILENO,
+            b"refused 1: a table has at least 5 numbers\n",
+        );
+        return;
+    }
+    if refusal == 2 {
+        io::write_all(
+            libc::STDERR_FILENO,
+            b"refused 2: the first number isn't 2, or places, packet size or checks are beyond their limits\n",
+        );
+        return;
+    }
+    if refusal == 3 {
+        io::write_all(
+            libc::STDERR_FILENO,
+            b"refused 3: a weight over 64, more than 6,144 ones, or weights, ones and length that don't fit\n",
+        );
+        return;
+    }
+    io::write_all(
+        libc::STDERR_FILENO,
+        b"refused 4: a place that is no place of the block, or places of a check that don't ascend\n",
+    );
 }
 
 // Says which check fails, and at which byte of its sum.

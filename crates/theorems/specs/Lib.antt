@@ -11,5 +11,6 @@ pub mod StairsPeeled
 pub mod StairsPlanned
 pub mod Starred
 pub mod StoredPlans
+pub mod TwoAerials
 pub mod Week
 pub mod Worked

@@ -11,12 +11,13 @@ use lib.Seq.{ext-getD}
 use Rattle.blame.specs.Blame.{blamed}
 use Rattle.blame.specs.BlameLaws.{agreed-none}
 use Rattle.lists.specs.Tests.{byBool, byOpt}
+use Rattle.erasure.specs.Offered.{handedOn, Fitting}
 use Rattle.erasure.specs.OutcomeLaws.{none-lost, tally-lost}
 use Rattle.erasure.specs.Restoring.{State, ready, restoring, zeroLost, noneLost, contradiction, tally, contradicting, agreeing}
 use Rattle.erasure.specs.Stopping.{lostIn, no-lost}
 use Rattle.erasure.specs.Values.{zeroLost-length, zeroLost-kept}
 use Rattle.faults.specs.Faults.{Fault, noFault, checkOf, byteOf, failing, everyCheck}
-use Rattle.repair.specs.Repair.{repairOutcome, repairRefusal, handedOn, repairAnswerAt, repairAnswer, Fitting}
+use Rattle.repair.specs.Repair.{repairOutcome, repairRefusal, repairAnswerAt, repairAnswer}
 use Rattle.repair.specs.RepairLaws.{agreed-refusal, blamed-refusal, contradicted-refusal}
 use Rattle.table.specs.Codewords.{zeroSum}
 use Rattle.table.specs.Packets.{packets}

@@ -5,11 +5,13 @@ use mathlib.Core.Bool.{cond}
 use mathlib.Core.List.{List, [], _∷_, _++_, map}
 use Prim.Native.Nat.{ℕ, _+_, _-_, _*_}
 use lib.ListN.{length, replicate}
+use Rattle.aerials.specs.Aerials.{Held}
 use Rattle.blame.specs.Blame.{blamed}
 use Rattle.erasure.specs.Restoring.{agreeing, blockIf, mapIf}
 use Rattle.faults.specs.Faults.{checkOf, byteOf}
 use Rattle.lists.specs.Lists.{from}
 use Rattle.making.specs.Making.{tableWords}
+use Rattle.merge.specs.Merge.{mergeRefusal, mergeAnswer, mergeAfter}
 use Rattle.numerals.specs.Numerals.{digitsWithin}
 use Rattle.numbers.specs.Numbers.{numbersIn}
 use Rattle.alist.specs.Alist.{alistReadRefusalAt, alistTable}
@@ -81,6 +83,14 @@ sumAt i k = replicate 100 0 ++ (single k 0x03 ++ single i 0x05)
 abbrev block2 : List ℕ
 block2 = 0x01 ∷ 0x02 ∷ 0x04 ∷ 0x0e ∷ 0x08 ∷ 0x0b ∷ 0x0d ∷ []
 
+-- ---- C-19: what listeners to P2's block hold, ff where they heard nothing
+abbrev hears1 : Held
+hears1 = record { block = 0x01 ∷ 0x02 ∷ 0xff ∷ 0x0e ∷ 0xff ∷ 0xff ∷ 0x0d ∷ []; map = 0 ∷ 0 ∷ 1 ∷ 0 ∷ 1 ∷ 1 ∷ 0 ∷ [] }
+
+-- with v at place 3
+abbrev hears2 : ℕ → Held
+hears2 v = record { block = 0xff ∷ 0xff ∷ 0x04 ∷ v ∷ 0xff ∷ 0x0b ∷ 0xff ∷ []; map = 1 ∷ 1 ∷ 0 ∷ 0 ∷ 1 ∷ 0 ∷ 1 ∷ [] }
+
 -- ---- what the calls give, as lists of numbers
 -- the planner's refusal, with buffers of the right lengths
 abbrev planning : List ℕ → List ℕ
@@ -114,6 +124,13 @@ oldMended t b map = let r = oldAnswer t b map in
 abbrev pub fullyMended : List ℕ → List ℕ → List ℕ → List (List ℕ)
 fullyMended t b map = let work : List ℕ = replicate workWords 0 in let r = fullAnswer t b map work in
     (r .refusal ∷ r .restored ∷ r .lost ∷ []) ∷ (r .check ∷ r .byte ∷ []) ∷ fullBlockAfter t b map work ∷ fullMapAfter t b map work ∷ []
+
+-- merging what two heard, with 9 in the third block and 255 in the third map: refusal and the four counts, restored, still lost and additions, the check
+-- and its byte, the third block and map
+abbrev pub mergedBy : List ℕ → Held → Held → List (List ℕ)
+mergedBy t one two = let out : Held = record { block = replicate (length (one .block)) 9; map = replicate (length (one .map)) 255 } in let r = mergeAnswer t one two out in
+    (r .refusal ∷ r .agreed ∷ r .single ∷ r .silent ∷ r .clash ∷ []) ∷ (r .restored ∷ r .lost ∷ r .additions ∷ []) ∷ (r .check ∷ r .byte ∷ [])
+    ∷ mergeAfter t one two out .block ∷ mergeAfter t one two out .map ∷ []
 
 -- verification: refusal, 1 for a codeword and 0 for none, the check and its byte
 abbrev pub verified : List ℕ → List ℕ → List (List ℕ)
@@ -185,6 +202,19 @@ starred =
     ∷ record { given = fullyMended tableA (0x01 ∷ 0x02 ∷ 0xff ∷ 0x0e ∷ 0xff ∷ 0xff ∷ 0x0d ∷ []) (0 ∷ 0 ∷ 1 ∷ 0 ∷ 1 ∷ 1 ∷ 0 ∷ []); wanted = (0 ∷ 0 ∷ 3 ∷ []) ∷ (0 ∷ 0 ∷ []) ∷ (0x01 ∷ 0x02 ∷ 0x00 ∷ 0x0e ∷ 0x00 ∷ 0x00 ∷ 0x0d ∷ []) ∷ (0 ∷ 0 ∷ 1 ∷ 0 ∷ 1 ∷ 1 ∷ 0 ∷ []) ∷ [] }
     -- C-14: P8's block: refusal 8, check and byte 0
     ∷ record { given = fullyMended tableA (0x11 ∷ 0x02 ∷ 0x04 ∷ 0x0e ∷ 0x08 ∷ 0x0b ∷ 0x0d ∷ []) (0 ∷ 0 ∷ 0 ∷ 0 ∷ 0 ∷ 0 ∷ 0 ∷ []); wanted = (8 ∷ 0 ∷ 0 ∷ []) ∷ (0 ∷ 0 ∷ []) ∷ (0x11 ∷ 0x02 ∷ 0x04 ∷ 0x0e ∷ 0x08 ∷ 0x0b ∷ 0x0d ∷ []) ∷ (0 ∷ 0 ∷ 0 ∷ 0 ∷ 0 ∷ 0 ∷ 0 ∷ []) ∷ [] }
+    -- C-19: the first heard 0, 1, 3 and 6 of P2's block, the second 2, 3 and 5. Alone neither restores a place; together they agree on 3, have 5 from one
+    -- of them, and restore 4. The third map held 255
+    ∷ record { given = mended tableA (hears1 .block) (hears1 .map); wanted = (0 ∷ 0 ∷ 3 ∷ 0 ∷ []) ∷ (0 ∷ 0 ∷ []) ∷ (0x01 ∷ 0x02 ∷ 0x00 ∷ 0x0e ∷ 0x00 ∷ 0x00 ∷ 0x0d ∷ []) ∷ hears1 .map ∷ [] }
+    ∷ record { given = mended tableA (hears2 0x0e .block) (hears2 0x0e .map); wanted = (0 ∷ 0 ∷ 4 ∷ 0 ∷ []) ∷ (0 ∷ 0 ∷ []) ∷ (0x00 ∷ 0x00 ∷ 0x04 ∷ 0x0e ∷ 0x00 ∷ 0x0b ∷ 0x00 ∷ []) ∷ hears2 0x0e .map ∷ [] }
+    ∷ record { given = mergedBy tableA hears1 (hears2 0x0e); wanted = (0 ∷ 1 ∷ 5 ∷ 1 ∷ 0 ∷ []) ∷ (1 ∷ 0 ∷ 3 ∷ []) ∷ (0 ∷ 0 ∷ []) ∷ block2 ∷ (0 ∷ 0 ∷ 0 ∷ 0 ∷ 2 ∷ 0 ∷ 0 ∷ []) ∷ [] }
+    -- C-19: a clash of one bit at place 3, whichever listener is the first
+    ∷ record { given = mergedBy tableA hears1 (hears2 0x8e); wanted = (0 ∷ 0 ∷ 5 ∷ 1 ∷ 1 ∷ []) ∷ (2 ∷ 0 ∷ 6 ∷ []) ∷ (0 ∷ 0 ∷ []) ∷ block2 ∷ (0 ∷ 0 ∷ 0 ∷ 2 ∷ 2 ∷ 0 ∷ 0 ∷ []) ∷ [] }
+    ∷ record { given = mergedBy tableA (hears2 0x8e) hears1; wanted = (0 ∷ 0 ∷ 5 ∷ 1 ∷ 1 ∷ []) ∷ (2 ∷ 0 ∷ 6 ∷ []) ∷ (0 ∷ 0 ∷ []) ∷ block2 ∷ (0 ∷ 0 ∷ 0 ∷ 2 ∷ 2 ∷ 0 ∷ 0 ∷ []) ∷ [] }
+    -- C-19: "With 8 all counts are 0, the third map keeps the merged 0 and 1, and lost places of the third block are zero": C-12's case, in clash at
+    -- place 0, heard by neither at place 1. Repair of the same blames place 2 (C-17)
+    ∷ record { given = mergedBy table12 (record { block = 0x05 ∷ 0xff ∷ 0x01 ∷ []; map = 0 ∷ 1 ∷ 0 ∷ [] }) (record { block = 0x04 ∷ 0xff ∷ 0xff ∷ []; map = 0 ∷ 1 ∷ 1 ∷ [] }); wanted = (8 ∷ 0 ∷ 0 ∷ 0 ∷ 0 ∷ []) ∷ (0 ∷ 0 ∷ 0 ∷ []) ∷ (2 ∷ 0 ∷ []) ∷ (0x00 ∷ 0x00 ∷ 0x01 ∷ []) ∷ (1 ∷ 1 ∷ 0 ∷ []) ∷ [] }
+    -- C-19: a byte of 2 in a listener's map: refusal 7, third block and map as they were
+    ∷ record { given = mergedBy tableA hears1 (record { block = block2; map = 0 ∷ 0 ∷ 0 ∷ 0 ∷ 0 ∷ 0 ∷ 2 ∷ [] }); wanted = (7 ∷ 0 ∷ 0 ∷ 0 ∷ 0 ∷ []) ∷ (0 ∷ 0 ∷ 0 ∷ []) ∷ (0 ∷ 0 ∷ []) ∷ replicate 7 9 ∷ replicate 7 255 ∷ [] }
     -- C-15: P10's table, 3 0/0 0/0 0 0///// with / as line end, both ways
     ∷ record { given = texted table10; wanted = (0 ∷ 0 ∷ 18 ∷ []) ∷ (51 ∷ 32 ∷ 48 ∷ 10 ∷ 48 ∷ 32 ∷ 48 ∷ 10 ∷ 48 ∷ 32 ∷ 48 ∷ 32 ∷ 48 ∷ 10 ∷ 10 ∷ 10 ∷ 10 ∷ 10 ∷ []) ∷ table10 ∷ [] }
     -- C-16: A's plan with packets of three bytes; byte position 0 is P2's case
@@ -215,5 +245,5 @@ starred =
     ∷ []
 
 pub starred-cases : map (λ c. c .given) starred ≡ map (λ c. c .wanted) starred
-unfolding planningRefusalAt encodeRefusalAt repairRefusal blamed fullRefusal verifyRefusal lowestNonzero planOfBy numbersBy alistWriteRefusalAt alistReadRefusalAt alistText alistTable numbersIn digitsWithin from
+unfolding planningRefusalAt encodeRefusalAt repairRefusal mergeRefusal blamed fullRefusal verifyRefusal lowestNonzero planOfBy numbersBy alistWriteRefusalAt alistReadRefusalAt alistText alistTable numbersIn digitsWithin from
 starred-cases = refl

@@ -16,9 +16,10 @@ use Rattle.table.specs.Table.{mostBytes, places, size, atSize, refusal}
 use Rattle.planner.specs.Planning.{planningRefusal}
 use Rattle.planner.specs.PlanningLaws.{accepted-planning}
 use Rattle.encoder.specs.Encoding.{encodeBlockAfter}
+use Rattle.erasure.specs.Offered.{Fitting, Agree}
 use Rattle.erasure.specs.Restoring.{Largest}
 use Rattle.erasure.specs.Largest.{largest-exists}
-use Rattle.repair.specs.Repair.{repairRefusal, repairAnswer, repairBlockAfter, Fitting, Agree}
+use Rattle.repair.specs.Repair.{repairRefusal, repairAnswer, repairBlockAfter}
 use Rattle.repair.specs.RepairTheorems.{repairing}
 use Rattle.verify.specs.Verify.{valuesOf, verifyAnswer}
 use Rattle.verify.specs.VerifyTheorems.{codeword-passes}
@@ -54,6 +55,18 @@ module _ (t planBuffer work : List ℕ) (s : ℕ) (information blockBuffer scrat
   abbrev pub sent : List ℕ
   sent = encodeBlockAfter (handed t planBuffer work) s information blockBuffer scratchBuffer limit
 
+  -- the table with packets of the size that is sent
+  table-ok : planningRefusal t planBuffer work ≡ 0 → ToTheLastStep t (handed t planBuffer work) s information blockBuffer scratchBuffer limit → refusal (atSize s t) ≡ 0
+  table-ok planned lent = accepted-at s t (accepted-planning t (length planBuffer) (length work) planned .0) (within mostBytes s (lent .some-bytes) (lent .few-bytes))
+
+  -- what arrives is not refused
+  pub arrives-fitting : (block map : List ℕ)
+      → planningRefusal t planBuffer work ≡ 0
+      → ToTheLastStep t (handed t planBuffer work) s information blockBuffer scratchBuffer limit
+      → Arrives (atSize s t) sent block map
+      → Fitting (atSize s t) block map
+  arrives-fitting block map planned lent arrives = record { table = table-ok planned lent; block = arrives .block-long; map-length = arrives .map-long; map-bytes = no-byte-over (arrives .map-bytes) }
+
   -- planning is accepted; the buffers have the right lengths, and the limit means all steps; received packets are as they were sent
   pub the-week : (block map : List ℕ)
       → planningRefusal t planBuffer work ≡ 0
@@ -68,17 +81,14 @@ module _ (t planBuffer work : List ℕ) (s : ℕ) (information blockBuffer scrat
     whole = λ h. let same = all-back h in (same, ap (verifyAnswer (atSize s t)) same ∙ passes);
   }
     where
-      table-ok : refusal (atSize s t) ≡ 0
-      table-ok = accepted-at s t (accepted-planning t (length planBuffer) (length work) planned .0) (within mostBytes s (lent .some-bytes) (lent .few-bytes))
-
       word : IsCodeword (atSize s t) sent
       word = encoding-codeword t planBuffer work planned s information blockBuffer scratchBuffer limit lent
 
       passes : verifyAnswer (atSize s t) sent ≡ valuesOf Codeword
-      passes = codeword-passes (atSize s t) sent table-ok word
+      passes = codeword-passes (atSize s t) sent (table-ok planned lent) word
 
       fits : Fitting (atSize s t) block map
-      fits = record { table = table-ok; block = arrives .block-long; map-length = arrives .map-long; map-bytes = no-byte-over (arrives .map-bytes) }
+      fits = arrives-fitting block map planned lent arrives
 
       mended : (L : ℕ → Bool) → Largest (atSize s t) map L → Restores (atSize s t) block map sent L
       mended = restores (atSize s t) block map sent fits word (arrives .as-sent)

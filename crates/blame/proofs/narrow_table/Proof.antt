@@ -3,7 +3,8 @@ use mathlib.Core.Path.{_≡_, refl, sym, ap, _∙_}
 use Prim.Native.Nat.{ℕ, _-_, _<_, _≤_}
 use native.Mathlib.Omega.{arith}
 use lib.ListN.{length, getD, set, length-set}
-use Rattle.blame.proofs.Copying.{filled-more, filled-table}
+use Rattle.lists.specs.Buffers.{filled-more}
+use Rattle.blame.proofs.Copying.{filled-table}
 use Rattle.blame.proofs.narrow_table.Statement.{statement}
 use Rattle.blame.proofs.narrow_table.Tie as tie
 
@@ -38,7 +39,7 @@ loop-again : tie.Need-loop-again Inv-loop μ-loop
 loop-again c =
     let l = c .before .before .loop in
     let a = c .before .before .before .args in
-    (omega arith, length-set (l .small) (l .i) _ ∙ l .inv .1, filled-more (λ k. getD (a .t .now) k 0) (l .small) (l .i) _ (let e = l .inv .1 in omega arith) (l .inv .2) refl)
+    (omega arith, length-set (l .small) (l .i) _ ∙ l .inv .1, filled-more 0 (λ k. getD (a .t .now) k 0) (l .small) (l .i) _ (let e = l .inv .1 in omega arith) (l .inv .2) refl)
 
 slice-write-small-2 : tie.Need-slice-write-small-2 Inv-loop μ-loop
 slice-write-small-2 c = let e = c .before .loop .inv .1 in let w = c .before .before .pre .1 in omega arith

@@ -4,7 +4,8 @@ use Prim.Native.Nat.{ℕ, _+_, _-_, _*_, _<_, _≤_}
 use native.Mathlib.Omega.{arith}
 use lib.ListN.{length, getD, length-set}
 use Rattle.table.specs.BufferLaws.{place-fits}
-use Rattle.blame.proofs.Copying.{filled-more, filled-column}
+use Rattle.lists.specs.Buffers.{filled-more}
+use Rattle.blame.proofs.Copying.{filled-column}
 use Rattle.blame.proofs.take_column.Statement.{statement}
 use Rattle.blame.proofs.take_column.Tie as tie
 
@@ -45,7 +46,7 @@ loop-again : tie.Need-loop-again Inv-loop μ-loop
 loop-again c =
     let l = c .before .before .loop in
     let a = c .before .before .before .args in
-    (omega arith, length-set (l .column) (l .p) _ ∙ l .inv .1, filled-more (λ k. getD (a .block .now) (k * a .s + a .byte) 0) (l .column) (l .p) _ (let e = l .inv .1 in omega arith) (l .inv .2) refl)
+    (omega arith, length-set (l .column) (l .p) _ ∙ l .inv .1, filled-more 0 (λ k. getD (a .block .now) (k * a .s + a .byte) 0) (l .column) (l .p) _ (let e = l .inv .1 in omega arith) (l .inv .2) refl)
 
 same-length : tie.Need-same-length Inv-loop μ-loop
 same-length c = c .before .loop .inv .1 ∙ sym (c .before .before .pre .1)

@@ -8,8 +8,8 @@ use Rattle.table_to_alist.proofs.write_text.Tie as tie
 write-alist-requires : tie.Need-write-alist-requires
 write-alist-requires c κs = search needs
 
-refuse-requires : tie.Need-refuse-requires
-refuse-requires c κs =
+say-table-refused-requires : tie.Need-say-table-refused-requires
+say-table-refused-requires c κs =
     let m = c .before .before .before .before .write-alist in
     let a = c .before .before .before .before .before .before .before .before .args in
     refusals-said (a .table .now) (a .file .now) (m .result) (m .ensures .0) (c .before .before .before .before .before .before .before .before .pre) (λ e. omega arith)
@@ -64,7 +64,7 @@ write-text-spec =
     tie.close
     (tie.spec
     write-alist-requires
-    refuse-requires
+    say-table-refused-requires
     same-length
     returns
     cast-length

@@ -1,14 +1,14 @@
--- `repair::over_one` meets its contract.
+-- `marks::over_one` meets its contract.
 use lib.Dec.{ltb}
 use borrow.Author.Tests.{lt-ltb, le-ltb}
 use Rattle.lists.specs.Lists.{anyOf}
-use Rattle.repair.proofs.MapLaws.{any-hit, any-miss, any-end}
+use Rattle.marks.proofs.MapLaws.{any-hit, any-miss, any-end}
 use Prim.Native.Nat.{_-_, _≤_}
 use mathlib.Core.Path.{_≡_, refl, sym, _∙_}
 use native.Mathlib.Omega.{arith}
 use lib.ListN.{length, drop}
-use Rattle.repair.proofs.over_one.Statement.{statement}
-use Rattle.repair.proofs.over_one.Tie as tie
+use Rattle.marks.proofs.over_one.Statement.{statement}
+use Rattle.marks.proofs.over_one.Tie as tie
 
 abbrev Inv-loop : tie.InvT-loop
 Inv-loop map p₀ p = (p ≤ length map) × (anyOf (ltb 1) map ≡ anyOf (ltb 1) (drop p map))

@@ -1,0 +1,2 @@
+pub mod Comparing
+pub mod Filling

@@ -1,0 +1,4 @@
+pub mod Aerials
+pub mod HeardLaws
+pub mod MergedLaws
+pub mod Merging
