@@ -9,11 +9,11 @@ use lib.ListN.{length, getD, set, length-map, length-set}
 use lib.Seq.{ext-getD, getD-set-other}
 use Rattle.lists.specs.Buffers.{filled-more, filled-all}
 use Rattle.lists.specs.ListLaws.{map-at}
-use Rattle.lists.specs.Lists.{written, from}
+use Rattle.lists.specs.Lists.{written}
 use Rattle.packets.specs.SetLaws.{written-set, packets-set, bytes-set}
 use Rattle.table.specs.PacketLaws.{packets-length, packets-joined}
 use Rattle.table.specs.Packets.{packets, joined}
-use Rattle.aerials.specs.Aerials.{Held, Heard, packetOf, heardAt, kindOf, kinds, merged, mergedPackets}
+use Rattle.aerials.specs.Aerials.{Held, Heard, packetOf, heardAt, kindOf, kinds, merged}
 
 -- what one place comes to: its kind, and the third block
 pub told : (s at k : ℕ) (block e : List ℕ) (g h : Heard) → g ≡ h → k ≡ kindOf h → e ≡ written block at (packetOf s h) → (k ≡ kindOf g) × (e ≡ written block at (packetOf s g))

@@ -1,28 +1,27 @@
 -- The merged block and map: their lengths, place by place, and the four counts.
-use mathlib.Core.Path.{_≡_, refl, sym, ap, ap₂, _∙_, subst}
-use mathlib.Core.Bool.{true, false, cond}
+use mathlib.Core.Path.{_≡_, sym, ap, ap₂, _∙_, subst}
+use mathlib.Core.Bool.{false, cond}
 use mathlib.Core.List.{List, [], _∷_, map as each, map-map}
 use mathlib.Core.Logic.{_≢_}
 use Prim.Native.Nat.{ℕ, _+_, _*_, _<_, _≤_}
 use native.Mathlib.Omega.{arith}
 use borrow.Author.Tests.{le-ltb}
 use lib.Dec.{eqb, ltb}
-use lib.ListN.{length, getD, replicate, length-map, List·getD-eq-default}
-use Rattle.erasure.specs.Offered.{byteOver, Fitting, Agree}
-use Rattle.erasure.specs.Restoring.{tally, isLost}
+use lib.ListN.{length, getD, length-map, List·getD-eq-default}
+use Rattle.erasure.specs.Offered.{byteOver}
+use Rattle.erasure.specs.Restoring.{tally}
 use Rattle.erasure.specs.OutcomeLaws.{part-joined}
 use Rattle.lists.specs.ListLaws.{all-map, map-all, map-same, any-none, filter-none}
-use Rattle.lists.specs.Lists.{from, filter, All, All.nil, All.cons}
+use Rattle.lists.specs.Lists.{from}
 use Rattle.lists.specs.Numbers.{from-all, from-length, map-from-at}
-use Rattle.lists.specs.Tests.{eqb-true, eqb-false, byBool, side}
+use Rattle.lists.specs.Tests.{eqb-true, byBool}
 use Rattle.table.specs.BufferLaws.{place-fits}
 use Rattle.lists.specs.Buffers.{part-length}
 use Rattle.table.specs.PacketCall.{partAt}
 use Rattle.table.specs.PacketLaws.{joined-length}
 use Rattle.table.specs.Packets.{Packets, joined}
-use Rattle.table.specs.Table.{places, size, refusal}
 use Rattle.aerials.specs.Aerials.{Held, Heard, agreed, single, silent, clash, packetOf, markOf, kindOf, heardAt, kinds, mergedPackets, merged}
-use Rattle.aerials.specs.HeardLaws.{mark-most, mark-kind, lost-zero, packet-sized, exchanged, heard-alike}
+use Rattle.aerials.specs.HeardLaws.{mark-most, mark-kind, packet-sized, exchanged, heard-alike}
 
 -- ---- over numbers in order
 each-length : {A : Type 0} (f : ℕ → A) (n : ℕ) → length (each f (from 0 n)) ≡ n

@@ -8,15 +8,16 @@ use native.Mathlib.Omega.{arith}
 use borrow.Author.Tests.{ne-eqb}
 use lib.Dec.{eqb, ltb}
 use lib.ListN.{length}
-use Rattle.aerials.specs.Aerials.{Held, heardAt, markOf, kindOf, kinds}
+use Rattle.aerials.specs.Aerials.{Held, kinds, merged}
 use Rattle.aerials.specs.MergedLaws.{marks-of-kinds}
-use Rattle.erasure.specs.Offered.{wrongLengths, byteOver, Fitting}
+use Rattle.aerials.specs.Merging.{Lent}
+use Rattle.erasure.specs.Offered.{wrongLengths, byteOver}
 use Rattle.erasure.specs.OfferedLaws.{bytes-all, none-handed}
 use Rattle.erasure.specs.OutcomeLaws.{tally-two}
-use Rattle.erasure.specs.Restoring.{Counts, tally, outcome, contradicting, agreeing, countsIf, blockIf, mapIf}
+use Rattle.erasure.specs.Restoring.{Counts, tally, agreeing, countsIf, blockIf, mapIf}
 use Rattle.faults.specs.FaultLaws.{no-fault}
 use Rattle.lists.specs.Tests.{or-l, or-r, or-neither}
-use Rattle.merge.specs.Merge.{third, mergeOutcome, mergeFault, wrongAny, overEither, mergeRefusal, mergedWith, refusedWith, mergeAnswerOf, Answers, FittingThree}
+use Rattle.merge.specs.Merge.{third, mergeOutcome, mergeFault, wrongAny, overEither, mergeRefusal, MergeAnswer, mergedWith, refusedWith, mergeAnswerOf, Answers, FittingThree}
 use Rattle.merge.specs.MergeLaws.{zeroed-already, table-refused, length-refused, byte-refused, agreed-refusal, contradicted-refusal, fits, after-accepted, after-contradicted, after-refused, third-fits}
 use Rattle.merge.specs.declared.Merged.{Merged}
 use Rattle.restore.specs.Mending.{countsOf, Mends}
@@ -76,19 +77,67 @@ answer-refused t one two out (suc c) h e0 e8 r e = record {
 }
 
 -- the causes in order, each with what the code found before it
-module _ (t : List ℕ) (one two out : Held) (c n s : ℕ) (look : c ≡ refusal t) (r : Merged) where
-  pub answer-table : (c ≡ 0 → ⊥) → mergeAnswerOf r ≡ refusedWith c 0 0 → Answers t one two out r (out .block) (out .map)
-  answer-table ne e = let z = refusal-small t in
-      answer-refused t one two out (refusal t) (table-refused t one two out (λ q. ne (look ∙ q))) (ne-eqb (refusal t) 0 (λ q. ne (look ∙ q))) (ne-eqb (refusal t) 8 (λ q. omega arith)) r (e ∙ ap (λ k. refusedWith k 0 0) look)
+pub answer-table : (t : List ℕ) (one two out : Held) (c : ℕ) → c ≡ refusal t → (c ≡ 0 → ⊥) → (r : Merged) → mergeAnswerOf r ≡ refusedWith c 0 0 → Answers t one two out r (out .block) (out .map)
+answer-table t one two out c look ne r e = let z = refusal-small t in
+    answer-refused t one two out (refusal t) (table-refused t one two out (λ q. ne (look ∙ q))) (ne-eqb (refusal t) 0 (λ q. ne (look ∙ q))) (ne-eqb (refusal t) 8 (λ q. omega arith)) r (e ∙ ap (λ k. refusedWith k 0 0) look)
 
-  module _ (ok : c ≡ 0) where
-    -- 5 by any of the three, 7 by either map
-    pub answer-length : wrongAny t one two out ≡ true → mergeAnswerOf r ≡ refusedWith 5 0 0 → Answers t one two out r (out .block) (out .map)
-    answer-length w e = answer-refused t one two out 5 (length-refused t one two out (sym look ∙ ok) w) refl refl r e
+module _ (t : List ℕ) (one two out : Held) (c n s : ℕ) (look : c ≡ refusal t) (ok : c ≡ 0) (en : n ≡ places t) (es : s ≡ size t) where
+  -- v is what the code finds of the lengths of h
+  abbrev Compared : Held → Bool → Type 0
+  Compared h v = v ≡ (wrongLength (length (h .block)) (n * s) || wrongLength (length (h .map)) n)
 
-    pub answer-byte : wrongAny t one two out ≡ false → overEither one two ≡ true → mergeAnswerOf r ≡ refusedWith 7 0 0 → Answers t one two out r (out .block) (out .map)
-    answer-byte w o e = answer-refused t one two out 7 (byte-refused t one two out (sym look ∙ ok) w o) refl refl r e
+  wrong-is : (h : Held) (v : Bool) → Compared h v → wrongLengths t (h .block) (h .map) ≡ v
+  wrong-is h v e = sym (e ∙ ap₂ (λ k l. wrongLength (length (h .block)) (k * l) || wrongLength (length (h .map)) k) en es)
 
--- what the code compares lengths with
-pub wrong-is : (t : List ℕ) (h : Held) (n s : ℕ) (v : Bool) → n ≡ places t → s ≡ size t → v ≡ (wrongLength (length (h .block)) (n * s) || wrongLength (length (h .map)) n) → v ≡ wrongLengths t (h .block) (h .map)
-wrong-is t h n s v en es e = e ∙ ap₂ (λ k l. wrongLength (length (h .block)) (k * l) || wrongLength (length (h .map)) k) en es
+  -- 5 by any of the three
+  five : wrongAny t one two out ≡ true → (r : Merged) → mergeAnswerOf r ≡ refusedWith 5 0 0 → Answers t one two out r (out .block) (out .map)
+  five w r e = answer-refused t one two out 5 (length-refused t one two out (sym look ∙ ok) w) refl refl r e
+
+  pub answer-first : (v : Bool) → Compared one v → v ≡ true → (r : Merged) → mergeAnswerOf r ≡ refusedWith 5 0 0 → Answers t one two out r (out .block) (out .map)
+  answer-first v e y = five (or-l (wrongLengths t (one .block) (one .map)) _ (wrong-is one v e ∙ y))
+
+  pub answer-second : (v : Bool) → Compared two v → v ≡ true → (r : Merged) → mergeAnswerOf r ≡ refusedWith 5 0 0 → Answers t one two out r (out .block) (out .map)
+  answer-second v e y = five (or-r (wrongLengths t (one .block) (one .map)) _ (or-l (wrongLengths t (two .block) (two .map)) _ (wrong-is two v e ∙ y)))
+
+  pub answer-third : (v : Bool) → Compared out v → v ≡ true → (r : Merged) → mergeAnswerOf r ≡ refusedWith 5 0 0 → Answers t one two out r (out .block) (out .map)
+  answer-third v e y = five (or-r (wrongLengths t (one .block) (one .map)) _ (or-r (wrongLengths t (two .block) (two .map)) _ (wrong-is out v e ∙ y)))
+
+  module _ (u v w : Bool) (e₁ : Compared one u) (e₂ : Compared two v) (e₃ : Compared out w) (y₁ : u ≡ false) (y₂ : v ≡ false) (y₃ : w ≡ false) where
+    none-wrong : wrongAny t one two out ≡ false
+    none-wrong = or-neither (wrongLengths t (one .block) (one .map)) _ (wrong-is one u e₁ ∙ y₁)
+        (or-neither (wrongLengths t (two .block) (two .map)) _ (wrong-is two v e₂ ∙ y₂) (wrong-is out w e₃ ∙ y₃))
+
+    -- 7 by either map
+    seven : overEither one two ≡ true → (r : Merged) → mergeAnswerOf r ≡ refusedWith 7 0 0 → Answers t one two out r (out .block) (out .map)
+    seven o r e = answer-refused t one two out 7 (byte-refused t one two out (sym look ∙ ok) none-wrong o) refl refl r e
+
+    pub answer-byte-first : (o : Bool) → o ≡ byteOver (one .map) → o ≡ true → (r : Merged) → mergeAnswerOf r ≡ refusedWith 7 0 0 → Answers t one two out r (out .block) (out .map)
+    answer-byte-first o e y = seven (or-l (byteOver (one .map)) (byteOver (two .map)) (sym e ∙ y))
+
+    pub answer-byte-second : (o : Bool) → o ≡ byteOver (two .map) → o ≡ true → (r : Merged) → mergeAnswerOf r ≡ refusedWith 7 0 0 → Answers t one two out r (out .block) (out .map)
+    answer-byte-second o e y = seven (or-r (byteOver (one .map)) (byteOver (two .map)) (sym e ∙ y))
+
+    -- and a call that none of them refuses
+    pub fitting : (o p : Bool) → o ≡ byteOver (one .map) → p ≡ byteOver (two .map) → o ≡ false → p ≡ false → FittingThree t one two out
+    fitting o p e f y z = fits t one two out (sym look ∙ ok) none-wrong (or-neither (byteOver (one .map)) (byteOver (two .map)) (sym e ∙ y) (sym f ∙ z))
+
+-- ---- what such a call has
+module _ (t : List ℕ) (m n s : ℕ) (a : Accepted t m n s) where
+  pub lent : (b map : List ℕ) → length b ≡ places t * size t → length map ≡ places t → Lent n s b map
+  lent b map lb lm = record { bytes = lb ∙ sym (ap₂ _*_ (a .places-are) (a .size-is)); marks = lm ∙ sym (a .places-are) }
+
+  -- the parts leave the merged block and map, and the kinds
+  module _ (one two : Held) where
+    pub block-third : (b : List ℕ) → b ≡ merged s one two n .block → b ≡ third t one two .block
+    block-third b e = e ∙ ap₂ (λ k l. merged l one two k .block) (a .places-are) (a .size-is)
+
+    pub kinds-all : (k : List ℕ) → k ≡ kinds s one two n → k ≡ kinds (size t) one two (places t)
+    kinds-all k e = e ∙ ap₂ (λ x l. kinds l one two x) (a .places-are) (a .size-is)
+
+    pub marks-third : (k map : List ℕ) → k ≡ kinds s one two n → map ≡ each (λ x. cond (ltb 1 x) 1 0) k → map ≡ third t one two .map
+    marks-third k map e f = f ∙ ap (each (λ x. cond (ltb 1 x) 1 0)) e ∙ marks-of-kinds n s one two ∙ ap₂ (λ x l. merged l one two x .map) (a .places-are) (a .size-is)
+
+-- the kinds as they were counted
+pub counted : (k l : List ℕ) → k ≡ l → (a b c d x y z : ℕ) → a ≡ tally 0 k → b ≡ tally 1 k → c ≡ tally 2 k → d ≡ tally 3 k
+    → _≡_ {A = MergeAnswer} (record { refusal = 0; agreed = a; single = b; silent = c; clash = d; restored = x; lost = y; additions = z; check = 0; byte = 0 }) (mergedWith l x y z)
+counted k l e a b c d x y z p q r s = rw (p, q, r, s) (ap (λ v. mergedWith v x y z) e)

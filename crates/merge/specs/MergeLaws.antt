@@ -1,5 +1,5 @@
 -- The call of merging by cases: what is offered, when it is refused, and what the third block and map are afterwards.
-use mathlib.Core.Path.{_≡_, refl, sym, ap, ap₂, _∙_}
+use mathlib.Core.Path.{_≡_, refl, sym, ap, _∙_}
 use mathlib.Core.Bool.{Bool, true, false, cond, not}
 use mathlib.Core.List.{List, [], _∷_, _++_}
 use mathlib.Core.Logic.{_≢_}
@@ -18,7 +18,7 @@ use Rattle.erasure.specs.Restoring.{agreeing, blockIf, isLost}
 use Rattle.lists.specs.Lists.{All.nil, All.cons}
 use Rattle.lists.specs.Tests.{eqb-true, byBool, or-false-l, or-false-r, or-neither}
 use Rattle.merge.specs.Merge.{third, mergeOutcome, wrongAny, overEither, mergeCauses, mergeRefusal, mergeAfter, FittingThree}
-use Rattle.table.specs.FirstCause.{firstCause, wrongLength, NoneHolds}
+use Rattle.table.specs.FirstCause.{firstCause, NoneHolds}
 use Rattle.table.specs.FirstCauseLaws.{none-holds, none-refuses, first-decides, rest-decides, quiet, refused-by}
 use Rattle.table.specs.PacketLaws.{joined-length, same-packets}
 use Rattle.table.specs.Packets.{joined}

@@ -1,33 +1,34 @@
 -- What C-19 promises, over the definitions of the call: for every table that is accepted, every two blocks and every two patterns of loss.
-use mathlib.Core.Path.{_≡_, refl, sym, ap, ap₂, _∙_}
-use mathlib.Core.Bool.{Bool, true, false, true≢false}
-use mathlib.Core.List.{List}
-use mathlib.Core.Logic.{_≢_, _⊎_, inl, inr, ⊎-elim}
-use mathlib.Core.Option.{Option, none, some}
-use Prim.Native.Nat.{ℕ, zero, suc, _+_, _<_}
+use mathlib.Core.Path.{_≡_, sym, ap, ap₂, _∙_}
+use mathlib.Core.Bool.{true, false, not, _||_, true≢false}
+use mathlib.Core.List.{List, [], _∷_, _++_}
+use mathlib.Core.Logic.{_≢_, _⊎_, ⊎-elim}
+use mathlib.Core.Option.{none, some}
+use Prim.Native.Nat.{ℕ, _+_, _*_, _<_}
 use native.Mathlib.Omega.{arith}
-use borrow.Author.Tests.{ne-eqb}
 use lib.Dec.{eqb}
 use lib.ListN.{length, getD, replicate}
-use Rattle.aerials.specs.Aerials.{Held, packetOf, markOf, kindOf, heardAt, kinds, merged}
+use Rattle.aerials.specs.Aerials.{Held, packetOf, markOf, heardAt, kinds}
 use Rattle.aerials.specs.HeardLaws.{lost-zero, no-clash, merged-word, lost-both}
 use Rattle.aerials.specs.MergedLaws.{SameHeard, four-counts, lost-counts, no-clashes, mark-at, mark-beyond, merged-part, merged-exchanged, merged-alike}
 use Rattle.erasure.specs.Largest.{stays-lost, largest-within}
 use Rattle.erasure.specs.LostLaws.{not-lost, is-lost}
-use Rattle.erasure.specs.Offered.{Fitting, Agree, handedOn}
-use Rattle.erasure.specs.OfferedLaws.{bytes-all, byte-at, agree-there, sized, low, none-handed}
+use Rattle.erasure.specs.Offered.{wrongLengths, byteOver, Fitting, Agree, handedOn}
+use Rattle.erasure.specs.OfferedLaws.{bytes-all, byte-at, agree-there, sized, low}
 use Rattle.erasure.specs.OldRepair.{RestoredBy, old-repair, word-agrees, word-values}
-use Rattle.erasure.specs.OutcomeLaws.{tally-two}
-use Rattle.erasure.specs.Restoring.{State, tally, noneLost, outcome, contradicting, agreeing, isLost}
+use Rattle.erasure.specs.OutcomeLaws.{tally-restored}
+use Rattle.erasure.specs.Tally.{none-restored}
+use Rattle.erasure.specs.Restoring.{AgreeThere, tally, noneLost, outcome, contradicting, agreeing, isLost}
 use Rattle.faults.specs.FaultLaws.{some-fault, first-fault}
 use Rattle.faults.specs.Faults.{Fault, FirstFault}
-use Rattle.lists.specs.Tests.{eqb-true, byBool, side}
-use Rattle.merge.specs.Merge.{third, mergeOutcome, mergeFault, mergeRefusal, MergeAnswer, refusedWith, mergeAnswerAt, mergeAnswer, mergeAfter, FittingThree}
+use Rattle.lists.specs.Tests.{eqb-true, byBool, or-comm, or-swap, side}
+use Rattle.merge.specs.Merge.{third, mergeOutcome, mergeFault, wrongAny, overEither, mergeRefusal, MergeAnswer, refusedWith, mergeAnswerAt, mergeAnswer, mergeAfter, FittingThree}
 use Rattle.merge.specs.MergeLaws.{calm, agreed-refusal, contradicted-refusal, accepted-fits, contradicted-fits, after-accepted, after-contradicted, third-fits}
 use Rattle.table.specs.Codewords.{IsCodeword}
+use Rattle.table.specs.FirstCause.{firstCause, wrongLength}
 use Rattle.table.specs.PacketCall.{partAt}
 use Rattle.table.specs.Packets.{joined}
-use Rattle.table.specs.Table.{places, size, checks}
+use Rattle.table.specs.Table.{places, size, checks, tableCauses}
 
 -- ---- what is promised
 -- an accepted call, whatever was heard

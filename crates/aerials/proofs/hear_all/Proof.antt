@@ -1,8 +1,8 @@
 -- `aerials::hear_all` meets its contract.
-use mathlib.Core.Path.{_≡_, refl, sym, _∙_}
-use Prim.Native.Nat.{_-_, _*_, _≤_}
+use mathlib.Core.Path.{sym, _∙_}
+use Prim.Native.Nat.{_-_, _≤_}
 use native.Mathlib.Omega.{arith}
-use lib.ListN.{length, getD}
+use lib.ListN.{getD}
 use Rattle.table.specs.BufferLaws.{place-fits}
 use Rattle.table.specs.PacketCall.{partAt}
 use Rattle.aerials.specs.Aerials.{held}
