@@ -3,21 +3,23 @@ use mathlib.Core.Path.{_≡_, refl, sym, ap, _∙_}
 use mathlib.Core.Bool.{Bool, true, false, cond, not}
 use mathlib.Core.List.{List, [], _∷_, _++_}
 use mathlib.Core.Logic.{_≢_}
-use Prim.Native.Nat.{ℕ, _*_}
+use mathlib.Core.Option.{Option}
+use Prim.Native.Nat.{ℕ, zero, suc, _*_}
 use borrow.Author.Tests.{eq-eqb, not-true, not-false}
 use lib.Dec.{eqb}
 use lib.ListN.{length, getD}
-use Rattle.aerials.specs.Aerials.{Held, heardAt}
+use Rattle.aerials.specs.Aerials.{Held, heardAt, kinds}
 use Rattle.aerials.specs.HeardLaws.{lost-zero}
 use Rattle.aerials.specs.MergedLaws.{marks-length, marks-low, mark-at, merged-length, merged-part}
-use Rattle.erasure.specs.Offered.{wrongLengths, byteOver, Fitting}
+use Rattle.erasure.specs.Offered.{wrongLengths, byteOver, handedOn, Fitting}
 use Rattle.erasure.specs.OfferedLaws.{lengths-fit, offer-fits}
 use Rattle.erasure.specs.OldRepair.{cleared-kept, cleared-zero}
 use Rattle.erasure.specs.OutcomeLaws.{start-length, start-sized}
-use Rattle.erasure.specs.Restoring.{agreeing, blockIf, isLost}
+use Rattle.erasure.specs.Restoring.{State, agreeing, blockIf, isLost}
+use Rattle.faults.specs.Faults.{Fault}
 use Rattle.lists.specs.Lists.{All.nil, All.cons}
 use Rattle.lists.specs.Tests.{eqb-true, byBool, or-false-l, or-false-r, or-neither}
-use Rattle.merge.specs.Merge.{third, mergeOutcome, wrongAny, overEither, mergeCauses, mergeRefusal, mergeAfter, FittingThree}
+use Rattle.merge.specs.Merge.{third, mergeOutcome, mergeFault, wrongAny, overEither, mergeCauses, mergeRefusal, mergeAnswerAt, mergeAnswer, mergeAfter, FittingThree}
 use Rattle.table.specs.FirstCause.{firstCause, NoneHolds}
 use Rattle.table.specs.FirstCauseLaws.{none-holds, none-refuses, first-decides, rest-decides, quiet, refused-by}
 use Rattle.table.specs.PacketLaws.{joined-length, same-packets}
@@ -95,6 +97,14 @@ module _ (t : List ℕ) (one two out : Held) where
     where
       go : NoneHolds (tableCauses t ++ ((wrongAny t one two out, 5) ∷ (overEither one two, 7) ∷ [])) → not calm ≡ true → FittingThree t one two out × (calm ≡ false)
       go (cons c1 (cons c2 (cons c3 (cons c4 (cons w (cons o n)))))) a = (fits (quiet (cons c1 (cons c2 (cons c3 (cons c4 nil))))) w o, not-true calm a)
+
+  -- ---- the refusal is told
+  pub refusal-told : mergeAnswer t one two out .refusal ≡ mergeRefusal t one two out
+  refusal-told = at (mergeRefusal t one two out) (kinds (size t) one two (places t)) (mergeOutcome t one two) (handedOn (mergeRefusal t one two out) (mergeFault t one two))
+    where
+      at : (r : ℕ) (k : List ℕ) (m : State) (f : Option Fault) → mergeAnswerAt r k m f .refusal ≡ r
+      at zero k m f = refl
+      at (suc r) k m f = refl
 
   -- ---- the third block and map by the refusal
   pub after-accepted : mergeRefusal t one two out ≡ 0 → mergeAfter t one two out ≡ record { block = joined (mergeOutcome t one two .block); map = mergeOutcome t one two .map }

@@ -7,7 +7,7 @@ use Prim.Native.Nat.{ℕ, zero, suc}
 use lib.ListN.{length}
 use Rattle.table.specs.FirstCause.{RefusedBy}
 use Rattle.table.specs.FirstCauseLaws.{refused-by}
-use Rattle.table.specs.Table.{places, size, tableCauses, refusal}
+use Rattle.table.specs.Table.{tableCauses, refusal}
 use Rattle.table.specs.PacketCall.{packetCauses, packetRefusal}
 use Rattle.making.specs.MakingLaws.{make-told}
 use Rattle.alist.specs.Alist.{alistReadCauses, alistReadRefusalAt, alistTable, alistReadRefusal, alistReadAnswer}
@@ -17,8 +17,9 @@ use Rattle.planner.specs.Planning.{planningCauses, planningRefusalAt, planningA
 use Rattle.encoder.specs.Encoding.{encodeCauses, encodeRefusalAt, encodeAnswer, encodeAnswerAt, encodeRefusal}
 use Rattle.repair.specs.Repair.{repairCauses, repairOutcome, repairRefusal, repairAnswer, repairAnswerAt}
 use Rattle.full.specs.Full.{fullCauses, fullRefusal, fullAnswer, fullAnswerAt, fullMapAfter}
-use Rattle.aerials.specs.Aerials.{Held, kinds}
-use Rattle.merge.specs.Merge.{mergeOutcome, mergeFault, mergeCauses, mergeRefusal, mergeAnswer, mergeAnswerAt}
+use Rattle.aerials.specs.Aerials.{Held}
+use Rattle.merge.specs.Merge.{mergeCauses, mergeRefusal, mergeAnswer}
+use Rattle.merge.specs.MergeLaws.{refusal-told}
 use Rattle.erasure.specs.Offered.{handedOn}
 use Rattle.erasure.specs.Restoring.{State, contradicting}
 use Rattle.faults.specs.Faults.{Fault}
@@ -68,12 +69,7 @@ full-refusals t b map work = subst (λ r. RefusedBy r (fullCauses t b map work))
 -- 1 to 5, 7, 8, as merging reports it
 pub merge-refusals : (t : List ℕ) (one two out : Held) → RefusedBy (mergeAnswer t one two out .refusal) (mergeCauses t one two out)
 unfolding mergeRefusal
-merge-refusals t one two out = subst (λ r. RefusedBy r (mergeCauses t one two out))
-    (sym (told (mergeRefusal t one two out) (kinds (size t) one two (places t)) (mergeOutcome t one two) (handedOn (mergeRefusal t one two out) (mergeFault t one two)))) (refused-by (mergeCauses t one two out) refl)
-  where
-    told : (r : ℕ) (k : List ℕ) (m : State) (f : Option Fault) → mergeAnswerAt r k m f .refusal ≡ r
-    told zero k m f = refl
-    told (suc r) k m f = refl
+merge-refusals t one two out = subst (λ r. RefusedBy r (mergeCauses t one two out)) (sym (refusal-told t one two out)) (refused-by (mergeCauses t one two out) refl)
 
 -- 1 to 6, as the planner answers it
 pub planning-refusals : (t planBuffer work : List ℕ) → RefusedBy (planningAnswer t planBuffer work .refusal) (planningCauses t (length planBuffer) (length work))
