@@ -1,6 +1,6 @@
 //! Benchmarks of the libraries' calls, as ratios within one run. Built with
-//! --cfg uplink (plan, encode), --cfg receiver (repair, full repair, verify),
-//! --cfg tables (make, read, write), or some of them.
+//! --cfg uplink (plan, encode), --cfg receiver (repair, full repair, merge,
+//! verify), --cfg tables (make, read, write), or some of them.
 //!
 //! A round is one call of each kind in turn: the library's, the pure
 //! exclusive-or of as many additions on hot packets, the same additions at
@@ -202,6 +202,82 @@ fn measure_wrong(call: &mut calls::Wrong, long: Duration) -> Contradiction {
     }
 }
 
+// ------------------------------------------------------------------ merging
+
+/// How many of a hundred places each of two listeners has lost, and whether there
+/// are clashes. With 45 % lost by each about 20 % are silent, with clashes about
+/// as many are silent or in clash.
+const MERGES: [(&str, usize, bool); 3] =
+    [("merge 0 %", 0, false), ("merge 45 %", 45, false), ("clashes 30 %", 30, true)];
+
+/// Microseconds, and the ratios to plain Rust, to the library's repair of the
+/// merged block after a copy of it, to comparing and copying a block that both
+/// heard, and to the pure exclusive-or on hot packets.
+#[cfg(receiver)]
+struct Merging {
+    time: f64,
+    to_plain: Ratio,
+    to_repair: Ratio,
+    to_memory: Option<Ratio>,
+    to_hot: Ratio,
+}
+
+#[cfg(receiver)]
+fn measure_merge(call: &mut calls::Merge, s: usize, warm: bool, long: Duration) -> Merging {
+    let additions = call.additions();
+    let kinds: [fn(&mut calls::Merge); 4] = [
+        calls::Merge::library,
+        calls::Merge::plain,
+        calls::Merge::copy_and_repair,
+        calls::Merge::compare_and_copy,
+    ];
+    let timed = |call: &mut calls::Merge, run: fn(&mut calls::Merge)| {
+        if !warm {
+            call.packets().into_iter().for_each(flush);
+        }
+        let start = Instant::now();
+        run(call);
+        micros(start)
+    };
+    let rounds = rounds(long, || {
+        let [library, plain, repair, memory] = kinds.map(|run| timed(call, run));
+        [library, plain, repair, memory, hot_additions(additions, s)]
+    });
+    let to = |kind: usize| Ratio::of(rounds.iter().map(|times| times[0] / times[kind]));
+    Merging {
+        time: Ratio::of(rounds.iter().map(|times| times[0])).median,
+        to_plain: to(1),
+        to_repair: to(2),
+        to_memory: call.all_agreed().then(|| to(3)),
+        to_hot: to(4),
+    }
+}
+
+/// Merging on one table at one size; clashes, marks and cold blocks where it is
+/// marked.
+#[cfg(receiver)]
+fn merges(
+    report: &mut Report,
+    kind: &str,
+    name: &str,
+    s: usize,
+    marked: bool,
+    lent: impl Fn() -> Lent,
+) {
+    for (call, share, clashes) in MERGES.into_iter().filter(|(.., clashes)| marked || !clashes) {
+        let mut with = calls::Merge::new(lent(), share, clashes);
+        let warm = measure_merge(&mut with, s, true, millis(if marked { 800 } else { 300 }));
+        report.merge_row(name, call, "warm", s, &warm);
+        if marked {
+            for (to, mark, ratio) in marks_of_merge(call, s, &warm) {
+                report.marks.push(mark_line(call, kind, s, to, mark, ratio));
+            }
+            let cold = measure_merge(&mut with, s, false, millis(300));
+            report.merge_row(name, call, "cold", s, &cold);
+        }
+    }
+}
+
 // -------------------------------------------------------------------- marks
 
 /// The most that the ratios may be where n is 1,024 and the block is warm: to
@@ -231,6 +307,19 @@ fn mark_of_wrong(s: usize) -> f64 {
     if s == 64 { 1024.0 } else { 300.0 }
 }
 
+/// What the ratios of merging are to, the most that they may be, and the ratios.
+/// To comparing and copying the mark is another at s 64 and at s 1,024.
+#[cfg(receiver)]
+fn marks_of_merge(call: &str, s: usize, of: &Merging) -> Vec<(&'static str, f64, Ratio)> {
+    let plain = ("plain Rust", 1.3, of.to_plain);
+    let memory = if s == 64 { 10.0 } else { 3.0 };
+    match (call, of.to_memory) {
+        ("merge 0 %", Some(ratio)) => vec![plain, ("compare, copy", memory, ratio)],
+        ("merge 45 %", _) => vec![plain, ("copy, repair", 1.5, of.to_repair)],
+        _ => Vec::new(),
+    }
+}
+
 fn mark_line(call: &str, kind: &str, s: usize, to: &str, mark: f64, ratio: Ratio) -> String {
     let verdict = ratio.verdict(mark);
     format!("{call:<12} {kind:<10} {s:>5}  {to:<14} {mark:>7.2}  {ratio:<25} {verdict}")
@@ -254,9 +343,11 @@ fn mark_lines(call: &str, kind: &str, s: usize, figures: &Figures) -> Vec<String
 // ------------------------------------------------------------------ the run
 
 /// What is printed at the end.
+#[derive(Default)]
 struct Report {
     figures: Vec<String>,
     contradictions: Vec<String>,
+    merges: Vec<String>,
     marks: Vec<String>,
 }
 
@@ -278,6 +369,14 @@ impl Report {
         let ratios = format!("{to_sent:<27} {to_plain:<27} {plain_to_sent}");
         self.contradictions.push(format!("{line}  {ratios}"));
     }
+    #[cfg(receiver)]
+    fn merge_row(&mut self, table: &str, call: &str, block: &str, s: usize, of: &Merging) {
+        let Merging { time, to_plain, to_repair, to_memory, to_hot } = of;
+        let to_memory = to_memory.map_or("-".to_string(), |ratio| ratio.to_string());
+        let line = format!("{table:<18} {call:<12} {block:<5} {s:>5} {time:>8.1}");
+        let ratios = format!("{to_plain:<22} {to_repair:<22} {to_memory:<27} {to_hot}");
+        self.merges.push(format!("{line}  {ratios}"));
+    }
     fn print(&self) {
         println!(
             "\n{:<18} {:<12} {:<5} {:>5} {:>8}  {:<22} {:<22} {}",
@@ -297,6 +396,19 @@ impl Report {
         );
         self.contradictions.iter().for_each(|line| println!("{line}"));
         println!(
+            "\n{:<18} {:<12} {:<5} {:>5} {:>8}  {:<22} {:<22} {:<27} {}",
+            "table",
+            "call",
+            "block",
+            "s",
+            "us",
+            "to plain Rust",
+            "to copy, repair",
+            "to compare, copy",
+            "to pure xor"
+        );
+        self.merges.iter().for_each(|line| println!("{line}"));
+        println!(
             "\n{:<12} {:<10} {:>5}  {:<14} {:>7}  {:<25} {}",
             "call", "table", "s", "ratio to", "mark", "this run", "verdict"
         );
@@ -305,8 +417,7 @@ impl Report {
 }
 
 fn main() {
-    let mut report =
-        Report { figures: Vec::new(), contradictions: Vec::new(), marks: Vec::new() };
+    let mut report = Report::default();
     let start = Instant::now();
     for (kind, n, m) in TABLES {
         let name = format!("{kind} {n} {m}");
@@ -341,6 +452,11 @@ fn main() {
                         report.marks.push(line);
                     }
                 }
+            }
+            #[cfg(receiver)]
+            if kind != "few" {
+                let lent = || Lent::new(&with_size(&table, s), &planned);
+                merges(&mut report, kind, &name, s, marked, lent);
             }
         }
     }

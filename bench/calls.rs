@@ -10,7 +10,7 @@
 pub use uplink::{Encode, Plan};
 
 #[cfg(receiver)]
-pub use receiver::{FullRepair, Repair, Verify, Wrong};
+pub use receiver::{FullRepair, Merge, Repair, Verify, Wrong};
 
 #[cfg(tables)]
 pub use tables::{AlistRead, AlistWrite, Staircase};
@@ -206,6 +206,22 @@ mod receiver {
             work: *mut u64,
             work_len: usize,
         ) -> model::FullyRepaired;
+        fn bs_merge(
+            table: *const u16,
+            table_len: usize,
+            block1: *const u8,
+            block1_len: usize,
+            map1: *const u8,
+            map1_len: usize,
+            block2: *const u8,
+            block2_len: usize,
+            map2: *const u8,
+            map2_len: usize,
+            block3: *mut u8,
+            block3_len: usize,
+            map3: *mut u8,
+            map3_len: usize,
+        ) -> plain::Merged;
         fn bs_verify(
             table: *const u16,
             table_len: usize,
@@ -320,9 +336,14 @@ mod receiver {
 
     /// The map of a block of which so many of a hundred places are lost.
     fn received_map(lent: &Lent, share: usize) -> Vec<u8> {
+        map_in_rain(lent, share, 2)
+    }
+
+    /// As many places lost, but others in another rain.
+    fn map_in_rain(lent: &Lent, share: usize, rain: u64) -> Vec<u8> {
         let n = lent.table[1] as usize;
         let mut map = vec![0; n];
-        for p in Rng::new(share as u64, 2).some_below(n, n * share / 100) {
+        for p in Rng::new(share as u64, rain).some_below(n, n * share / 100) {
             map[p] = 1;
         }
         map
@@ -496,6 +517,138 @@ mod receiver {
             let Lent { table, slots, .. } = &mut self.lent;
             let answer = plain::repair(black_box(table), &mut slots[..bytes], &mut self.map);
             assert_eq!(answer, if wrong { self.answer } else { self.accepted });
+        }
+    }
+
+    /// What two listeners heard of one codeword, merged and repaired.
+    pub struct Merge {
+        /// The third block is here.
+        lent: Lent,
+        map: Vec<u8>,
+        /// Block and map of each listener.
+        heard: [(Vec<u8>, Vec<u8>); 2],
+        /// The codeword, and the third map before the repair.
+        sent: Vec<u8>,
+        merged: Vec<u8>,
+        answer: plain::Merged,
+        additions: usize,
+    }
+
+    impl Merge {
+        /// Each listener has lost so many of a hundred places, in a rain of its
+        /// own, and other bytes stand there. With clashes every fourth packet
+        /// that both heard is off at the second one's last byte. The library
+        /// leaves what plain Rust leaves, and repair of the merged block too.
+        pub fn new(mut lent: Lent, share: usize, clashes: bool) -> Self {
+            let (s, bytes) = (lent.s, lent.bytes());
+            let sent = lent.slots[..bytes].to_vec();
+            let mut heard = [2, 3].map(|rain| {
+                let map = map_in_rain(&lent, share, rain);
+                (with_other_bytes(&sent, s, &map), map)
+            });
+            if clashes {
+                wrong_each_fourth(&mut heard, s);
+            }
+            let mut merged = vec![7; lent.table[1] as usize];
+            let block = &mut lent.slots[..bytes];
+            plain::put_together(s, slices(&heard), block, &mut merged);
+            let mut map = merged.clone();
+            let answer = plain::merge(&lent.table, slices(&heard), block, &mut map);
+            let (after, block) = (map.clone(), block.to_vec());
+            assert_eq!((answer.refusal, answer.clash > 0), (0, clashes));
+
+            let (_, last) = course(&lent.checks, merged.clone());
+            let additions = answer.additions as usize + additions_of(&last);
+            let mut call = Merge { lent, map, heard, sent, merged, answer, additions };
+            for by in [Self::library, Self::copy_and_repair] {
+                call.map.fill(7);
+                call.lent.slots.fill(7);
+                by(&mut call);
+                assert!(call.map == after && call.lent.slots[..bytes] == block, "another block");
+            }
+            call
+        }
+        /// Those of the repair.
+        pub fn additions(&self) -> usize {
+            self.additions
+        }
+        /// Whether both heard everything, and the same.
+        pub fn all_agreed(&self) -> bool {
+            self.answer.agreed as usize == self.map.len()
+        }
+        pub fn library(&mut self) {
+            let bytes = self.lent.bytes();
+            let Lent { table, slots, .. } = &mut self.lent;
+            let [(block1, map1), (block2, map2)] = &self.heard;
+            let (block3, map3) = (&mut slots[..bytes], &mut self.map);
+            let answer = unsafe {
+                bs_merge(
+                    table.as_ptr(),
+                    table.len(),
+                    block1.as_ptr(),
+                    block1.len(),
+                    map1.as_ptr(),
+                    map1.len(),
+                    block2.as_ptr(),
+                    block2.len(),
+                    map2.as_ptr(),
+                    map2.len(),
+                    block3.as_mut_ptr(),
+                    block3.len(),
+                    map3.as_mut_ptr(),
+                    map3.len(),
+                )
+            };
+            assert_eq!(answer, self.answer);
+        }
+        pub fn plain(&mut self) {
+            let bytes = self.lent.bytes();
+            let Lent { table, slots, .. } = &mut self.lent;
+            let heard = slices(black_box(&self.heard));
+            let answer = plain::merge(black_box(table), heard, &mut slots[..bytes], &mut self.map);
+            assert_eq!(answer, self.answer);
+        }
+        /// The library's repair of the merged block and map, both copied first.
+        pub fn copy_and_repair(&mut self) {
+            self.lent.slots[..self.sent.len()].copy_from_slice(&self.sent);
+            self.map.copy_from_slice(&self.merged);
+            let answer = repair(&mut self.lent, &mut self.map);
+            let model::Repaired { refusal, restored, lost, .. } = answer;
+            assert_eq!((refusal, restored, lost), (0, self.answer.restored, self.answer.lost));
+        }
+        /// The least that merging does where both heard everything: the blocks
+        /// compared, and one of them copied.
+        pub fn compare_and_copy(&mut self) {
+            let [(one, _), (other, _)] = black_box(&self.heard);
+            black_box(one == other);
+            self.lent.slots[..one.len()].copy_from_slice(one);
+            black_box(&mut self.lent.slots);
+        }
+        pub fn packets(&self) -> [&[u8]; 4] {
+            let [(one, _), (other, _)] = &self.heard;
+            [one, other, &self.sent, &self.lent.slots]
+        }
+    }
+
+    fn slices(heard: &[(Vec<u8>, Vec<u8>); 2]) -> [plain::Heard<'_>; 2] {
+        heard.each_ref().map(|(block, map)| (&block[..], &map[..]))
+    }
+
+    /// The block with other bytes at lost places.
+    fn with_other_bytes(block: &[u8], s: usize, map: &[u8]) -> Vec<u8> {
+        let mut block = block.to_vec();
+        for (packet, _) in block.chunks_exact_mut(s).zip(map).filter(|(_, lost)| **lost == 1) {
+            packet.iter_mut().for_each(|byte| *byte ^= 0x5a);
+        }
+        block
+    }
+
+    /// Of the packets that both heard, every fourth is off at the second one's
+    /// last byte.
+    fn wrong_each_fourth([(_, map1), (block2, map2)]: &mut [(Vec<u8>, Vec<u8>); 2], s: usize) {
+        let both = (0..map1.len()).filter(|p| (map1[*p], map2[*p]) == (0, 0));
+        for p in both.step_by(4) {
+            block2[(p + 1) * s - 1] ^= 1;
         }
     }
 

@@ -1,5 +1,5 @@
-//! Repair, full repair, verification, encoding, the staircase maker and alist
-//! texts in plain Rust, for comparison.
+//! Repair, merging, full repair, verification, encoding, the staircase maker and
+//! alist texts in plain Rust, for comparison.
 
 use crate::model::{Encoded, FullyRepaired, Made, Repaired, Verified};
 use crate::model::{MAX_CHECKS, MAX_GAP, MAX_ONES, MAX_PLACES, MAX_SIZE, MAX_STEPS, MAX_WEIGHT};
@@ -274,6 +274,20 @@ fn bad_place(t: &Checks, block: &[u8], map: &[u8], peeled: &Peeled) -> Option<us
     bad
 }
 
+/// The answer where nothing contradicts.
+fn accepted(peeled: &Peeled, map: &mut [u8]) -> Repaired {
+    map.copy_from_slice(&peeled.state);
+    let lost = map.iter().filter(|b| **b == 1).count() as u32;
+    let (restored, additions) = (peeled.restored(), peeled.additions);
+    Repaired { refusal: 0, restored, lost, additions, check: 0, byte: 0 }
+}
+
+/// The answer where the packets contradict, at this check and byte.
+fn contradicted(t: &Checks, block: &mut [u8], map: &[u8], at: (usize, usize)) -> Repaired {
+    zero_lost(block, t.s, map);
+    Repaired { check: at.0 as u32, byte: at.1 as u32, ..Repaired::refused(8) }
+}
+
 pub fn repair(table: &[u16], block: &mut [u8], map: &mut [u8]) -> Repaired {
     let t = match look_over(table) {
         Ok(t) => t,
@@ -286,19 +300,85 @@ pub fn repair(table: &[u16], block: &mut [u8], map: &mut [u8]) -> Repaired {
         return Repaired::refused(7);
     }
     let mut peeled = peel(&t, block, map);
-    if let Some((check, byte)) = failing(&t, block, &peeled) {
+    if let Some(at) = failing(&t, block, &peeled) {
         let Some(bad) = bad_place(&t, block, map, &peeled) else {
-            zero_lost(block, t.s, map);
-            return Repaired { check: check as u32, byte: byte as u32, ..Repaired::refused(8) };
+            return contradicted(&t, block, map, at);
         };
         map[bad] = 1;
         peeled = peel(&t, block, map);
         peeled.state[bad] = 3;
     }
-    map.copy_from_slice(&peeled.state);
-    let lost = map.iter().filter(|b| **b == 1).count() as u32;
-    let (restored, additions) = (peeled.restored(), peeled.additions);
-    Repaired { refusal: 0, restored, lost, additions, check: 0, byte: 0 }
+    accepted(&peeled, map)
+}
+
+// ----------------------------------------------------------------- merging
+
+#[repr(C)]
+#[derive(Clone, Copy, Debug, Default, PartialEq, Eq)]
+pub struct Merged {
+    pub refusal: u32,
+    pub agreed: u32,
+    pub single: u32,
+    pub silent: u32,
+    pub clash: u32,
+    pub restored: u32,
+    pub lost: u32,
+    pub additions: u32,
+    pub check: u32,
+    pub byte: u32,
+}
+
+impl Merged {
+    pub fn refused(refusal: u32) -> Self {
+        Merged { refusal, ..Merged::default() }
+    }
+}
+
+/// A listener's block and map.
+pub type Heard<'a> = (&'a [u8], &'a [u8]);
+
+/// Agreed and single packets go into the block; the map says that all others are
+/// lost. How many places are agreed, single, silent and in clash.
+pub fn put_together(s: usize, heard: [Heard; 2], block: &mut [u8], map: &mut [u8]) -> [u32; 4] {
+    let mut counts = [0; 4];
+    for (p, (to, lost)) in block.chunks_exact_mut(s).zip(map).enumerate() {
+        let packets = heard.map(|(block, map)| (map[p] == 0).then(|| &block[p * s..][..s]));
+        let (kind, packet) = match packets {
+            [Some(a), Some(b)] if a == b => (0, Some(a)),
+            [Some(_), Some(_)] => (3, None),
+            [None, None] => (2, None),
+            [a, b] => (1, a.or(b)),
+        };
+        counts[kind] += 1;
+        *lost = packet.is_none() as u8;
+        if let Some(packet) = packet {
+            to.copy_from_slice(packet);
+        }
+    }
+    counts
+}
+
+/// Merging, then repair in which no place is blamed.
+pub fn merge(table: &[u16], heard: [Heard; 2], block: &mut [u8], map: &mut [u8]) -> Merged {
+    let t = match look_over(table) {
+        Ok(t) => t,
+        Err(cause) => return Merged::refused(cause),
+    };
+    let fit = |block: &[u8], map: &[u8]| block.len() == t.n * t.s && map.len() == t.n;
+    if !fit(block, map) || !heard.iter().all(|(block, map)| fit(block, map)) {
+        return Merged::refused(5);
+    }
+    if heard.iter().any(|(_, map)| map.iter().any(|b| *b > 1)) {
+        return Merged::refused(7);
+    }
+    let [agreed, single, silent, clash] = put_together(t.s, heard, block, map);
+    let peeled = peel(&t, block, map);
+    if let Some(at) = failing(&t, block, &peeled) {
+        let Repaired { refusal, check, byte, .. } = contradicted(&t, block, map, at);
+        return Merged { check, byte, ..Merged::refused(refusal) };
+    }
+    let Repaired { refusal, restored, lost, additions, check, byte } = accepted(&peeled, map);
+    Merged { refusal, agreed, single, silent, clash, restored, lost, additions, check, byte }
 }
 
 // ------------------------------------------------------------- full repair
