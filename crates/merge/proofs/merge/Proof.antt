@@ -141,8 +141,7 @@ merge-packets-requires c κs =
     let a = c .before .before .before .before .before .before .before .before .before .before .before .before .before .before .before .before .before .before .before .before .before .before .before .before .before .before .before .before .before .args in
     let one = held (a .block1 .now) (a .map1 .now) in
     let two = held (a .block2 .now) (a .map2 .now) in
-    let out = held (a .block3 .now) (a .map3 .now) in
-    (
+    let out = held (a .block3 .now) (a .map3 .now) in (
       looked-over (a .t .now) _ _ _ _ (c .before .before .before .before .before .before .before .before .before .before .before .before .before .before .before .before .before .before .before .before .before .look-over .ensures) (c .before .before .before .before .before .before .before .before .before .before .before .before .before .before .before .before .before .before .before .before .if1 .left) (c .before .before .wide3 .ensures) (c .before .before .before .before .before .before .before .before .before .before .before .before .before .before .before .before .before .before .wide .ensures) (c .before .before .before .before .before .before .before .before .before .before .before .before .before .before .before .before .wide2 .ensures),
       fitting (a .t .now) one two out _ _ _ (c .before .before .before .before .before .before .before .before .before .before .before .before .before .before .before .before .before .before .before .before .before .look-over .ensures) (c .before .before .before .before .before .before .before .before .before .before .before .before .before .before .before .before .before .before .before .before .if1 .left) (c .before .before .before .before .before .before .before .before .before .before .before .before .before .before .before .before .before .before .wide .ensures) (c .before .before .before .before .before .before .before .before .before .before .before .before .before .before .before .before .wide2 .ensures) _ _ _ (c .before .before .before .before .before .before .before .before .before .before .before .before .before .before .before .wrong-lengths .ensures) (c .before .before .before .before .before .before .before .before .before .before .before .before .before .wrong-lengths2 .ensures) (c .before .before .before .before .before .before .before .before .before .wrong-lengths3 .ensures) (c .before .before .before .before .before .before .before .before .before .before .before .before .before .before .if2 .left) (c .before .before .before .before .before .before .before .before .before .before .before .before .if3 .left) (c .before .before .before .before .before .before .before .before .if4 .left)
           _ _ (c .before .before .before .before .before .before .before .over-one .ensures) (c .before .before .before .before .before .over-one2 .ensures) (c .before .before .before .before .before .before .if5 .left) (c .before .before .before .before .if6 .left),
