@@ -1,8 +1,9 @@
 //! The receiver's library against the model: repair, full repair, verification,
-//! packet.
+//! packet. Cases of merging are in merge.rs.
 
 mod gen;
 mod harness;
+mod merge;
 mod model;
 
 use gen::Rng;
@@ -802,7 +803,7 @@ fn brute_full_case(rng: &mut Rng) -> Result<(), String> {
 }
 
 fn random_case(rng: &mut Rng, number: u64) -> Result<(), String> {
-    match number % 25 {
+    match number % 30 {
         0..=6 => repair_case(rng),
         7..=9 => verify_case(rng),
         10..=12 => damaged_case(rng),
@@ -815,7 +816,8 @@ fn random_case(rng: &mut Rng, number: u64) -> Result<(), String> {
         20 => stalled_case(rng),
         21 => brute_full_case(rng),
         22 | 23 => blame_case(rng),
-        _ => brute_blame_case(rng),
+        24 => brute_blame_case(rng),
+        _ => merge::random_case(rng),
     }
 }
 
@@ -1860,7 +1862,7 @@ fn full_refusal_cases(run: &mut Run) {
 }
 
 fn main() {
-    let mut run = Run::from_arguments(8300);
+    let mut run = Run::from_arguments(9960);
     fixed_cases(&mut run);
     depth_cases(&mut run);
     told_cases(&mut run);
@@ -1875,6 +1877,7 @@ fn main() {
     limit_cases(&mut run);
     pattern_cases(&mut run);
     full_refusal_cases(&mut run);
+    merge::fixed_cases(&mut run);
     run.random(random_case);
     run.end()
 }

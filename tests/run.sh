@@ -133,6 +133,7 @@ for part in $parts; do
             # shellcheck disable=SC2086
             cases "compare_$part" "$build/compare_$part" "$seed" ${COUNT:-}
             few=96
+            [ "$part" = receiver ] && few=120
             [ "$part" = tables ] && few=960
             memory "compare_$part" "$few"
             example "$part"
