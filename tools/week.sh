@@ -166,13 +166,13 @@ said 'full_repair_file' 'restored 20 lost 0' "$("$bin/full_repair_file" table fu
 cmp full block.aa
 echo 'stalled: packets 10 to 29 lost, 3 restored by repair, 20 by full repair'
 
-# Two receivers on one ship: the first lost packets 10 to 29, the second 20 to 39, and each is stalled alone. Merged, 34 agree, one of them heard 20, and
-# the ten that neither heard are restored. Whatever BLOCK and MAP held is gone.
+# Two receivers on one ship: the first lost packets 10 to 29, the second 22 to 41, and each is stalled alone. Merged, 32 agree, 24 were heard by one, and
+# the eight that none heard are restored. Whatever BLOCK and MAP held is gone.
 cp block.aa one
 lose one 10 20
 cp map one_map
 cp block.aa two
-lose two 20 20
+lose two 22 20
 cp map two_map
 for alone in one two; do
     cp $alone block
@@ -180,15 +180,15 @@ for alone in one two; do
     said "repair_file, $alone" 'restored * lost 1* additions *' "$("$bin/repair_file" table block map)"
 done
 head -c 64 /dev/zero | tr '\000' '\377' >map
-said 'merge_file' 'agreed 34 single 20 silent 10 clash 0
-restored 10 lost 0 additions 59' "$("$bin/merge_file" table one one_map two two_map block map)"
+said 'merge_file' 'agreed 32 single 24 silent 8 clash 0
+restored 8 lost 0 additions 47' "$("$bin/merge_file" table one one_map two two_map block map)"
 cmp block block.aa
-echo 'two receivers, packets 10 to 29 and 20 to 39 lost: stalled alone; merged 34 agreed, 20 single, 10 silent and restored'
+echo 'two receivers, packets 10 to 29 and 22 to 41 lost: stalled alone; merged, 32 agreed, 24 single, 8 silent and restored'
 
 # A wrong byte in packet 5 at one of them is a clash: neither is believed, and the packet is restored.
 spoil two 5 37
-said 'merge_file, clash' 'agreed 33 single 20 silent 10 clash 1
-restored 11 lost 0 additions *' "$("$bin/merge_file" table two two_map one one_map block map)"
+said 'merge_file, clash' 'agreed 31 single 24 silent 8 clash 1
+restored 9 lost 0 additions *' "$("$bin/merge_file" table two two_map one one_map block map)"
 cmp block block.aa
 echo 'a wrong byte at one of them, in packet 5: a clash, and restored'
 
@@ -196,11 +196,11 @@ echo 'a wrong byte at one of them, in packet 5: a clash, and restored'
 spoil one 5 37
 said 'merge_file, contradiction' '' "$("$bin/merge_file" table one one_map two two_map block map 2>errors)"
 said 'merge_file, contradiction' 'refused 8: check * fails at byte 37' "$(cat errors)"
-awk 'BEGIN { for (p = 0; p < 64; p++) print (p >= 20 && p < 30) }' | bytes | cmp - map
-said 'lost packets of the merged block' 640 "$(dd if=block bs=$size skip=20 count=10 2>/dev/null | tr -d '\001-\377' | wc -c)"
+awk 'BEGIN { for (p = 0; p < 64; p++) print (p >= 22 && p < 30) }' | bytes | cmp - map
+said 'lost packets of the merged block' 512 "$(dd if=block bs=$size skip=22 count=8 2>/dev/null | tr -d '\001-\377' | wc -c)"
 refuses "refused 5: a block or map that doesn't have the table's places and packet size" merge_file table one one_map sent two_map none none_map
 refuses "refused 7: a receiver's map has a byte over 1" merge_file table one one_map two full_map none none_map
-refuses 'refused 3: *' merge_file one one one_map two two_map none none_map
+refuses 'refused 2: the first number *' merge_file one one one_map two two_map none none_map
 [ ! -e none_map ] || { echo 'merge_file: wrote a map'; exit 1; }
 echo "the same wrong byte at both: refused 8, block and map as merged"
 
