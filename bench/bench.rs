@@ -311,11 +311,11 @@ fn mark_of_wrong(s: usize) -> f64 {
 /// To comparing and copying the mark is another at s 64 and at s 1,024.
 #[cfg(receiver)]
 fn marks_of_merge(call: &str, s: usize, of: &Merging) -> Vec<(&'static str, f64, Ratio)> {
-    let plain = ("plain Rust", 1.3, of.to_plain);
+    let plain = ("plain Rust", 0.9, of.to_plain);
     let memory = if s == 64 { 10.0 } else { 3.0 };
     match (call, of.to_memory) {
         ("merge 0 %", Some(ratio)) => vec![plain, ("compare, copy", memory, ratio)],
-        ("merge 45 %", _) => vec![plain, ("copy, repair", 1.5, of.to_repair)],
+        ("merge 45 %", _) => vec![plain, ("copy, repair", 1.4, of.to_repair)],
         _ => Vec::new(),
     }
 }

@@ -150,8 +150,8 @@ typedef struct {
  * and block2, map2 are the listeners', as for bs_repair: blocks of n * s bytes,
  * maps of n bytes, 0 received and 1 lost. They are only read. block3 and map3
  * are written, and have the same lengths; what they hold beforehand never
- * counts, so that no byte of map3 gives 7. Neither do bytes at places that a
- * listener's map says are lost. Which listener comes first doesn't matter.
+ * counts, so that no byte of map3 gives 7. Bytes at places that a listener's
+ * map says are lost don't count either, nor which listener comes first.
  *
  * A place that both heard with the same packet, every byte of it, is agreed; one
  * that a single listener heard is single; their packets are taken, with mark 0.
@@ -163,7 +163,7 @@ typedef struct {
  * Accepted: the four counts add up to n, and restored and lost to silent and
  * clash. Map bytes of restored places are 2, of places still lost 1, of all
  * others 0. Packets of restored places are in block3, and places still lost
- * hold zero bytes.
+ * hold zero bytes. To go on with bs_full_repair set the 2s to 0.
  *
  * If both listeners heard what was sent, wherever they heard anything, nothing
  * clashes and nothing is refused with 8; every packet of block3 that isn't

@@ -4,6 +4,6 @@ use mathlib.Core.List.{List}
 use Prim.Native.Nat.{ℕ, _*_}
 use lib.ListN.{length}
 
-pub record Lent (n s : ℕ) (block map : List ℕ) : Type 0 where
+pub record Sized (n s : ℕ) (block map : List ℕ) : Type 0 where
   pub bytes : length block ≡ n * s
   pub marks : length map ≡ n

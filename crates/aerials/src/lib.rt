@@ -7,7 +7,7 @@ ghost use lib.Dec.{ltb};
 ghost use lib.ListN.{length, take, drop};
 ghost use Rattle.lists.specs.Lists.{sameList, written};
 ghost use Rattle.aerials.specs.Aerials.{held, heard, packetOf, kindOf, kinds, merged};
-ghost use Rattle.aerials.specs.Merging.{Lent};
+ghost use Rattle.aerials.specs.Merging.{Sized};
 
 // The kinds of a place; those from SILENT on are lost.
 pub const AGREED: u8 = 0;
@@ -85,9 +85,9 @@ pub fn hear_all(
     block3: &mut [u8],
     map3: &mut [u8],
 )
-    requires { ⌜ Lent n s (now block1) (now map1)
-        × Lent n s (now block2) (now map2)
-        × Lent n s (now block3) (now map3) ⌝ }
+    requires { ⌜ Sized n s (now block1) (now map1)
+        × Sized n s (now block2) (now map2)
+        × Sized n s (now block3) (now map3) ⌝ }
     ensures block { λ _. ⌜ now (block3 .exit) ≡ merged s (held (now (block1 .entry)) (now (map1 .entry))) (held (now (block2 .entry)) (now (map2 .entry))) n .block ⌝ }
     ensures kinds { λ _. ⌜ now (map3 .exit) ≡ kinds s (held (now (block1 .entry)) (now (map1 .entry))) (held (now (block2 .entry)) (now (map2 .entry))) n ⌝ }
 {

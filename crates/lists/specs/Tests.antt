@@ -63,10 +63,10 @@ or-comm false true = refl
 or-comm false false = refl
 
 -- the first two of three exchanged
-pub or-swap : (a b c : Bool) → (a || (b || c)) ≡ (b || (a || c))
-or-swap true true c = refl
-or-swap true false c = refl
-or-swap false b c = refl
+pub or-exchange : (a b c : Bool) → (a || (b || c)) ≡ (b || (a || c))
+or-exchange true true c = refl
+or-exchange true false c = refl
+or-exchange false b c = refl
 
 -- the second of two fails
 pub and-false : (a b : Bool) → b ≡ false → (a && b) ≡ false

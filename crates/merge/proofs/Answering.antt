@@ -10,7 +10,7 @@ use lib.Dec.{eqb, ltb}
 use lib.ListN.{length}
 use Rattle.aerials.specs.Aerials.{Held, kinds, merged}
 use Rattle.aerials.specs.MergedLaws.{marks-of-kinds}
-use Rattle.aerials.specs.Merging.{Lent}
+use Rattle.aerials.specs.Merging.{Sized}
 use Rattle.erasure.specs.Offered.{wrongLengths, byteOver}
 use Rattle.erasure.specs.OfferedLaws.{bytes-all, none-handed}
 use Rattle.erasure.specs.OutcomeLaws.{tally-two}
@@ -123,7 +123,7 @@ module _ (t : List ℕ) (one two out : Held) (c n s : ℕ) (look : c ≡ refusal
 
 -- ---- what such a call has
 module _ (t : List ℕ) (m n s : ℕ) (a : Accepted t m n s) where
-  pub lent : (b map : List ℕ) → length b ≡ places t * size t → length map ≡ places t → Lent n s b map
+  pub lent : (b map : List ℕ) → length b ≡ places t * size t → length map ≡ places t → Sized n s b map
   lent b map lb lm = record { bytes = lb ∙ sym (ap₂ _*_ (a .places-are) (a .size-is)); marks = lm ∙ sym (a .places-are) }
 
   -- the parts leave the merged block and map, and the kinds

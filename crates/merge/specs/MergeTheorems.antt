@@ -1,11 +1,12 @@
 -- What C-19 promises, over the definitions of the call: for every table that is accepted, every two blocks and every two patterns of loss.
-use mathlib.Core.Path.{_≡_, sym, ap, ap₂, _∙_}
+use mathlib.Core.Path.{_≡_, refl, sym, ap, ap₂, _∙_}
 use mathlib.Core.Bool.{true, false, not, _||_, true≢false}
 use mathlib.Core.List.{List, [], _∷_, _++_}
 use mathlib.Core.Logic.{_≢_, _⊎_, ⊎-elim}
 use mathlib.Core.Option.{none, some}
-use Prim.Native.Nat.{ℕ, _+_, _*_, _<_}
+use Prim.Native.Nat.{ℕ, zero, suc, _+_, _*_, _<_}
 use native.Mathlib.Omega.{arith}
+use borrow.Author.Tests.{ne-eqb}
 use lib.Dec.{eqb}
 use lib.ListN.{length, getD, replicate}
 use Rattle.aerials.specs.Aerials.{Held, packetOf, markOf, heardAt, kinds}
@@ -14,16 +15,16 @@ use Rattle.aerials.specs.MergedLaws.{SameHeard, four-counts, lost-counts, no-cl
 use Rattle.erasure.specs.Largest.{stays-lost, largest-within}
 use Rattle.erasure.specs.LostLaws.{not-lost, is-lost}
 use Rattle.erasure.specs.Offered.{wrongLengths, byteOver, Fitting, Agree, handedOn}
-use Rattle.erasure.specs.OfferedLaws.{bytes-all, byte-at, agree-there, sized, low}
+use Rattle.erasure.specs.OfferedLaws.{bytes-all, byte-at, agree-there, sized, low, none-handed}
 use Rattle.erasure.specs.OldRepair.{RestoredBy, old-repair, word-agrees, word-values}
 use Rattle.erasure.specs.OutcomeLaws.{tally-restored}
 use Rattle.erasure.specs.Tally.{none-restored}
-use Rattle.erasure.specs.Restoring.{AgreeThere, tally, noneLost, outcome, contradicting, agreeing, isLost}
+use Rattle.erasure.specs.Restoring.{State, AgreeThere, tally, noneLost, outcome, contradicting, agreeing, isLost}
 use Rattle.faults.specs.FaultLaws.{some-fault, first-fault}
 use Rattle.faults.specs.Faults.{Fault, FirstFault}
-use Rattle.lists.specs.Tests.{eqb-true, byBool, or-comm, or-swap, side}
+use Rattle.lists.specs.Tests.{eqb-true, byBool, or-comm, or-exchange, side}
 use Rattle.merge.specs.Merge.{third, mergeOutcome, mergeFault, wrongAny, overEither, mergeRefusal, MergeAnswer, refusedWith, mergeAnswerAt, mergeAnswer, mergeAfter, FittingThree}
-use Rattle.merge.specs.MergeLaws.{calm, agreed-refusal, contradicted-refusal, accepted-fits, contradicted-fits, after-accepted, after-contradicted, third-fits}
+use Rattle.merge.specs.MergeLaws.{calm, agreed-refusal, contradicted-refusal, accepted-fits, contradicted-fits, after-accepted, after-contradicted, after-refused, third-fits}
 use Rattle.table.specs.Codewords.{IsCodeword}
 use Rattle.table.specs.FirstCause.{firstCause, wrongLength}
 use Rattle.table.specs.PacketCall.{partAt}
@@ -211,13 +212,31 @@ module _ (t : List ℕ) (one two out : Held) where
       packets-are : (p : ℕ) → p < places t → partAt (size t) p (mergeAfter t one two out .block) ≡ packetOf (size t) (heardAt (size t) one two p)
       packets-are p l = ap (λ (x : Held). partAt (size t) p (x .block)) after ∙ merged-part (places t) (size t) one two (fits .first .block) (fits .second .block) p l
 
+-- ---- any other refusal: all else is 0, and the third block and map are as they were
+pub refused-merge : (t : List ℕ) (one two out : Held) → mergeRefusal t one two out ≢ 0 → mergeRefusal t one two out ≢ 8
+    → (mergeAnswer t one two out ≡ refusedWith (mergeRefusal t one two out) 0 0) × (mergeAfter t one two out ≡ out)
+refused-merge t one two out n0 n8 =
+    let r = mergeRefusal t one two out in
+    let e8 = ne-eqb r 8 n8 in
+    (ap (mergeAnswerAt r k m) (none-handed r (mergeFault t one two) e8) ∙ at r n0, after-refused t one two out r refl (ne-eqb r 0 n0) e8)
+  where
+    k : List ℕ
+    k = kinds (size t) one two (places t)
+
+    m : State
+    m = mergeOutcome t one two
+
+    at : (r : ℕ) → r ≢ 0 → mergeAnswerAt r k m none ≡ refusedWith r 0 0
+    at zero n = absurd (n refl)
+    at (suc r) n = refl
+
 -- ---- what doesn't count
 -- the same answer, and the same third block and map
 pub record SameMerge (t : List ℕ) (one two out three four room : Held) : Type 0 where
   pub answer : mergeAnswer t one two out ≡ mergeAnswer t three four room
   pub after : mergeAfter t one two out ≡ mergeAfter t three four room
 
--- "The third block and map are output: what they held never counts", where none of 1 to 7 refuses
+-- the third block and map are output: where none of 1 to 7 refuses, what they held never counts
 pub third-never-counts : (t : List ℕ) (one two out room : Held) → FittingThree t one two out → FittingThree t one two room → SameMerge t one two out one two room
 third-never-counts t one two out room f g = byBool (calm t one two out)
     (λ e. let x = agreed-refusal t one two out f e in let y = agreed-refusal t one two room g e in
@@ -248,7 +267,7 @@ same-call t one two out three four k m w o =
 -- nor which listener is the first
 pub listeners-exchanged : (t : List ℕ) (one two out : Held) → SameMerge t one two out two one out
 listeners-exchanged t one two out = let m = merged-exchanged (places t) (size t) one two in
-    same-call t one two out two one (m .0) (m .1) (or-swap (wrongLengths t (one .block) (one .map)) (wrongLengths t (two .block) (two .map)) (wrongLengths t (out .block) (out .map))) (or-comm (byteOver (one .map)) (byteOver (two .map)))
+    same-call t one two out two one (m .0) (m .1) (or-exchange (wrongLengths t (one .block) (one .map)) (wrongLengths t (two .block) (two .map)) (wrongLengths t (out .block) (out .map))) (or-comm (byteOver (one .map)) (byteOver (two .map)))
 
 -- nor a listener's bytes at places that its map has as lost
 pub unheard-never-count : (t : List ℕ) (one two out three four : Held) → SameHeard (places t) (size t) one three → SameHeard (places t) (size t) two four

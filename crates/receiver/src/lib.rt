@@ -192,17 +192,17 @@ pub extern "C" fn bs_merge(
         ≡ mergeAfter (now (table .entry)) (held (now (block1 .entry)) (now (map1 .entry))) (held (now (block2 .entry)) (now (map2 .entry))) (held (now (block3 .entry)) (now (map3 .entry))) .map
         ⌝ }
 {
-    let r = merge::merge(table, block1, map1, block2, map2, block3, map3);
+    let m = merge::merge(table, block1, map1, block2, map2, block3, map3);
     Merge {
-        refusal: r.refusal,
-        agreed: r.agreed,
-        single: r.single,
-        silent: r.silent,
-        clash: r.clash,
-        restored: r.restored,
-        lost: r.lost,
-        additions: r.additions,
-        check: r.check,
-        byte: r.byte,
+        refusal: m.refusal,
+        agreed: m.agreed,
+        single: m.single,
+        silent: m.silent,
+        clash: m.clash,
+        restored: m.restored,
+        lost: m.lost,
+        additions: m.additions,
+        check: m.check,
+        byte: m.byte,
     }
 }
