@@ -39,10 +39,12 @@ wrongAny t one two out = wrongLengths t (one .block) (one .map) || (wrongLengths
 abbrev pub overEither : Held → Held → Bool
 overEither one two = byteOver (one .map) || byteOver (two .map)
 
--- the causes in their order, 1 to 5, 7 and 8
+-- the causes in their order, 1 to 4, then 5, 7 and 8
+abbrev pub ownCauses : List ℕ → Held → Held → Held → List (Bool × ℕ)
+ownCauses t one two out = (wrongAny t one two out, 5) ∷ (overEither one two, 7) ∷ (not (agreeing t (third t one two .block) (third t one two .map)), 8) ∷ []
+
 abbrev pub mergeCauses : List ℕ → Held → Held → Held → List (Bool × ℕ)
-mergeCauses t one two out =
-    tableCauses t ++ ((wrongAny t one two out, 5) ∷ (overEither one two, 7) ∷ (not (agreeing t (third t one two .block) (third t one two .map)), 8) ∷ [])
+mergeCauses t one two out = tableCauses t ++ ownCauses t one two out
 
 unfoldable pub mergeRefusal : List ℕ → Held → Held → Held → ℕ
 mergeRefusal t one two out = firstCause (mergeCauses t one two out)

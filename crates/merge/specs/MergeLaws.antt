@@ -19,7 +19,7 @@ use Rattle.erasure.specs.Restoring.{State, agreeing, blockIf, isLost}
 use Rattle.faults.specs.Faults.{Fault}
 use Rattle.lists.specs.Lists.{All.nil, All.cons}
 use Rattle.lists.specs.Tests.{eqb-true, byBool, or-false-l, or-false-r, or-neither}
-use Rattle.merge.specs.Merge.{third, mergeOutcome, mergeFault, wrongAny, overEither, mergeCauses, mergeRefusal, mergeAnswerAt, mergeAnswer, mergeAfter, FittingThree}
+use Rattle.merge.specs.Merge.{third, mergeOutcome, mergeFault, wrongAny, overEither, ownCauses, mergeCauses, mergeRefusal, mergeAnswerAt, mergeAnswer, mergeAfter, FittingThree}
 use Rattle.table.specs.FirstCause.{firstCause, NoneHolds}
 use Rattle.table.specs.FirstCauseLaws.{none-holds, none-refuses, first-decides, rest-decides, quiet, refused-by}
 use Rattle.table.specs.PacketLaws.{joined-length, same-packets}
@@ -36,18 +36,14 @@ module _ (t : List ℕ) (one two out : Held) where
   calm = agreeing t (third t one two .block) (third t one two .map)
 
   -- ---- the causes in their order
-  -- those beyond the table's
-  abbrev own : List (Bool × ℕ)
-  own = (wrongAny t one two out, 5) ∷ (overEither one two, 7) ∷ (not calm, 8) ∷ []
-
   pub table-refused : refusal t ≢ 0 → mergeRefusal t one two out ≡ refusal t
   unfolding mergeRefusal
-  table-refused ne = first-decides (tableCauses t) own ne
+  table-refused ne = first-decides (tableCauses t) (ownCauses t one two out) ne
 
   -- once the table is accepted
-  at-own : refusal t ≡ 0 → mergeRefusal t one two out ≡ firstCause own
+  at-own : refusal t ≡ 0 → mergeRefusal t one two out ≡ firstCause (ownCauses t one two out)
   unfolding mergeRefusal
-  at-own ok = rest-decides (none-holds (tableCauses t) refl ok) own
+  at-own ok = rest-decides (none-holds (tableCauses t) refl ok) (ownCauses t one two out)
 
   pub length-refused : refusal t ≡ 0 → wrongAny t one two out ≡ true → mergeRefusal t one two out ≡ 5
   length-refused ok w = at-own ok ∙ rw w
@@ -55,14 +51,16 @@ module _ (t : List ℕ) (one two out : Held) where
   pub byte-refused : refusal t ≡ 0 → wrongAny t one two out ≡ false → overEither one two ≡ true → mergeRefusal t one two out ≡ 7
   byte-refused ok w o = at-own ok ∙ rw (w, o)
 
-  -- what is left then is 8 or nothing
-  pub fitting-refusal : FittingThree t one two out → mergeRefusal t one two out ≡ cond (not calm) 8 0
-  fitting-refusal f = at-own (f .first .table)
-      ∙ rw (
-        or-neither (wrongLengths t (one .block) (one .map)) _ (lengths-right t (one .block) (one .map) (f .first .block) (f .first .map-length))
-            (or-neither (wrongLengths t (two .block) (two .map)) _ (lengths-right t (two .block) (two .map) (f .second .block) (f .second .map-length)) (lengths-right t (out .block) (out .map) (f .block-length) (f .map-length))),
-        or-neither (byteOver (one .map)) (byteOver (two .map)) (f .first .map-bytes) (f .second .map-bytes),
-      )
+  -- a call that fits: what is left is 8 or nothing
+  none-wrong : FittingThree t one two out → wrongAny t one two out ≡ false
+  none-wrong f = or-neither (wrongLengths t (one .block) (one .map)) _ (lengths-right t (one .block) (one .map) (f .first .block) (f .first .map-length))
+      (or-neither (wrongLengths t (two .block) (two .map)) _ (lengths-right t (two .block) (two .map) (f .second .block) (f .second .map-length)) (lengths-right t (out .block) (out .map) (f .block-length) (f .map-length)))
+
+  none-over : FittingThree t one two out → overEither one two ≡ false
+  none-over f = or-neither (byteOver (one .map)) (byteOver (two .map)) (f .first .map-bytes) (f .second .map-bytes)
+
+  fitting-refusal : FittingThree t one two out → mergeRefusal t one two out ≡ cond (not calm) 8 0
+  fitting-refusal f = at-own (f .first .table) ∙ rw (none-wrong f, none-over f)
 
   pub agreed-refusal : FittingThree t one two out → calm ≡ true → mergeRefusal t one two out ≡ 0
   agreed-refusal f e = fitting-refusal f ∙ rw e
@@ -85,9 +83,9 @@ module _ (t : List ℕ) (one two out : Held) where
   -- an accepted call, and what was tested
   pub accepted-fits : mergeRefusal t one two out ≡ 0 → FittingThree t one two out × (calm ≡ true)
   unfolding mergeRefusal
-  accepted-fits h = let r = none-refuses (tableCauses t) refl own h in go (r .0) (none-holds own refl (r .1))
+  accepted-fits h = let r = none-refuses (tableCauses t) refl (ownCauses t one two out) h in go (r .0) (none-holds (ownCauses t one two out) refl (r .1))
     where
-      go : refusal t ≡ 0 → NoneHolds own → FittingThree t one two out × (calm ≡ true)
+      go : refusal t ≡ 0 → NoneHolds (ownCauses t one two out) → FittingThree t one two out × (calm ≡ true)
       go ok (cons w (cons o (cons a n))) = (fits ok w o, not-false calm a)
 
   -- a contradicted one
