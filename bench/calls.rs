@@ -221,7 +221,7 @@ mod receiver {
             block3_len: usize,
             map3: *mut u8,
             map3_len: usize,
-        ) -> plain::Merged;
+        ) -> model::Merged;
         fn bs_verify(
             table: *const u16,
             table_len: usize,
@@ -530,7 +530,7 @@ mod receiver {
         /// The codeword, and the third map before the repair.
         sent: Vec<u8>,
         merged: Vec<u8>,
-        answer: plain::Merged,
+        answer: model::Merged,
         additions: usize,
     }
 

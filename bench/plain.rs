@@ -1,7 +1,7 @@
 //! Repair, merging, full repair, verification, encoding, the staircase maker and
 //! alist texts in plain Rust, for comparison.
 
-use crate::model::{Encoded, FullyRepaired, Made, Repaired, Verified};
+use crate::model::{Encoded, FullyRepaired, Made, Merged, Repaired, Verified};
 use crate::model::{MAX_CHECKS, MAX_GAP, MAX_ONES, MAX_PLACES, MAX_SIZE, MAX_STEPS, MAX_WEIGHT};
 use crate::model::WORK_BUFFER;
 use std::cmp::Reverse;
@@ -312,27 +312,6 @@ pub fn repair(table: &[u16], block: &mut [u8], map: &mut [u8]) -> Repaired {
 }
 
 // ----------------------------------------------------------------- merging
-
-#[repr(C)]
-#[derive(Clone, Copy, Debug, Default, PartialEq, Eq)]
-pub struct Merged {
-    pub refusal: u32,
-    pub agreed: u32,
-    pub single: u32,
-    pub silent: u32,
-    pub clash: u32,
-    pub restored: u32,
-    pub lost: u32,
-    pub additions: u32,
-    pub check: u32,
-    pub byte: u32,
-}
-
-impl Merged {
-    pub fn refused(refusal: u32) -> Self {
-        Merged { refusal, ..Merged::default() }
-    }
-}
 
 /// A listener's block and map.
 pub type Heard<'a> = (&'a [u8], &'a [u8]);

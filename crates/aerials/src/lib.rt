@@ -88,8 +88,20 @@ pub fn hear_all(
     requires { ⌜ Sized n s (now block1) (now map1)
         × Sized n s (now block2) (now map2)
         × Sized n s (now block3) (now map3) ⌝ }
-    ensures block { λ _. ⌜ now (block3 .exit) ≡ merged s (held (now (block1 .entry)) (now (map1 .entry))) (held (now (block2 .entry)) (now (map2 .entry))) n .block ⌝ }
-    ensures kinds { λ _. ⌜ now (map3 .exit) ≡ kinds s (held (now (block1 .entry)) (now (map1 .entry))) (held (now (block2 .entry)) (now (map2 .entry))) n ⌝ }
+    ensures block { λ _. ⌜
+        now (block3 .exit)
+        ≡ merged s
+        (held (now (block1 .entry)) (now (map1 .entry)))
+        (held (now (block2 .entry)) (now (map2 .entry)))
+        n .block
+        ⌝ }
+    ensures kinds { λ _. ⌜
+        now (map3 .exit)
+        ≡ kinds s
+        (held (now (block1 .entry)) (now (map1 .entry)))
+        (held (now (block2 .entry)) (now (map2 .entry)))
+        n
+        ⌝ }
 {
     let mut p = 0;
     while p < n {

@@ -98,7 +98,10 @@ fn merge_packets(
     requires table { ⌜ Accepted (now t) m n s ⌝ }
     requires fitting { ⌜ FittingThree (now t) (held (now block1) (now map1)) (held (now block2) (now map2)) (held (now block3) (now map3)) ⌝ }
     ensures { λ r. ⌜
-        Answers (now (t .entry)) (held (now (block1 .entry)) (now (map1 .entry))) (held (now (block2 .entry)) (now (map2 .entry))) (held (now (block3 .entry)) (now (map3 .entry)))
+        Answers (now (t .entry))
+        (held (now (block1 .entry)) (now (map1 .entry)))
+        (held (now (block2 .entry)) (now (map2 .entry)))
+        (held (now (block3 .entry)) (now (map3 .entry)))
         r (now (block3 .exit)) (now (map3 .exit))
         ⌝ }
 {
@@ -135,7 +138,10 @@ pub fn merge(
     map3: &mut [u8],
 ) -> Merged
     ensures { λ r. ⌜
-        Answers (now (t .entry)) (held (now (block1 .entry)) (now (map1 .entry))) (held (now (block2 .entry)) (now (map2 .entry))) (held (now (block3 .entry)) (now (map3 .entry)))
+        Answers (now (t .entry))
+        (held (now (block1 .entry)) (now (map1 .entry)))
+        (held (now (block2 .entry)) (now (map2 .entry)))
+        (held (now (block3 .entry)) (now (map3 .entry)))
         r (now (block3 .exit)) (now (map3 .exit))
         ⌝ }
 {

@@ -181,15 +181,24 @@ pub extern "C" fn bs_merge(
 ) -> Merge
     ensures report { λ r. ⌜
         merged r
-        ≡ mergeAnswer (now (table .entry)) (held (now (block1 .entry)) (now (map1 .entry))) (held (now (block2 .entry)) (now (map2 .entry))) (held (now (block3 .entry)) (now (map3 .entry)))
+        ≡ mergeAnswer (now (table .entry))
+        (held (now (block1 .entry)) (now (map1 .entry)))
+        (held (now (block2 .entry)) (now (map2 .entry)))
+        (held (now (block3 .entry)) (now (map3 .entry)))
         ⌝ }
     ensures block { λ _. ⌜
         now (block3 .exit)
-        ≡ mergeAfter (now (table .entry)) (held (now (block1 .entry)) (now (map1 .entry))) (held (now (block2 .entry)) (now (map2 .entry))) (held (now (block3 .entry)) (now (map3 .entry))) .block
+        ≡ mergeAfter (now (table .entry))
+        (held (now (block1 .entry)) (now (map1 .entry)))
+        (held (now (block2 .entry)) (now (map2 .entry)))
+        (held (now (block3 .entry)) (now (map3 .entry))) .block
         ⌝ }
     ensures map { λ _. ⌜
         now (map3 .exit)
-        ≡ mergeAfter (now (table .entry)) (held (now (block1 .entry)) (now (map1 .entry))) (held (now (block2 .entry)) (now (map2 .entry))) (held (now (block3 .entry)) (now (map3 .entry))) .map
+        ≡ mergeAfter (now (table .entry))
+        (held (now (block1 .entry)) (now (map1 .entry)))
+        (held (now (block2 .entry)) (now (map2 .entry)))
+        (held (now (block3 .entry)) (now (map3 .entry))) .map
         ⌝ }
 {
     let m = merge::merge(table, block1, map1, block2, map2, block3, map3);
