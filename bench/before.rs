@@ -60,8 +60,8 @@ fn figures(times: &[[f64; 2]]) -> (f64, Ratio) {
 
 // ----------------------------------------------------------------- planning
 
-/// Beside the tables of the other benchmarks: 32 checks set aside.
-const COPIES: (&str, usize, usize) = ("copies", 128, 96);
+/// Beside the tables of the other benchmarks: as many checks set aside as may be.
+const COPIES: (&str, usize, usize) = ("copies", 4 * model::MAX_GAP, 3 * model::MAX_GAP);
 
 /// So many tables of a kind.
 const MANY: usize = 8;

@@ -1,17 +1,17 @@
 /* Plans a table once, then encodes blocks of it with packets of 64, 256 and
- * 1,024 bytes. */
+ * 1,024 bytes; then plans and encodes at the limits of a plan, and beyond. */
 
 #include <stdio.h>
 
 #include "uplink.h"
 
-enum { PLACES = 7, SOURCES = 4, MOST_SIZE = 1024, MOST_ASIDE = 32 };
+enum { PLACES = 7, SOURCES = 4, MOST_SIZE = 1024 };
 
 static uint32_t plan[BS_PLAN_WORDS];
 static uint64_t work[BS_WORK_WORDS];
 static uint8_t information[SOURCES * MOST_SIZE];
 static uint8_t block[PLACES * MOST_SIZE];
-static uint8_t scratch[MOST_ASIDE * MOST_SIZE]; /* g * size bytes are lent */
+static uint8_t scratch[BS_MOST_ASIDE * MOST_SIZE]; /* g * size bytes are lent */
 
 /* With packets of one byte: the information, for places 0, 1, 2 and 4, and its
  * block. */
@@ -48,6 +48,37 @@ static int encode(bs_planned planned, size_t size)
     return 0;
 }
 
+/* Plans copies of a table of four packets side by side: three checks each, of
+ * which one is set aside. */
+static bs_planned plan_copies(uint16_t copies)
+{
+    static const uint16_t places[9] = {0, 1, 2, 0, 1, 3, 0, 2, 3};
+    static uint16_t table[5 + 12 * (BS_MOST_ASIDE + 1)];
+    size_t len = 0;
+    table[len++] = 2;
+    table[len++] = (uint16_t)(4 * copies);
+    table[len++] = 64;
+    table[len++] = (uint16_t)(3 * copies);
+    for (uint16_t c = 0; c < 3 * copies; c++)
+        table[len++] = 3;
+    table[len++] = (uint16_t)(9 * copies);
+    for (uint16_t i = 0; i < 9 * copies; i++)
+        table[len++] = (uint16_t)(4 * (i / 9) + places[i % 9]);
+    return bs_plan(table, len, plan, BS_PLAN_WORDS, work, BS_WORK_WORDS);
+}
+
+/* Encodes by a plan of one place and so many steps, each of which clears it. */
+static bs_encoded encode_steps(uint32_t steps)
+{
+    static const uint32_t head[] = {3, 1, 0, 1, 0};
+    for (size_t i = 0; i < 5; i++)
+        plan[i] = head[i];
+    plan[5] = steps;
+    for (size_t i = 0; i < steps; i++)
+        plan[6 + i] = 0;
+    return bs_encode(plan, 6 + (size_t)steps, 64, information, 0, block, 64, scratch, 0, SIZE_MAX);
+}
+
 int main(void)
 {
     /* Seven packets, three checks of four places each. The table has a size,
@@ -72,6 +103,13 @@ int main(void)
     bs_encoded refused = bs_encode(plan, planned.length, 1025, information, 0, block, 0, scratch, 0, SIZE_MAX);
     if (refused.refusal != 2 || refused.additions != 0) {
         printf("uplink.c: packets of 1025 bytes gave refusal %u\n", (unsigned)refused.refusal);
+        return 1;
+    }
+
+    /* At the limits, and beyond. */
+    if (plan_copies(BS_MOST_ASIDE).gap != BS_MOST_ASIDE || plan_copies(BS_MOST_ASIDE + 1).refusal != 6
+        || encode_steps(BS_MOST_STEPS).refusal != 0 || encode_steps(BS_MOST_STEPS + 1).refusal != 9) {
+        printf("uplink.c: wrong at the limits of a plan\n");
         return 1;
     }
     printf("uplink.c: %u checks kept, gap %u; %u additions with packets of 64, 256 and 1024 bytes; 1025 bytes refused with %u\n",

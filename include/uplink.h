@@ -37,6 +37,13 @@
  * information at its own information places; go by those of the plan that
  * encodes.
  *
+ * Two limits are lower since (C-20): a plan sets at most BS_MOST_ASIDE checks
+ * aside, where it was 32, and has at most BS_MOST_STEPS steps, where it was
+ * 13,344. A table that needs more of the former is refused with 6. A stored
+ * plan beyond either is refused with 9: make it anew from its table, where
+ * the planner may set fewer aside now. No plan that bs_plan makes is refused
+ * with 9, and all buffers have the lengths that they had.
+ *
  * No call writes a byte that isn't named here. Lengths count elements, not
  * bytes. Buffers lent to one call don't overlap, and a pointer isn't null even
  * where its length is 0.
@@ -51,11 +58,12 @@
  *         not the sum of the weights, or a table of wrong length
  *      4  a place not below n, or not ascending in its check
  *      5  a buffer of wrong length
- *      6  more than 32 checks set aside
- *      9  a plan that isn't well-formed: wrong counts or length, n, g, M or
- *         the count of steps beyond limits, places not ascending below n, or
- *         a step that names no slot, adds a slot into itself, clears with
- *         from above 0, has an unknown kind or writes an information place
+ *      6  more than BS_MOST_ASIDE checks set aside
+ *      9  a plan that isn't well-formed: wrong counts or length, n over 1,024,
+ *         g over BS_MOST_ASIDE or over M, M over n or 512, more than
+ *         BS_MOST_STEPS steps, places not ascending below n, or a step that
+ *         names no slot, adds a slot into itself, clears with from above 0,
+ *         has an unknown kind or writes an information place
  *
  * bs_plan looks for 1 to 6 in this order, bs_encode for 2, then 9, then 5.
  */
@@ -71,6 +79,8 @@ extern "C" {
 
 #define BS_PLAN_WORDS 15360 /* least length of the planner's plan buffer */
 #define BS_WORK_WORDS 8192  /* length of the planner's work buffer */
+#define BS_MOST_ASIDE 20    /* the most checks set aside, so packets of scratch */
+#define BS_MOST_STEPS 12708 /* the most steps of a plan */
 
 typedef struct {
     uint32_t refusal;

@@ -9,7 +9,7 @@ ghost use Rattle.text.specs.Lines.{Appended};
 ghost use Rattle.plan_text.specs.PlanText.{mostText};
 ghost use Rattle.listing.specs.Listing.{tableText, listing};
 
-// the most bytes of a text
+// room for every text
 pub const MOST_TEXT: usize = 192000;
 
 // of a table

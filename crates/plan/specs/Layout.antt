@@ -13,13 +13,14 @@ use Rattle.plan.specs.declared.Step.{Step}
 use Rattle.plan.specs.declared.Step.the-variants.{Clear, Add}
 use Rattle.plan.specs.Step.{pack, unpack, unpackAll}
 
--- ---- the limits of a plan
+-- ---- the limits of a plan (document 02, C-20: "Refusal 6 starts at 21, refusal 9 refuses a plan with g over 20 or more than 12,708 steps;
+-- lent buffer lengths don't change")
 -- checks set aside
 abbrev pub mostAside : ℕ
-mostAside = 32
+mostAside = 20
 
 abbrev pub mostSteps : ℕ
-mostSteps = 13344
+mostSteps = 12708
 
 -- "the planner's plan at least 15,360 numbers"
 abbrev pub leastPlan : ℕ
@@ -94,12 +95,12 @@ stepsOf w = unpackAll (stepsIn w)
 abbrev pub badHead : List ℕ → Bool
 badHead w = ltb (length w) leastNumbers || not (eqb (getD w 0 0) headCount)
 
--- n "beyond limits, g over 32 or over M, M over n or 512" (C-16: "9 no longer looks at s")
+-- n "beyond limits", g over its limit "or over M, M over n or 512" (C-16: "9 no longer looks at s")
 abbrev pub badLimits : List ℕ → Bool
 badLimits w = outside mostPlaces (planPlaces w) || (ltb mostAside (planGap w) || (ltb (planKept w) (planGap w)
     || (ltb (planPlaces w) (planKept w) || ltb mostChecks (planKept w))))
 
--- "wrong counts or length", "over 13,344 steps"
+-- "wrong counts or length", more steps than their limit
 abbrev pub badLengths : List ℕ → Bool
 badLengths w = not (eqb (infoCount w) (planPlaces w - planKept w)) || (ltb (length w) (stepsAt w) || (ltb mostSteps (stepCount w)
     || not (eqb (length w) (stepsAt w + stepCount w))))

@@ -211,6 +211,13 @@ well w h = formed w (not-refused w h)
 pub refused : (w : List ℕ) → (planRefusal w ≡ 0 → ⊥) → planRefusal w ≡ 9
 refused w h = byBool (wellFormed w) (λ e. absurd (h (rw e))) (λ e. rw e)
 
+-- document 02, C-20: "refusal 9 refuses a plan with g over 20 or more than 12,708 steps"
+pub beyond-aside : (w : List ℕ) → mostAside < planGap w → planRefusal w ≡ 9
+beyond-aside w h = refused w (λ z. let few = well w z .counts .few-aside in omega arith)
+
+pub beyond-steps : (w : List ℕ) → mostSteps < stepCount w → planRefusal w ≡ 9
+beyond-steps w h = refused w (λ z. let few = well w z .counts .few-steps in omega arith)
+
 -- as many information places as their count says
 pub info-long : (w : List ℕ) → infoAt + infoCount w ≤ length w → length (infoIn w) ≡ infoCount w
 info-long w h = length-take-le (infoCount w) (drop infoAt w) (let d = length-drop infoAt w in omega arith)

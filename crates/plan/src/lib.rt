@@ -67,9 +67,10 @@ impl Step {
 
 // ---- the limits of a plan
 // checks set aside
-pub const MOST_ASIDE: usize = 32;
+pub const MOST_ASIDE: usize = 20;
 
-pub const MOST_STEPS: usize = 13344;
+// steps, clear and add
+pub const MOST_STEPS: usize = 12708;
 
 // places and scratch slots
 pub const MOST_SLOTS: usize = MOST_PLACES + MOST_ASIDE;
@@ -159,7 +160,7 @@ pub fn info_place(w: &[u32], k: usize) -> usize
 }
 
 // ---- cause 9
-// wrong counts or length, over 13,344 steps
+// wrong counts or length, too many steps
 fn bad_lengths(w: &[u32]) -> bool
     requires counts { ⌜ leastNumbers ≤ length (now w) ⌝ }
     requires kept { ⌜ planKept (now w) ≤ planPlaces (now w) ⌝ }
@@ -176,7 +177,7 @@ fn bad_lengths(w: &[u32]) -> bool
     MOST_STEPS < steps || w.len() != at + steps
 }
 
-// n beyond limits, g over 32 or over M, M over n or 512
+// n or g beyond limits, g over M, M over n or 512
 fn bad_limits(w: &[u32]) -> bool
     requires { ⌜ leastNumbers ≤ length (now w) ⌝ }
     ensures { λ r. ⌜ r ≡ badLimits (now (w .entry)) ⌝ }

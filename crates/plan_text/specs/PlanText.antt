@@ -49,6 +49,6 @@ planText n s M W g info steps = heading n s M W g ++ (infoLine info ++ (stepLine
 abbrev pub planTextOf : List ℕ → ℕ → ℕ → List ℕ
 planTextOf w s W = planText (planPlaces w) s (planKept w) W (planGap w) (infoIn w) (stepsOf w)
 
--- the most bytes of a text: 48 of the heading, 5 and 5 for each of 1,024 places, 14 for each of 13,344 steps, 11 of the last line
+-- room for every text: 48 bytes of the heading, 5 and 5 for each of 1,024 places, 14 for each step, 11 of the last line (`plan-most`)
 abbrev pub mostText : ℕ
 mostText = 192000

@@ -19,7 +19,7 @@ use Rattle.planner.specs.declared.Planned.{Planned}
 abbrev pub wrongLengths : ℕ → ℕ → Bool
 wrongLengths planLength workLength = ltb planLength leastPlan || wrongLength workLength workWords
 
--- 6: "more than 32 checks set aside"
+-- 6: more checks set aside than a plan may have
 abbrev pub tooManyAside : List ℕ → Bool
 tooManyAside t = ltb mostAside (planOf t .g)
 

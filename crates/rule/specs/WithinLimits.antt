@@ -15,6 +15,7 @@ use Rattle.table.specs.Table.{mostPlaces, mostOnes, ones}
 use Rattle.plan.specs.Layout.{mostAside, mostSteps, leastPlan, leastNumbers}
 use Rattle.rule.specs.Choices.{Chooses}
 use Rattle.rule.specs.AllChecksZero.{ts, az, F, peels}
+use Rattle.rule.specs.Buffers.{maskWidth}
 use Rattle.rule.specs.Bound.{pass, asides-some, fitting-most, peels-ones, square-more, fitted-number}
 use Rattle.rule.specs.Count.{solving-clears, scratch-clears, fitting-clears, solvedOnes, count-scratch}
 use Rattle.rule.specs.Info.{peels-count, info-number}
@@ -43,6 +44,14 @@ kept-weight cs = choose-few rowOf [] cs .1
 -- the information places are strictly ascending
 pub info-up : (ch : Chooses) (n : ℕ) (cs : List (List ℕ)) → Up 0 (planBy (ch .choice) n cs .info)
 info-up ch n cs = up-filter _ (down-rev (down-below n))
+
+-- the limit on steps is that of 2W + g(g + 1) at the limits on ones and on checks set aside
+pub steps-bound : mostSteps ≡ 2 * mostOnes + mostAside * (mostAside + 1)
+steps-bound = refl
+
+-- a row of the inverse has a bit for each check that a plan may set aside
+pub aside-width : {g : ℕ} → g ≤ mostAside → g ≤ maskWidth
+aside-width h = omega arith
 
 module _ (ch : Chooses) (n : ℕ) (cs : List (List ℕ)) (d : All Distinct cs) (low : All (λ c. All (λ p. p < n) c) cs) where
   -- short names
@@ -82,10 +91,11 @@ module _ (ch : Chooses) (n : ℕ) (cs : List (List ℕ)) (d : All Distinct cs) (
       let e : P .W ≡ solvedOnes T + ones Z = peels-ones (peels ch n cs d low) in
       let f = square-more g in omega arith
 
-  -- so they are within the encoder's limit ..
+  -- so they are within the encoder's limit (`steps-bound`) ..
   pub steps-limit : ones cs ≤ mostOnes → g ≤ mostAside → length (P .steps) ≤ mostSteps
   steps-limit w h = let a = steps-most in let b : P .W ≤ ones cs = kept-weight cs in
-      let c : g * (g + 1) ≤ mostAside * (mostAside + 1) = mul-le-mul {m₁ = g + 1} {m₂ = mostAside + 1} h (omega arith) in omega arith
+      let c : g * (g + 1) ≤ mostAside * (mostAside + 1) = mul-le-mul {m₁ = g + 1} {m₂ = mostAside + 1} h (omega arith) in
+      let l = steps-bound in omega arith
 
   -- .. and the plan's numbers within the planner's buffer
   pub numbers-limit : n ≤ mostPlaces → ones cs ≤ mostOnes → g ≤ mostAside → leastNumbers + length (P .info) + length (P .steps) ≤ leastPlan

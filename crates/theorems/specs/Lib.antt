@@ -1,4 +1,7 @@
 pub mod AlistCases
+pub mod Copies
+pub mod CopiesKept
+pub mod CopiesPeeled
 pub mod Demands
 pub mod NothingLost
 pub mod OwnPlan

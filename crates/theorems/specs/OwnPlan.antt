@@ -31,7 +31,7 @@ and-yes : {a b : Bool} → a ≡ true → b ≡ true → (a && b) ≡ true
 and-yes e f = rw (e, f)
 
 -- ---- the parts of a well-formed plan
-up-rising : (n : ℕ) {b : ℕ} {l : List ℕ} → Up b l → All (λ p. p < n) l → rising n b l ≡ true
+pub up-rising : (n : ℕ) {b : ℕ} {l : List ℕ} → Up b l → All (λ p. p < n) l → rising n b l ≡ true
 up-rising n unone nil = refl
 up-rising n {b} (uthen {x = x} h u) (cons k a) = and-yes (and-yes (le-leb b x h) (lt-ltb x n k)) (up-rising n u a)
 

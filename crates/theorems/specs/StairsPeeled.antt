@@ -22,12 +22,12 @@ count-last f c nil h = rw (h, count)
 count-last f c (cons e a) h = rw (e, count) (count-last f c a h)
 
 -- a test that none passes
-count-no : (f : List ℕ → Bool) {L : List (List ℕ)} → All (λ d. f d ≡ false) L → count f L ≡ 0
+pub count-no : (f : List ℕ → Bool) {L : List (List ℕ)} → All (λ d. f d ≡ false) L → count f L ≡ 0
 count-no f nil = refl
 count-no f (cons e a) = rw (e, count) (count-no f a)
 
 -- the highest place that passes, where none above it does
-highest-at : (n : ℕ) (f : ℕ → Bool) (q : ℕ) → q < n → f q ≡ true → ((p : ℕ) → q < p → f p ≡ false) → highest n f ≡ some q
+pub highest-at : (n : ℕ) (f : ℕ → Bool) (q : ℕ) → q < n → f q ≡ true → ((p : ℕ) → q < p → f p ≡ false) → highest n f ≡ some q
 highest-at zero f q h t a = absurd (omega arith)
 highest-at (suc n) f q h t a = byBool (eqb q n)
     (λ e. let z = eqb-true q n e in let u : f n ≡ true = ap f (sym z) ∙ t in rw (u, highest) (ap some (sym z)))

@@ -58,6 +58,14 @@ planC = 3 ∷ 5 ∷ 1 ∷ 4 ∷ 1 ∷ 1 ∷ 26 ∷ 16384 ∷ 16793601 ∷ 12288 
 abbrev storedC : List ℕ
 storedC = 3 ∷ 5 ∷ 2 ∷ 4 ∷ 1 ∷ 0 ∷ 23 ∷ 16384 ∷ 12288 ∷ 16789504 ∷ 16789508 ∷ 20480 ∷ 16797699 ∷ 16797700 ∷ 24576 ∷ 16801792 ∷ 16801795 ∷ 16801796 ∷ 4096 ∷ 16781317 ∷ 8192 ∷ 16785413 ∷ 16785414 ∷ 16384 ∷ 16793601 ∷ 16793602 ∷ 12288 ∷ 16789504 ∷ 16789506 ∷ 16789508 ∷ []
 
+-- C-20: plans of 21 places, all of them own or fitted, with g checks set aside and no step
+abbrev asidePlan : ℕ → List ℕ
+asidePlan g = 3 ∷ 21 ∷ g ∷ 21 ∷ 0 ∷ 0 ∷ []
+
+-- and of one place, with k steps that clear it
+abbrev stepsPlan : ℕ → List ℕ
+stepsPlan k = 3 ∷ 1 ∷ 0 ∷ 1 ∷ 0 ∷ k ∷ replicate k 0
+
 abbrev table9 : List ℕ
 table9 = 2 ∷ 1 ∷ 1 ∷ 1 ∷ 1 ∷ 1 ∷ 0 ∷ []
 
@@ -242,6 +250,12 @@ starred =
     -- C-18: a5 by the new plan, at place 1, and by the stored one, at place 0
     ∷ record { given = answered planC 1 (0xa5 ∷ []) (9 ∷ 9 ∷ 9 ∷ 9 ∷ 9 ∷ []) (9 ∷ []); wanted = (0 ∷ 18 ∷ []) ∷ (0xa5 ∷ 0xa5 ∷ 0xa5 ∷ 0x00 ∷ 0x00 ∷ []) ∷ (0xa5 ∷ []) ∷ [] }
     ∷ record { given = answered storedC 1 (0xa5 ∷ []) (9 ∷ 9 ∷ 9 ∷ 9 ∷ 9 ∷ []) (9 ∷ 9 ∷ []); wanted = (0 ∷ 15 ∷ []) ∷ (0xa5 ∷ 0xa5 ∷ 0xa5 ∷ 0x00 ∷ 0x00 ∷ []) ∷ (0xa5 ∷ 0x00 ∷ []) ∷ [] }
+    -- C-20: g 20 is taken, g 21 refused with 9, block and scratch as they were
+    ∷ record { given = answered (asidePlan 20) 1 [] (replicate 21 9) (replicate 20 9); wanted = (0 ∷ 0 ∷ []) ∷ replicate 21 0 ∷ replicate 20 0 ∷ [] }
+    ∷ record { given = answered (asidePlan 21) 1 [] (replicate 21 9) (replicate 21 9); wanted = (9 ∷ 0 ∷ []) ∷ replicate 21 9 ∷ replicate 21 9 ∷ [] }
+    -- C-20: 12,708 steps are taken, 12,709 refused with 9
+    ∷ record { given = answered (stepsPlan 12708) 1 [] (9 ∷ []) []; wanted = (0 ∷ 0 ∷ []) ∷ (0 ∷ []) ∷ [] ∷ [] }
+    ∷ record { given = answered (stepsPlan 12709) 1 [] (9 ∷ []) []; wanted = (9 ∷ 0 ∷ []) ∷ (9 ∷ []) ∷ [] ∷ [] }
     ∷ []
 
 pub starred-cases : map (λ c. c .given) starred ≡ map (λ c. c .wanted) starred

@@ -4,6 +4,7 @@ use mathlib.Core.List.{map}
 use native.Mathlib.Omega.{arith}
 use Rattle.table.specs.Accepted.{few-places, has-weights}
 use Rattle.plan.specs.Step.{pack}
+use Rattle.rule.specs.WithinLimits.{aside-width}
 use Rattle.emit.specs.Emit.{fittingRows}
 use Rattle.emit.specs.MarkLaws.{below-more}
 use Rattle.lists.specs.WroteLaws.{wrote-is}
@@ -36,7 +37,7 @@ set-aside-requires c κs =
     let s = c .before .before .before .before .before .before .before .before .before .before .before .before .before .before .before .before .before .before in
     let p = s .pre .1 in
     let m = c .before .before .before .before .before .before .before .before .mark in
-    (room-B p (m .last .0) (m .ensures) (s .args .plan .now) (s .args .at) (s .pre .0) (c .before .before .before .before .solve-all .ensures), (readable p (m .last .0) (m .ensures), (set-aside p, p .few)))
+    (room-B p (m .last .0) (m .ensures) (s .args .plan .now) (s .args .at) (s .pre .0) (c .before .before .before .before .solve-all .ensures), (readable p (m .last .0) (m .ensures), (set-aside p, aside-width (p .few))))
 
 shared-slice-read-wide : tie.Need-shared-slice-read-wide
 shared-slice-read-wide c = let r = has-weights _ _ _ _ (c .before .before .before .before .before .before .before .before .before .before .before .before .before .before .before .before .before .before .before .before .before .before .before .pre .1 .located .table) in omega arith
@@ -52,7 +53,7 @@ fit-all-requires c κs =
     let n = few-places _ _ _ _ (p .located .table) in
     let e = c .wide .ensures in (
       rw e (room-C p (m .last .0) (m .ensures) (s .args .plan .now) (s .args .at) (s .pre .0) (c .before .before .before .before .before .before .before .before .before .before .solve-all .ensures) (c .before .before .before .before .before .set-aside .ensures)),
-      (omega arith, (p .few, (rw e (fitted-below p), p .fits .room .1))),
+      (omega arith, (aside-width (p .few), (rw e (fitted-below p), p .fits .room .1))),
     )
 
 solve-whole-requires : tie.Need-solve-whole-requires
