@@ -1,14 +1,13 @@
 -- The case of document 02, C-20: "20 copies of B taken, 21 refused, in place of 01's case of 32 and 33". Of k copies of B side by side every
 -- check is kept and k are set aside, for every k that the limit on checks allows.
-use mathlib.Core.Path.{_≡_, refl, sym, ap, _∙_}
-use mathlib.Core.Bool.{Bool, true, false, cond}
+use mathlib.Core.Path.{_≡_, refl, ap, _∙_}
+use mathlib.Core.Bool.{true, cond}
 use mathlib.Core.List.{List, [], _∷_}
 use Prim.Native.Nat.{ℕ, zero, suc, _+_, _*_, _<_, _≤_}
 use native.Mathlib.Omega.{arith}
 use lib.Dec.{ltb}
 use lib.ListN.{length}
-use Rattle.lists.specs.Ascending.{Up, Up.none as unone, Up.then as uthen}
-use Rattle.lists.specs.ListLaws.{all-map}
+use Rattle.lists.specs.Ascending.{Up.none as unone, Up.then as uthen}
 use Rattle.lists.specs.Lists.{All, All.nil, All.cons}
 use Rattle.table.specs.Table.{mostChecks, checks, ones, refusal, rising}
 use Rattle.making.specs.ReadBack.{checks-back}
@@ -17,9 +16,10 @@ use Rattle.plan.specs.Layout.{mostAside}
 use Rattle.rule.specs.Rule.{kept, peel, plan, setAsideOf}
 use Rattle.planner.specs.Planning.{leastPlan, workWords, planOf, planOfBy, refusedBy, planningRefusal, planningAnswer}
 use Rattle.planner.specs.PlanningLaws.{gap-decides}
-use Rattle.theorems.specs.CopiesKept.{shifted, copiesFrom, copiesOfB, one, two, three, all-kept}
+use Rattle.theorems.specs.CopiesKept.{one, two, three, all-kept}
 use Rattle.theorems.specs.CopiesPeeled.{asides}
 use Rattle.theorems.specs.OwnPlan.{up-rising}
+use Rattle.theorems.specs.SideBySide.{shifted, copiesFrom, copiesOfB}
 
 -- ---- the table is accepted
 checks-number : (q k : ℕ) → length (copiesFrom q k) ≡ 3 * k

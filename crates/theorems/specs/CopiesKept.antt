@@ -1,8 +1,8 @@
--- Copies of table B side by side: their checks, and that each of them is kept.
+-- Every check of copies of table B is kept.
 use mathlib.Core.Path.{_≡_, refl, ap, ap₂, _∙_}
-use mathlib.Core.Bool.{Bool, true, false}
-use mathlib.Core.List.{List, [], _∷_, _++_, map}
-use Prim.Native.Nat.{ℕ, zero, suc, _+_, _*_, _<_, _≤_}
+use mathlib.Core.Bool.{true, false}
+use mathlib.Core.List.{List, [], _∷_}
+use Prim.Native.Nat.{ℕ, zero, suc, _+_, _<_, _≤_}
 use native.Mathlib.Omega.{arith}
 use borrow.Author.Tests.{ltb-true, ne-eqb}
 use lib.Bits.{bitXor}
@@ -15,27 +15,9 @@ use Rattle.gf2.specs.EchelonLaws.{no-sum}
 use Rattle.gf2.specs.Gf2.{bit, isZero, choose, XorGroup, rowOf, sums}
 use Rattle.gf2.specs.Places.{bit-row}
 use Rattle.table.specs.Table.{checks}
-use Rattle.making.specs.Written.{tableOf}
 use Rattle.rule.specs.Rule.{kept}
+use Rattle.theorems.specs.SideBySide.{shifted, copiesFrom}
 use Rattle.theorems.specs.Starred.{tableB}
-
--- ---- the copies
--- the places of a check, each q higher
-abbrev pub shifted : ℕ → List ℕ → List ℕ
-shifted q c = map (λ p. q + p) c
-
--- k copies of B's checks, the first from place q on: a copy has four places
-abbrev pub copiesFrom : ℕ → ℕ → List (List ℕ)
-copiesFrom q zero = []
-copiesFrom q (suc k) = map (shifted q) (checks tableB) ++ copiesFrom (q + 4) k
-
--- "copies of B side by side", with packets of one byte
-abbrev pub copiesOfB : ℕ → List ℕ
-copiesOfB k = tableOf (4 * k) 1 (copiesFrom 0 k)
-
--- one copy is B
-pub one-copy : copiesOfB 1 ≡ tableB
-one-copy = refl
 
 -- ---- B's checks
 abbrev pub one : List ℕ

@@ -1,5 +1,5 @@
 -- Copies of table B are peeled from the first to the last: of each the lowest check is set aside, then the highest, then the one between is taken.
-use mathlib.Core.Path.{_≡_, refl, sym, ap, ap₂, _∙_, subst}
+use mathlib.Core.Path.{_≡_, refl, ap, ap₂, _∙_, subst}
 use mathlib.Core.Bool.{Bool, true, false}
 use mathlib.Core.List.{List, [], _∷_, _++_, map}
 use mathlib.Core.Logic.{⊎-elim}
@@ -13,8 +13,9 @@ use Rattle.lists.specs.Lists.{count, has, highest, All, All.nil, All.cons}
 use Rattle.lists.specs.Tests.{eqb-lt, byBool, side}
 use Rattle.table.specs.Table.{checks}
 use Rattle.rule.specs.Choices.{FirstMost, first-at, without-at, step-three-only}
-use Rattle.rule.specs.Rule.{inOneOnly, inTwoOnly, freed, mostFreed, peel, peelBy, PeelEvent.took, PeelEvent.aside, setAsideOf}
-use Rattle.theorems.specs.CopiesKept.{shifted, copiesFrom, one, two, three, has-shift, places-low, below-four}
+use Rattle.rule.specs.Rule.{inOneOnly, inTwoOnly, freed, peel, peelBy, PeelEvent.took, PeelEvent.aside, setAsideOf}
+use Rattle.theorems.specs.CopiesKept.{one, two, three, has-shift, places-low, below-four}
+use Rattle.theorems.specs.SideBySide.{shifted, copiesFrom}
 use Rattle.theorems.specs.Starred.{tableB}
 use Rattle.theorems.specs.StairsPeeled.{count-no, highest-at}
 

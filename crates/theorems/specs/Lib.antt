@@ -7,6 +7,7 @@ pub mod NothingLost
 pub mod OwnPlan
 pub mod Refusals
 pub mod Restoring
+pub mod SideBySide
 pub mod Staircase
 pub mod StaircaseRefusals
 pub mod StairsKept
