@@ -1,7 +1,6 @@
 pub mod Ascending
 pub mod Parameters
 pub mod Staircase
-pub mod StaircaseCases
 pub mod StaircaseLaws
 pub mod Staired
 pub mod Stairs

@@ -9,6 +9,7 @@ pub mod Refusals
 pub mod Restoring
 pub mod SideBySide
 pub mod Staircase
+pub mod StaircaseCases
 pub mod StaircaseRefusals
 pub mod StairsKept
 pub mod StairsPeeled
