@@ -1,16 +1,17 @@
 //! Which check is set aside, in the comparison of the uplink: the planner takes the
 //! one that frees the most places, and plans that were stored under document 01's
-//! rule still run.
+//! rule still run, but for those beyond the limits of C-20.
 
 use crate::gen::{self, Rng};
-use crate::harness::{bare, equal, same, Run};
+use crate::harness::{bare, equal, same, Met, Run};
+use crate::limits::{self, beyond};
 use crate::model::{self, Choice, Layout, Planned, Table};
 use crate::{carried, encode, encode_limits, known, known_block, known_layout, lengths_of};
 use crate::{plan, planned, refused, Known, OLD_GAP_3, TABLE_B};
 
-/// Document 01's layout of a table. More than 32 checks set aside made no plan.
+/// Document 01's layout of a table. More than OLD_MAX_GAP checks set aside made no plan.
 fn old_layout(t: &Table) -> Result<Layout, u32> {
-    model::layout_by(t, Choice::Weight)
+    model::layout_by(t, Choice::Weight, model::OLD_MAX_GAP)
 }
 
 /// The plan that was stored for a table: by document 01's rule, in C-16's layout.
@@ -20,7 +21,7 @@ fn stored_plan(t: &Table) -> Result<Vec<u32>, u32> {
 
 /// The block that a plan of a table makes at a size, under limits too. After all
 /// steps it is a codeword.
-fn runs(rng: &mut Rng, t: &Table, words: &[u32], size: usize) -> Result<Vec<u8>, String> {
+pub fn runs(rng: &mut Rng, t: &Table, words: &[u32], size: usize) -> Result<Vec<u8>, String> {
     let block = encode_limits(rng, words, size)?;
     let table = model::table_words(t.n, size, &t.checks);
     same("codeword", &model::verify(&table, &block).codeword, &1)?;
@@ -28,6 +29,9 @@ fn runs(rng: &mut Rng, t: &Table, words: &[u32], size: usize) -> Result<Vec<u8>,
 }
 
 // ------------------------------------------------------------ random cases
+
+pub static STORED_RUN: Met = Met::new("a stored plan that runs");
+pub static STORED_REFUSED: Met = Met::new("a stored plan beyond the limits");
 
 /// The block of the new plan, and again by the stored plan from the packets that
 /// lie at its information places.
@@ -39,6 +43,9 @@ fn planned_case(rng: &mut Rng) -> Result<(), String> {
     }
     let block = runs(rng, &t, &words, t.s)?;
     let Ok(stored) = stored_plan(&t) else { return Ok(()) };
+    if limits::passed(&stored) {
+        return beyond(rng, &stored, t.s);
+    }
     let p = model::read_plan(&stored).ok_or("the stored plan isn't well-formed")?;
     let information = carried(&p, &block, t.s);
     let lengths = lengths_of(&p, t.s);
@@ -49,13 +56,24 @@ fn planned_case(rng: &mut Rng) -> Result<(), String> {
 /// A stored plan at two sizes; mostly one that the new rule doesn't make.
 fn stored_case(rng: &mut Rng) -> Result<(), String> {
     let (t, words) = loop {
-        let t = if rng.once_in(4) { gen::table(rng) } else { gen::gap_table(rng) };
+        let t = match rng.below(8) {
+            0 | 1 => gen::table(rng),
+            2 => gen::limit_table(rng),
+            _ => gen::gap_table(rng),
+        };
         if let Ok(words) = stored_plan(&t) {
             break (t, words);
         }
     };
+    let passed = limits::passed(&words);
+    STORED_RUN.count_if(!passed);
+    STORED_REFUSED.count_if(passed);
     for size in [t.s, gen::size(rng, t.n)] {
-        runs(rng, &t, &words, size)?;
+        if passed {
+            beyond(rng, &words, size)?;
+        } else {
+            runs(rng, &t, &words, size)?;
+        }
     }
     Ok(())
 }
@@ -88,7 +106,7 @@ fn by_hand<const M: usize>(n: usize, checks: [&[usize]; M]) -> Table {
     table(n, checks.map(|c| c.to_vec()).to_vec())
 }
 
-fn copies((n, checks): (usize, Vec<Vec<usize>>), many: usize) -> Table {
+pub fn copies((n, checks): (usize, Vec<Vec<usize>>), many: usize) -> Table {
     let (n, checks) = gen::side_by_side(&vec![(n, checks); many]);
     table(n, checks)
 }
@@ -245,13 +263,26 @@ fn chosen(c: &Chosen) -> Result<(), String> {
     Ok(())
 }
 
-/// The stored plan of a table at the sizes that are sent, and at one more.
-fn stored(t: &Table) -> Result<(), String> {
+/// The sizes that are sent, and one more.
+fn sizes() -> &'static [usize] {
+    if bare() {
+        &[3, 64]
+    } else {
+        &[3, 64, 256, 1024]
+    }
+}
+
+/// The stored plan of a table has this gap, and runs unless it is beyond the limit.
+fn stored(t: &Table, gap: usize) -> Result<(), String> {
     let words = stored_plan(t).map_err(|refusal| format!("refused {refusal}"))?;
+    same("gap", &(words[2] as usize), &gap)?;
     let rng = &mut Rng::new(18, 0);
-    let sizes: &[usize] = if bare() { &[3, 64] } else { &[3, 64, 256, 1024] };
-    for size in sizes {
-        runs(rng, t, &words, *size)?;
+    for size in sizes() {
+        if gap > model::MAX_GAP {
+            beyond(rng, &words, *size)?;
+        } else {
+            runs(rng, t, &words, *size)?;
+        }
     }
     Ok(())
 }
@@ -259,7 +290,7 @@ fn stored(t: &Table) -> Result<(), String> {
 fn stored_by_hand(c: &Chosen) -> Result<(), String> {
     let old = old_layout(&c.t).map_err(|refusal| format!("refused {refusal}"))?;
     same("aside", &old.aside, &c.old)?;
-    stored(&c.t)
+    stored(&c.t, c.old.len())
 }
 
 /// A stored plan of which all is known.
@@ -354,30 +385,46 @@ fn same_plan_cases(run: &mut Run) {
 
 /// Large tables, of which about half as many checks are set aside now.
 fn large_cases(run: &mut Run) {
-    for (name, t) in [("512", regular(512, 256, 0)), ("1,024", regular(1024, 512, 0))] {
-        run.fixed(&format!("regular {name}, stored"), stored(&t));
+    run.fixed("regular 512, stored", stored(&regular(512, 256, 0), 18));
+    for (seed, gap) in [(987, 20), (242, 21), (0, 30)] {
+        let name = format!("regular 1,024, stored with gap {gap}");
+        run.fixed(&name, stored(&regular(1024, 512, seed), gap));
     }
 }
 
-/// Tables that one rule plans and the other doesn't.
+/// By the old rule two checks of each copy were set aside, now it is one.
+fn heaviest(many: usize) -> Table {
+    copies(gen::heaviest_frees_none(), many)
+}
+
+fn heaviest_planned(many: usize) -> Result<(), String> {
+    let t = heaviest(many);
+    let many = many as u32;
+    let expected = Planned {
+        refusal: 0,
+        length: 6 + 43 * many,
+        kept: 6 * many,
+        ones: 23 * many,
+        gap: many,
+        additions: 29 * many,
+    };
+    planned(&t, expected)
+}
+
+/// Tables that one rule plans and the other doesn't, by the limits that there were or
+/// by those that there are.
 fn limit_cases(run: &mut Run) {
-    let most = model::MAX_GAP;
+    let (most, old) = (model::MAX_GAP, model::OLD_MAX_GAP);
     let refused_by_old = |t: &Table| same("old rule", &stored_plan(t).err(), &Some(6));
-    for many in [most / 2 + 1, most] {
-        let t = copies(gen::heaviest_frees_none(), many);
-        let many = many as u32;
-        let expected = Planned {
-            refusal: 0,
-            length: 6 + 43 * many,
-            kept: 6 * many,
-            ones: 23 * many,
-            gap: many,
-            additions: 29 * many,
-        };
+
+    for many in [most / 2, most / 2 + 1, old / 2, old / 2 + 1, most] {
         let name = format!("the heaviest check frees none, {many} copies");
-        run.fixed(&name, refused_by_old(&t).and(planned(&t, expected)));
+        run.fixed(&name, heaviest_planned(many));
+        let t = heaviest(many);
+        let before = if 2 * many > old { refused_by_old(&t) } else { stored(&t, 2 * many) };
+        run.fixed(&format!("{name}, stored"), before);
     }
-    let t = copies(gen::heaviest_frees_none(), most + 1);
+    let t = heaviest(most + 1);
     run.fixed("the heaviest check frees none, too many", refused(&gen::words(&t), 6));
 
     let t = regular(1024, 512, 2);
@@ -385,26 +432,31 @@ fn limit_cases(run: &mut Run) {
     let planned = plan(rng, &gen::words(&t)).and_then(|(_, words)| runs(rng, &t, &words, 3));
     run.fixed("regular 1,024", refused_by_old(&t).and(planned.map(|_| ())));
 
-    let t = copies(gen::weight_one_first(), most / 3 + 1);
-    run.fixed("weight 1, too many", refused(&gen::words(&t), 6));
-    run.fixed("weight 1, too many, stored", stored(&t));
+    // By the old rule two checks of each copy were set aside, now it is three.
+    for many in [most / 3 + 1, most / 2, most / 2 + 1, old / 2] {
+        let t = copies(gen::weight_one_first(), many);
+        run.fixed(&format!("weight 1, {many} copies, too many"), refused(&gen::words(&t), 6));
+        run.fixed(&format!("weight 1, {many} copies, stored"), stored(&t, 2 * many));
+    }
 }
 
-/// A star: 21 groups of three checks, the first linked with each of the others, and
-/// a place in no check. Few ones, and a dense inverse.
-fn star() -> Table {
+/// A star: groups of three checks, the first linked with each of the others, and a
+/// place in no check. Of an odd number of groups a check of each but one is set aside.
+/// Few ones, and a dense inverse.
+pub fn star(groups: usize) -> Table {
     let group = |v: usize| {
-        let linked = if v == 0 { 1..21 } else { 0..1 };
-        let mut second: Vec<usize> = [v, 21 + 2 * v].into_iter().chain(linked).collect();
+        let (a, b) = (groups + 2 * v, groups + 2 * v + 1);
+        let linked = if v == 0 { 1..groups } else { 0..1 };
+        let mut second: Vec<usize> = [v, a].into_iter().chain(linked).collect();
         second.sort();
-        [vec![v, 21 + 2 * v, 22 + 2 * v], second, vec![v, 22 + 2 * v]]
+        [vec![v, a, b], second, vec![v, b]]
     };
-    table(64, (0..21).flat_map(group).collect())
+    table(3 * groups + 1, (0..groups).flat_map(group).collect())
 }
 
 /// More than 4(W - M) additions, which is 496, where g(g + 1) is above 2(W - M).
 fn beyond_four() -> Result<(), String> {
-    let t = star();
+    let t = star(21);
     let length = 6 + 1 + 43 + 20 + 20 + 43 + 529;
     planned(&t, Planned { refusal: 0, length, kept: 63, ones: 187, gap: 20, additions: 529 })
 }

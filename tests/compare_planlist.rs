@@ -5,7 +5,7 @@ mod harness;
 mod model;
 
 use gen::Rng;
-use harness::{same, Run};
+use harness::{same, Met, Run};
 use std::io::Write;
 use std::process::{Command, Stdio};
 
@@ -40,8 +40,15 @@ fn bytes(words: &[u16]) -> Vec<u8> {
     words.iter().flat_map(|w| w.to_le_bytes()).collect()
 }
 
+static MOST: Met = Met::new("as many set aside as are taken");
+static ONE_MORE: Met = Met::new("one more set aside");
+
 fn random_case(program: &str, rng: &mut Rng) -> Result<(), String> {
-    let t = if rng.once_in(3) { gen::gap_table(rng) } else { gen::table(rng) };
+    let t = match rng.below(6) {
+        0 | 1 => gen::gap_table(rng),
+        2 => gen::limit_table(rng),
+        _ => gen::table(rng),
+    };
     let mut words = gen::words(&t);
     if rng.once_in(3) {
         for _ in 0..rng.range(1, 2) {
@@ -57,6 +64,11 @@ fn random_case(program: &str, rng: &mut Rng) -> Result<(), String> {
         }
         _ => {}
     }
+    if file == bytes(&gen::words(&t)) {
+        let gap = model::gap(&t);
+        MOST.count_if(gap == model::MAX_GAP);
+        ONE_MORE.count_if(gap == model::MAX_GAP + 1);
+    }
     listed(program, &file)
 }
 
@@ -65,6 +77,7 @@ fn main() {
     let program = std::env::var("PLANLIST").expect("PLANLIST names the program");
     let table_of = |(n, checks): (usize, Vec<Vec<usize>>)| model::table_words(n, 1, &checks);
     let b = table_of(gen::table_b());
+    let copies_of_b = |many| bytes(&table_of(gen::side_by_side(&vec![gen::table_b(); many])));
     // The size that is printed is the table's.
     let b_with = |s: u16| bytes(&[&b[..2], &[s], &b[3..]].concat());
     let largest = model::table_words(1024, 1024, &vec![(7..19).collect::<Vec<_>>(); 512]);
@@ -92,8 +105,12 @@ fn main() {
         ("far too long", vec![0; 1 << 20]),
         ("n 1,025", bytes(&[2, 1025, 1, 0, 0])),
         ("a place not below n", bytes(&[2, 2, 1, 1, 2, 2, 0, 2])),
-        ("32 copies of B", bytes(&table_of(gen::side_by_side(&vec![gen::table_b(); 32])))),
-        ("33 copies of B", bytes(&table_of(gen::side_by_side(&vec![gen::table_b(); 33])))),
+        ("19 copies of B", copies_of_b(19)),
+        ("20 copies of B", copies_of_b(20)),
+        ("21 copies of B", copies_of_b(21)),
+        ("32 copies of B", copies_of_b(32)),
+        ("33 copies of B", copies_of_b(33)),
+        ("a plan of many steps", bytes(&gen::words(&gen::filled(20)))),
         ("the heaviest check frees none", bytes(&table_of(gen::heaviest_frees_none()))),
         ("a check of weight 1 set aside", bytes(&table_of(gen::weight_one_first()))),
     ];
@@ -101,5 +118,6 @@ fn main() {
         run.fixed(name, listed(&program, file));
     }
     run.random(|rng, _| random_case(&program, rng));
+    run.met(&[&MOST, &ONE_MORE]);
     run.end()
 }

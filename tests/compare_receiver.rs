@@ -957,9 +957,13 @@ fn fixed_cases(run: &mut Run) {
     let full = |checks: usize| model::table_words(64, 1, &vec![(0..64).collect::<Vec<_>>(); checks]);
     run.fixed("6,144 ones", verified(&full(96), &[5; 64], CODEWORD));
     run.fixed("6,208 ones", refusal_of_all(&full(97), 64, 1, 3));
-    let copies = gen::side_by_side(&vec![gen::table_b(); 33]);
-    let copies = model::table_words(copies.0, 1, &copies.1);
-    run.fixed("33 copies of B, verified", verified(&copies, &[0; 132], CODEWORD));
+    // As many as the planner takes, and more.
+    for copies in [model::MAX_GAP, model::MAX_GAP + 1, model::OLD_MAX_GAP + 1] {
+        let (n, checks) = gen::side_by_side(&vec![gen::table_b(); copies]);
+        let table = model::table_words(n, 1, &checks);
+        let block: Vec<u8> = (0..n).map(|p| if p % 4 == 0 { 0 } else { p as u8 / 4 }).collect();
+        run.fixed(&format!("{copies} copies of B, verified"), verified(&table, &block, CODEWORD));
+    }
 
     // Causes in the order of their numbers.
     let bad_place: Vec<u16> = vec![2, 2, 1, 1, 2, 2, 0, 2];

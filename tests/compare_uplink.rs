@@ -1,10 +1,12 @@
 //! The uplink's library against the model: planner and encoder. The cases of one
 //! plan at many packet sizes are in sizes.rs, those of the check that is set aside
-//! and of stored plans in aside.rs.
+//! and of stored plans in aside.rs, those of how many are set aside and of how many
+//! steps there are in limits.rs.
 
 mod aside;
 mod gen;
 mod harness;
+mod limits;
 mod model;
 mod sizes;
 
@@ -49,8 +51,17 @@ fn bounds(answer: &Planned) -> Result<(), String> {
     Ok(())
 }
 
+/// What is claimed of an accepted plan: its bounds, and that it is well-formed.
+fn own_plan(answer: &Planned, plan: &[u32]) -> Result<(), String> {
+    bounds(answer)?;
+    let p = model::read_plan(&plan[..answer.length as usize]);
+    let steps = p.ok_or("the own plan isn't well-formed")?.steps.len();
+    let (g, ones) = (answer.gap as usize, answer.ones as usize);
+    holds("steps at most 2W + g(g + 1)", steps <= 2 * ones + g * (g + 1))
+}
+
 /// The library's answer and plan buffer, if they are the model's and an accepted
-/// plan keeps its bounds.
+/// plan is what is claimed of it.
 fn plan_into(
     rng: &mut Rng,
     table: &[u16],
@@ -77,8 +88,9 @@ fn plan_into(
     lent_plan.holds("plan, plan", &plan)?;
     lent_work.holds("plan, work", &work)?;
     if answer.refusal == 0 {
-        bounds(&answer)?;
+        own_plan(&answer, &plan)?;
     }
+    limits::count_planned(table, &answer);
     Ok((answer, plan))
 }
 
@@ -158,6 +170,7 @@ fn encode(
     same("encode", &given.0, &answer).map_err(told)?;
     equal("encode, block", &given.1, &block).map_err(told)?;
     equal("encode, scratch", &given.2, &scratch).map_err(told)?;
+    limits::count_encoded(plan, &given.0);
     Ok(given)
 }
 
@@ -284,7 +297,7 @@ fn damaged_plan_case(rng: &mut Rng) -> Result<(), String> {
         let count = |i: usize| words.get(i).map_or(0, |w| *w as usize);
         let (n, g, kept) = match rng.below(2) {
             0 => (p.n, p.g, p.kept),
-            _ => (count(1).min(1025), count(2).min(33), count(3)),
+            _ => (count(1).min(1025), count(2).min(model::OLD_MAX_GAP + 1), count(3)),
         };
         let size = gen::foreign_size(rng, p.n.max(n));
         let mut information = rng.bytes(n.saturating_sub(kept) * size);
@@ -365,7 +378,7 @@ fn brute_case(rng: &mut Rng) -> Result<(), String> {
 }
 
 fn random_case(rng: &mut Rng, number: u64) -> Result<(), String> {
-    match number % 24 {
+    match number % 28 {
         0..=2 => plan_case(rng),
         3..=6 => encode_case(rng),
         7..=8 => foreign_case(rng),
@@ -373,6 +386,7 @@ fn random_case(rng: &mut Rng, number: u64) -> Result<(), String> {
         12..=13 => damaged_table_case(rng),
         14..=15 => brute_case(rng),
         16..=17 => sizes::random_case(rng),
+        18..=21 => limits::random_case(rng),
         _ => aside::random_case(rng),
     }
 }
@@ -604,24 +618,6 @@ fn fixed_cases(run: &mut Run) {
     run.fixed("n 1,025", refused(&wide(1025, 2), 2));
     run.fixed("weight 64", planned(&one(64, 64), answer(64, 64)));
     run.fixed("weight 65", refused(&wide(65, 65), 3));
-    for copies in [1, 31, 32] {
-        let (n, checks) = gen::side_by_side(&vec![gen::table_b(); copies as usize]);
-        let length = 6 + copies + 15 * copies;
-        let expected = Planned {
-            refusal: 0,
-            length,
-            kept: 3 * copies,
-            ones: 9 * copies,
-            gap: copies,
-            additions: 9 * copies,
-        };
-        run.fixed(&format!("{copies} copies of B"), planned(&Table { n, s: 1, checks }, expected));
-    }
-    for copies in [33, 34, 64, 170] {
-        let (n, checks) = gen::side_by_side(&vec![gen::table_b(); copies]);
-        run.fixed(&format!("{copies} copies of B"), refused(&model::table_words(n, 1, &checks), 6));
-    }
-
     let full = |checks: usize| model::table_words(64, 1, &vec![(0..64).collect::<Vec<_>>(); checks]);
     run.fixed("6,208 ones", refused(&full(97), 3));
     run.fixed("6,144 ones", plan(&mut Rng::new(0, 0), &full(96)).and_then(|p| same("M", &p.0.kept, &1)));
@@ -642,8 +638,7 @@ fn fixed_cases(run: &mut Run) {
             got.and_then(|p| same("answer", &p.0, &Planned::refused(refusal))),
         );
     };
-    let (n, checks) = gen::side_by_side(&vec![gen::table_b(); 33]);
-    let beyond = model::table_words(n, 1, &checks);
+    let beyond = gen::words(&limits::copies_of_b(model::MAX_GAP + 1));
     order("plan, 1 before 2", &[3, 0, 0, 600], 0, 0, 1);
     order("plan, 2 before 3", &[2, 0, 1, 1, 65], 0, 0, 2);
     order("plan, 3 before 4", &[2, 2, 1, 1, 3, 2, 0, 9], 0, 0, 3);
@@ -670,7 +665,7 @@ fn fixed_cases(run: &mut Run) {
         ("n with another count", changed(1, 6), 9),
         ("n 1,025", changed(1, 1025), 9),
         ("g over M", changed(2, 4), 9),
-        ("g 33", changed(2, 33), 9),
+        ("g over M and over its limit", changed(2, model::MAX_GAP as u32 + 1), 9),
         ("M over n", changed(3, 6), 9),
         ("M with another count", changed(3, 2), 9),
         ("count of information", changed(4, 3), 9),
@@ -698,24 +693,14 @@ fn fixed_cases(run: &mut Run) {
     let mut longer = right.clone();
     longer.push(clear(0));
     plans.push(("one word more", longer, 9));
-    let with_steps = |count: usize| {
-        let mut words = vec![3, 2, 0, 2, 0, count as u32];
-        words.extend((0..count).map(|i| if i % 3 == 0 { clear(i % 2) } else { add(0, 1) }));
-        words
-    };
-    plans.push(("13,344 steps", with_steps(13_344), 0));
-    plans.push(("13,345 steps", with_steps(13_345), 9));
     let with_kept = |kept: usize| {
-        let mut words = vec![3, 600, 32, kept as u32, 600 - kept as u32];
+        let mut words = vec![3, 600, 7, kept as u32, 600 - kept as u32];
         words.extend(0..600 - kept as u32);
-        words.extend([1, clear(631)]);
+        words.extend([1, clear(606)]);
         words
     };
     plans.push(("M 512 of 600", with_kept(512), 0));
     plans.push(("M 513 of 600", with_kept(513), 9));
-    let with_gap = |g: usize| vec![3, 40, g as u32, 40, 0, 1, clear(39 + g)];
-    plans.push(("gap 32", with_gap(32), 0));
-    plans.push(("gap 33", with_gap(33), 9));
     let with_places = |n: usize| {
         let mut words = vec![3, n as u32, 0, 1, n as u32 - 1];
         words.extend(1..n as u32);
@@ -746,10 +731,13 @@ fn fixed_cases(run: &mut Run) {
 }
 
 fn main() {
-    let mut run = Run::from_arguments(6000);
+    let mut run = Run::from_arguments(7000);
     fixed_cases(&mut run);
     sizes::fixed_cases(&mut run);
     aside::fixed_cases(&mut run);
+    limits::fixed_cases(&mut run);
     run.random(random_case);
+    run.met(&limits::ALL_MET);
+    run.met(&[&aside::STORED_RUN, &aside::STORED_REFUSED]);
     run.end()
 }

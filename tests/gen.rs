@@ -173,15 +173,19 @@ fn within_limits(checks: Checks) -> Checks {
     kept
 }
 
+fn move_places(rng: &mut Rng, n: usize, checks: &mut Checks) {
+    let mut places: Vec<usize> = (0..n).collect();
+    rng.shuffle(&mut places);
+    for c in checks.iter_mut() {
+        c.iter_mut().for_each(|p| *p = places[*p]);
+        c.sort();
+    }
+}
+
 /// Duplicate, dependent, empty and weight 1 checks; places and checks moved.
 fn vary(rng: &mut Rng, n: usize, checks: &mut Checks) {
     if rng.once_in(3) {
-        let mut places: Vec<usize> = (0..n).collect();
-        rng.shuffle(&mut places);
-        for c in checks.iter_mut() {
-            c.iter_mut().for_each(|p| *p = places[*p]);
-            c.sort();
-        }
+        move_places(rng, n, checks);
     }
     for _ in 0..rng.pick(&[0, 0, 0, 1, 2, 4]) {
         let extra = match rng.below(4) {
@@ -243,9 +247,9 @@ fn shape(rng: &mut Rng) -> (usize, Checks) {
             let column = rng.range(1, 4);
             (n, staircase(rng, n, m, column))
         }
-        // Gaps from 1 to beyond 32: dense checks, some with a staircase.
+        // Gaps from 1 to beyond MAX_GAP: dense checks, some with a staircase.
         28..=30 => {
-            let dense = rng.range(1, 44);
+            let dense = rng.range(1, model::MAX_GAP + 12);
             let stairs = rng.range(0, 20);
             let n = dense + stairs + rng.range(1, 24);
             let mut checks: Checks = (0..dense)
@@ -261,7 +265,7 @@ fn shape(rng: &mut Rng) -> (usize, Checks) {
         }
         31..=33 => {
             let parts = gap_parts();
-            let many = rng.range(1, 36);
+            let many = rng.range(1, model::MAX_GAP + 4);
             let only = rng.below(parts.len() + 1);
             let chosen: Vec<_> = (0..many)
                 .map(|_| {
@@ -272,7 +276,7 @@ fn shape(rng: &mut Rng) -> (usize, Checks) {
             side_by_side(&chosen)
         }
         34 => {
-            let mut parts = vec![table_b(); rng.range(30, 34)];
+            let mut parts = vec![table_b(); near_gap(rng)];
             let n = rng.range(1, 9);
             let m = rng.range(0, 3);
             let heaviest = n.min(3);
@@ -421,6 +425,106 @@ pub fn gap_table(rng: &mut Rng) -> Table {
         }
     };
     vary(rng, n, &mut checks);
+    Table { n, s: size(rng, n), checks: within_limits(checks) }
+}
+
+// Tables of which about MAX_GAP checks are set aside.
+
+fn near_gap(rng: &mut Rng) -> usize {
+    rng.range(model::MAX_GAP - 2, model::MAX_GAP + 2)
+}
+
+/// Copies of B, and parts of which no check is set aside.
+fn copies_among_stairs(rng: &mut Rng) -> (usize, Checks) {
+    let mut parts = vec![table_b(); near_gap(rng)];
+    for _ in 0..rng.below(4) {
+        let m = rng.range(1, 30);
+        let n = m + rng.range(1, 40);
+        let column = rng.range(1, 3);
+        parts.push((n, staircase(rng, n, m, column)));
+    }
+    rng.shuffle(&mut parts);
+    side_by_side(&parts)
+}
+
+/// Groups of three checks, of most of which one is set aside. The second also has
+/// first places of other groups, so that the inverse has many ones.
+fn linked_groups(rng: &mut Rng) -> (usize, Checks) {
+    let groups = near_gap(rng) + rng.below(3);
+    let seldom = rng.pick(&[3, 6, 12]);
+    let mut checks = Vec::new();
+    for v in 0..groups {
+        let (a, b) = (groups + 2 * v, groups + 2 * v + 1);
+        let mut second: Vec<usize> = (0..groups).collect();
+        second.retain(|u| *u == v || rng.once_in(seldom));
+        second.push(a);
+        checks.extend([vec![v, a, b], second, vec![v, b]]);
+    }
+    (3 * groups + rng.below(3), checks)
+}
+
+/// Any checks, of as many ones at each place as make it about so many.
+fn dense_checks(rng: &mut Rng) -> (usize, Checks) {
+    let (m, column) = rng.pick(&[(46, 7), (36, 9), (32, 12), (28, 15)]);
+    let m = m - 2 + rng.below(5);
+    let n = rng.range(m, m + m / 2);
+    (n, by_columns(rng, n, m, &[column]))
+}
+
+/// Groups of four checks that have place 1 in common, after three checks that have to do
+/// with all of them. As many are set aside as there are groups, each of two ones; the
+/// places from 2 on, one a group, are fitted and lie in three checks; and the inverse has
+/// as few zeros as it can. Place 0 carries information.
+fn dense_inverse(groups: usize) -> (usize, Checks) {
+    let (x, y) = (2 + groups, 3 + groups);
+    let (first, second) = (2..2 + groups / 2, 2 + groups / 2..2 + groups);
+    let mut checks = vec![
+        vec![x, y],
+        [0, 1].into_iter().chain(first).chain([x]).collect(),
+        second.chain([y]).collect(),
+    ];
+    for v in 0..groups {
+        let fitted = 2 + v;
+        let a = 4 + groups + 3 * v;
+        let (b, c) = (a + 1, a + 2);
+        checks.extend([vec![b, c], vec![1, a, b], vec![fitted, a, c], vec![0, fitted, a]]);
+    }
+    (4 + 4 * groups, checks)
+}
+
+/// These with others besides that have a place of their own: in all as many checks,
+/// places and ones as are allowed, and a plan of nearly two steps for each one.
+pub fn filled(gap: usize) -> Table {
+    let (places, mut checks) = dense_inverse(gap);
+    let more = model::MAX_CHECKS - checks.len();
+    let ones = model::MAX_ONES - checks.iter().map(|c| c.len()).sum::<usize>();
+    let n = model::MAX_PLACES;
+    let others = n - more - places;
+    for i in 0..more {
+        let weight = ones / more + (i < ones % more) as usize;
+        let place = |j: usize| places + (i * weight + j) % others;
+        let mut check: Vec<usize> = (1..weight).map(place).collect();
+        check.sort();
+        check.push(n - more + i);
+        checks.push(check);
+    }
+    Table { n, s: 1, checks }
+}
+
+pub fn limit_table(rng: &mut Rng) -> Table {
+    let (n, mut checks) = match rng.below(4) {
+        0 | 1 => copies_among_stairs(rng),
+        2 => linked_groups(rng),
+        _ => dense_checks(rng),
+    };
+    match rng.below(4) {
+        0 => {}
+        1 => vary(rng, n, &mut checks),
+        _ => {
+            move_places(rng, n, &mut checks);
+            rng.shuffle(&mut checks);
+        }
+    }
     Table { n, s: size(rng, n), checks: within_limits(checks) }
 }
 
@@ -635,28 +739,12 @@ pub fn wrong_length(rng: &mut Rng, right: usize) -> usize {
 
 // ------------------------------------------------------------------ plans
 
-/// A well-formed plan that need not make sense.
-pub fn foreign_plan(rng: &mut Rng) -> model::Plan {
-    let n = match rng.below(8) {
-        0..=3 => rng.range(1, 6),
-        4..=6 => rng.range(1, 60),
-        _ => rng.range(60, 1024),
-    };
-    let kept = match rng.below(4) {
-        0 => 0,
-        1 => n.min(512),
-        _ => rng.range(0, n.min(512)),
-    };
-    let g = rng.range(0, kept.min(32));
+/// A plan of these counts, well-formed but for the limits that they pass. It need not
+/// make sense.
+pub fn plan_of(rng: &mut Rng, n: usize, g: usize, kept: usize, count: usize) -> model::Plan {
     let information = rng.some_below(n, n - kept);
     let written: Vec<usize> =
         (0..n + g).filter(|slot| information.binary_search(slot).is_err()).collect();
-    let most = match rng.below(12) {
-        0..=8 => 40,
-        9 | 10 => 400,
-        _ => model::MAX_STEPS,
-    };
-    let count = if most == model::MAX_STEPS && rng.once_in(2) { most } else { rng.below(most) };
     let mut steps = Vec::new();
     while steps.len() < count && !written.is_empty() {
         let to = rng.pick(&written);
@@ -668,6 +756,61 @@ pub fn foreign_plan(rng: &mut Rng) -> model::Plan {
         }
     }
     model::Plan { n, g, kept, information, steps }
+}
+
+/// One that is well-formed.
+pub fn foreign_plan(rng: &mut Rng) -> model::Plan {
+    let n = match rng.below(8) {
+        0..=3 => rng.range(1, 6),
+        4..=6 => rng.range(1, 60),
+        _ => rng.range(60, 1024),
+    };
+    let kept = match rng.below(4) {
+        0 => 0,
+        1 => n.min(512),
+        _ => rng.range(0, n.min(512)),
+    };
+    let most_gap = kept.min(model::MAX_GAP);
+    let g = if rng.once_in(4) { most_gap } else { rng.range(0, most_gap) };
+    let most = match rng.below(12) {
+        0..=8 => 40,
+        9 | 10 => 400,
+        _ => model::MAX_STEPS,
+    };
+    let count = if most == model::MAX_STEPS && rng.once_in(2) { most } else { rng.below(most) };
+    plan_of(rng, n, g, kept, count)
+}
+
+/// Beyond a limit: just so, or as far as was allowed before, or farther.
+fn beyond(rng: &mut Rng, limit: usize, old: usize) -> usize {
+    rng.pick(&[limit + 1, limit + 1, limit + 2, old, old + 1])
+}
+
+fn beyond_gap(rng: &mut Rng) -> usize {
+    beyond(rng, model::MAX_GAP, model::OLD_MAX_GAP)
+}
+
+fn beyond_steps(rng: &mut Rng) -> usize {
+    beyond(rng, model::MAX_STEPS, model::OLD_MAX_STEPS)
+}
+
+/// A plan at a limit or beyond it, or both, of g and of the steps.
+pub fn limit_plan(rng: &mut Rng) -> model::Plan {
+    let g = match rng.below(4) {
+        0 => rng.range(0, model::MAX_GAP),
+        1 => model::MAX_GAP,
+        2 => beyond_gap(rng),
+        _ => near_gap(rng),
+    };
+    let count = match rng.below(16) {
+        0 => beyond_steps(rng),
+        1 => model::MAX_STEPS,
+        2 => model::MAX_STEPS - 1,
+        _ => rng.below(60),
+    };
+    let kept = g.max(1) + rng.below(20);
+    let n = kept + rng.below(20);
+    plan_of(rng, n, g, kept, count)
 }
 
 /// A packet size for a plan that may have many steps.
@@ -728,10 +871,16 @@ pub fn damage_plan(rng: &mut Rng, w: &mut Vec<u32>, which: usize) {
                 }
             }
         }
-        5 => put(w, 2, rng.pick(&[33, kept + 1, 64, max])),
+        5 => {
+            let g = beyond_gap(rng);
+            put(w, 2, rng.pick(&[g, g, kept + 1, 64, max]));
+        }
         6 => put(w, 3, rng.pick(&[kept + 1, kept.wrapping_sub(1), n + 1, 513, max])),
         7 => put(w, 4, rng.pick(&[info + 1, info.wrapping_sub(1), 0, max, max - 5, 1 << 31])),
-        8 => put(w, count_at, rng.pick(&[0, 13_345, max, max - 6, 1 << 31])),
+        8 => {
+            let steps = beyond_steps(rng);
+            put(w, count_at, rng.pick(&[0, steps, max, max - 6, 1 << 31]));
+        }
         9 => {
             let count = at(w, count_at);
             put(w, count_at, rng.pick(&[count + 1, count.wrapping_sub(1)]));
@@ -748,10 +897,10 @@ pub fn damage_plan(rng: &mut Rng, w: &mut Vec<u32>, which: usize) {
         }
         // Wholes with one limit passed.
         13 => *w = whole(1025, 0, 1, 1024, 1),
-        14 => *w = whole(40, 33, 40, 0, 3),
+        14 => *w = whole(40, beyond_gap(rng), 40, 0, 3),
         15 => *w = whole(9, 3, 2, 7, 2),
         16 => *w = whole(600, 0, 513, 87, 2),
-        17 => *w = whole(3, 0, 1, 2, 13_345),
+        17 => *w = whole(3, 0, 1, 2, beyond_steps(rng)),
         18 => {
             *w = whole(3, 0, 4, 0, 1);
             put(w, 4, rng.pick(&[0, max]));

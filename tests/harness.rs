@@ -124,10 +124,29 @@ pub fn holds(name: &str, true_there: bool) -> Result<(), String> {
 
 // -------------------------------------------------------------------- run
 
+/// Something that random cases must come upon, and how often they did.
+pub struct Met {
+    name: &'static str,
+    times: AtomicU64,
+}
+
+impl Met {
+    pub const fn new(name: &'static str) -> Self {
+        Met { name, times: AtomicU64::new(0) }
+    }
+    /// Fixed cases don't count.
+    pub fn count_if(&self, met: bool) {
+        if met && CASE.load(Ordering::Relaxed) >= 0 {
+            self.times.fetch_add(1, Ordering::Relaxed);
+        }
+    }
+}
+
 pub struct Run {
     pub seed: u64,
     pub count: u64,
     pub first: u64,
+    usual: u64,
     passed: u64,
     failed: u64,
 }
@@ -149,6 +168,7 @@ impl Run {
             seed: get(0, 1),
             count: get(1, default_count),
             first: get(2, 0),
+            usual: default_count,
             passed: 0,
             failed: 0,
         };
@@ -184,6 +204,17 @@ impl Run {
             }
         }
         CASE.store(-1, Ordering::Relaxed);
+    }
+
+    /// Fails for what none of the random cases came upon, if they are as many as usual.
+    pub fn met(&mut self, all: &[&Met]) {
+        if self.count < self.usual {
+            return;
+        }
+        for met in all {
+            let times = met.times.load(Ordering::Relaxed);
+            self.fixed(met.name, holds("met by a random case", times > 0));
+        }
     }
 
     /// Whether no case has failed so far.

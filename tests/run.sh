@@ -132,7 +132,7 @@ for part in $parts; do
             whole "building compare_$part" rust "$here/compare_$part.rs" "compare_$part"
             # shellcheck disable=SC2086
             cases "compare_$part" "$build/compare_$part" "$seed" ${COUNT:-}
-            few=96
+            few=112
             [ "$part" = receiver ] && few=120
             [ "$part" = tables ] && few=960
             memory "compare_$part" "$few"
