@@ -27,22 +27,24 @@
  * must have as s the size that was encoded with.
  *
  * Earlier plans started with 4, n, s, g, M. A stored one is refused with 9:
- * write 3 for the 4 and leave out s, or make it anew from its table. bs_encode
- * has grown by size: build callers anew.
+ * write 3 for the 4 and leave out s (the limits below hold of it too), or make
+ * it anew from its table. bs_encode has grown by size: build callers anew.
  *
  * Which checks the planner sets aside has changed since (C-18). A table that
  * has any may get another plan than before: other information places, another
  * gap, and 6 where it was accepted or the other way round. A plan stored
- * before, in the layout above, still runs and gives the block that carries the
- * information at its own information places; go by those of the plan that
- * encodes.
+ * before, in the layout above and within the limits below, still runs and
+ * gives the block that carries the information at its own information places;
+ * go by those of the plan that encodes.
  *
  * Two limits are lower since (C-20): a plan sets at most BS_MOST_ASIDE checks
  * aside, where it was 32, and has at most BS_MOST_STEPS steps, where it was
- * 13,344. A table that needs more of the former is refused with 6. A stored
- * plan beyond either is refused with 9: make it anew from its table, where
- * the planner may set fewer aside now. No plan that bs_plan makes is refused
- * with 9, and all buffers have the lengths that they had.
+ * 13,344. A stored plan beyond either is refused with 9: make it anew from its
+ * table. If it was made before C-18, the planner may set fewer checks aside
+ * now; if more than BS_MOST_ASIDE still, the table is refused with 6, and
+ * there is no plan for it. The receiver's calls take such a table as before.
+ * No plan that bs_plan makes is refused with 9, and all buffers have the
+ * lengths that they had.
  *
  * No call writes a byte that isn't named here. Lengths count elements, not
  * bytes. Buffers lent to one call don't overlap, and a pointer isn't null even
@@ -59,11 +61,11 @@
  *      4  a place not below n, or not ascending in its check
  *      5  a buffer of wrong length
  *      6  more than BS_MOST_ASIDE checks set aside
- *      9  a plan that isn't well-formed: wrong counts or length, n over 1,024,
- *         g over BS_MOST_ASIDE or over M, M over n or 512, more than
- *         BS_MOST_STEPS steps, places not ascending below n, or a step that
- *         names no slot, adds a slot into itself, clears with from above 0,
- *         has an unknown kind or writes an information place
+ *      9  a plan that isn't well-formed: wrong counts or length, n outside 1
+ *         to 1,024, g over BS_MOST_ASIDE or over M, M over n or 512, more
+ *         than BS_MOST_STEPS steps, places not ascending below n, or a step
+ *         that names no slot, adds a slot into itself, clears with from above
+ *         0, has an unknown kind or writes an information place
  *
  * bs_plan looks for 1 to 6 in this order, bs_encode for 2, then 9, then 5.
  */

@@ -45,7 +45,7 @@ kept-weight cs = choose-few rowOf [] cs .1
 pub info-up : (ch : Chooses) (n : ℕ) (cs : List (List ℕ)) → Up 0 (planBy (ch .choice) n cs .info)
 info-up ch n cs = up-filter _ (down-rev (down-below n))
 
--- the limit on steps is that of 2W + g(g + 1) at the limits on ones and on checks set aside
+-- the limit on steps is what 2W + g(g + 1) comes to at the limits on ones and on checks set aside
 pub steps-bound : mostSteps ≡ 2 * mostOnes + mostAside * (mostAside + 1)
 steps-bound = refl
 

@@ -95,7 +95,7 @@ below-four = cons (low one refl) (cons (low two refl) (cons (low three refl) nil
     low : (c : List ℕ) → allPass (λ i. ltb i 4) c ≡ true → All (λ i. i < 4) c
     low c h = all-map (λ i e. ltb-true i 4 e) (pass-all (λ i. ltb i 4) c h)
 
--- nor has its row
+-- the row of such a check has no place from q + 4 on
 row-low : (q : ℕ) {c : List ℕ} → All (λ i. i < 4) c → (p : ℕ) → q + 4 ≤ p → bit p (rowOf (shifted q c)) ≡ false
 row-low q {c} a p h = bit-row p (shifted q c) ∙ has-par p (shifted q c) (has-low p (q + 4) h (places-low q a))
 

@@ -1,4 +1,4 @@
--- Copies of table B are peeled from the first to the last: of each the lowest check is set aside, then the highest, then the one between is taken.
+-- Copies of table B are peeled from the first to the last: of each the lowest check is set aside, then the highest is taken, then the one between.
 use mathlib.Core.Path.{_≡_, refl, ap, ap₂, _∙_, subst}
 use mathlib.Core.Bool.{Bool, true, false}
 use mathlib.Core.List.{List, [], _∷_, _++_, map}
@@ -19,7 +19,7 @@ use Rattle.theorems.specs.SideBySide.{shifted, copiesFrom}
 use Rattle.theorems.specs.Starred.{tableB}
 use Rattle.theorems.specs.StairsPeeled.{count-no, highest-at}
 
--- checks with four places at most, as B's are
+-- checks of places below four, as B's are
 abbrev Four : List (List ℕ) → Type 0
 Four cs = All (λ c. All (λ i. i < 4) c) cs
 

@@ -6,7 +6,6 @@ use native.Mathlib.Omega.{arith}
 use borrow.Author.Tests.{lt-ltb}
 use lib.Dec.{eqb}
 use lib.ListN.{length}
-use Rattle.plan.specs.Layout.{mostSteps}
 use Rattle.plan.proofs.Counts.{lengths-info, lengths-short, lengths-steps, lengths-last}
 use borrow.Author.Needs.{needs}
 use Rattle.plan.proofs.bad_lengths.Statement.{statement}
@@ -40,7 +39,7 @@ add-result : tie.Need-add-result
 add-result c = search needs
 
 returns-3 : tie.Need-returns-3
-returns-3 c = lt-ltb mostSteps _ (c .if3 .taken) ∙ lengths-steps (c .before .before .before .before .before .before .before .before .before .args .w .now) (omega arith) (omega arith) (omega arith)
+returns-3 c = lt-ltb _ _ (c .if3 .taken) ∙ lengths-steps (c .before .before .before .before .before .before .before .before .before .args .w .now) (omega arith) (omega arith) (omega arith)
 
 returns-4 : tie.Need-returns-4
 returns-4 c = let w = c .before .before .before .before .before .before .before .before .before .args .w .now in
