@@ -2,8 +2,9 @@
 //! the live check of greatest weight, and by C-18's, which takes the one with the
 //! most places that lie in exactly two live checks.
 //!
-//! By the old rule the model counts them. By the new one the library plans each
-//! table, and its answer and its plan are compared with the model's.
+//! By the old rule the model counts them, and plans by document 01's limit. By the
+//! new one the library plans each table, and its answer and its plan are compared
+//! with the model's. Beyond C-20's limit a stored plan of the old rule is refused.
 
 #![allow(dead_code)]
 
@@ -57,7 +58,7 @@ fn gap(t: &Table, choice: Choice) -> usize {
 }
 
 fn old_rule(t: &Table) -> Outcome {
-    let layout = model::layout_by(t, Choice::Weight);
+    let layout = model::layout_by(t, Choice::Weight, model::OLD_MAX_GAP);
     let additions = layout.ok().map(|l| model::adds(&model::steps(t, &l)));
     Outcome { gap: gap(t, Choice::Weight), additions }
 }
@@ -98,13 +99,14 @@ fn spread(values: impl Iterator<Item = usize>) -> Option<[usize; 3]> {
 fn print_rule(name: &str, rule: usize, tables: &[[Outcome; 2]]) {
     let of_rule = tables.iter().map(|both| &both[rule]);
     let [least, median, largest] = spread(of_rule.clone().map(|one| one.gap)).unwrap();
-    let refused = of_rule.filter(|one| one.additions.is_none()).count();
+    let refused = of_rule.clone().filter(|one| one.additions.is_none()).count();
+    let beyond = of_rule.filter(|one| one.gap > model::MAX_GAP).count();
     let accepted = tables.iter().filter(|both| both.iter().all(|one| one.additions.is_some()));
     let additions = spread(accepted.filter_map(|both| both[rule].additions));
     let additions = additions.map_or("-".to_string(), |[_, median, _]| median.to_string());
     let many = tables.len();
     println!(
-        "{name:<16} {many:>6} {least:>6} {median:>7} {largest:>8} {refused:>10} {additions:>10}"
+        "{name:<16} {many:>6} {least:>6} {median:>7} {largest:>8} {refused:>10} {beyond:>7} {additions:>10}"
     );
 }
 
@@ -117,7 +119,7 @@ fn main() {
     let (many, seed) = (argument(1, 200).max(1), argument(2, 1));
     for (n, m) in SIZES {
         println!("regular tables, n {n}, m {m}, every place in {COLUMN} checks, seed {seed}");
-        println!("rule             tables  least  median  largest  refused 6  additions");
+        println!("rule             tables  least  median  largest  refused 6  over {:<2}  additions", model::MAX_GAP);
         let both = |case: u64| {
             let t = regular(&mut Rng::new(seed, case), n, m);
             let new = new_rule(&t).unwrap_or_else(|differ| {

@@ -1,10 +1,11 @@
 #!/bin/sh
 # Checks set aside in regular tables, by the old rule and by C-18's:
 # bench/gaps.sh DIR [TABLES [SEED]]
-# DIR holds a libuplink.a, since C-18. So many tables of each size (default: 200)
+# DIR holds a libuplink.a, since C-20. So many tables of each size (default: 200)
 # are made from the seed (default: 1).
 # A line for each rule: the least, median and largest gap, the tables refused with
-# 6, and the additions of a plan. Status 1 if the library and the model differ.
+# 6 by the limit of the rule's time, those over the present limit, and the additions
+# of a plan. Status 1 if the library and the model differ.
 set -eu
 here=$(cd "$(dirname "$0")" && pwd)
 if [ $# -lt 1 ] || [ $# -gt 3 ] || [ ! -f "$1/libuplink.a" ]; then
