@@ -794,7 +794,7 @@ fn beyond_steps(rng: &mut Rng) -> usize {
     beyond(rng, model::MAX_STEPS, model::OLD_MAX_STEPS)
 }
 
-/// A plan at a limit or beyond it, or both, of g and of the steps.
+/// A plan with g near its limit, or the steps, or both: within, at or beyond them.
 pub fn limit_plan(rng: &mut Rng) -> model::Plan {
     let g = match rng.below(4) {
         0 => rng.range(0, model::MAX_GAP),
