@@ -116,3 +116,15 @@ both w a b k = bitXor (getD w (a * 16 + k) 0) (getD w (b * 16 + k) 0)
 pub both-turn : (w : List ℕ) (a b i : ℕ) {e : List ℕ} → b * 16 + 16 ≤ length w → i < 16 → Wrote w b (both w a b) i e
     → Wrote w b (both w a b) (i + 1) (set e (b * 16 + i) (bitXor (getD e (a * 16 + i) 0) (getD e (b * 16 + i) 0)))
 both-turn w a b i {e} room more d = wrote-turn _ room more d (ap₂ bitXor (d .rest (a * 16 + i) (λ p q. omega arith)) (d .rest (b * 16 + i) (λ p q. omega arith)))
+
+-- the words of row a of another buffer and those of row b
+abbrev pub across : List ℕ → ℕ → List ℕ → ℕ → ℕ → ℕ
+across u a w b k = bitXor (getD u (a * 16 + k) 0) (getD w (b * 16 + k) 0)
+
+pub across-turn : (u : List ℕ) (a : ℕ) (w : List ℕ) (b i : ℕ) {e : List ℕ} → b * 16 + 16 ≤ length w → i < 16 → Wrote w b (across u a w b) i e
+    → Wrote w b (across u a w b) (i + 1) (set e (b * 16 + i) (bitXor (getD u (a * 16 + i) 0) (getD e (b * 16 + i) 0)))
+across-turn u a w b i {e} room more d = wrote-turn _ room more d (ap (bitXor (getD u (a * 16 + i) 0)) (d .rest (b * 16 + i) (λ p q. omega arith)))
+
+pub added-across : (u : List ℕ) (a : ℕ) (w : List ℕ) (b : ℕ) {e : List ℕ} → Wrote w b (across u a w b) 16 e → RowPut w b (bitXor (row u a) (row w b)) e
+unfolding row
+added-across u a w b d = put-is (wrote-row d) (num-xor 64 (λ j. getD u (a * 16 + j) 0) (λ j. getD w (b * 16 + j) 0) (across u a w b) 16 (λ j h. refl))

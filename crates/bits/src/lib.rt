@@ -107,6 +107,19 @@ pub fn add_low(w: &mut [u64], a: usize, b: usize, l: usize)
     }
 }
 
+// row a of another buffer is added into row b
+pub fn add_from(w: &mut [u64], b: usize, from: &[u64], a: usize)
+    requires { ⌜ (b * 16 + 16 ≤ length (now w))
+        × (a * 16 + 16 ≤ length (now from)) ⌝ }
+    ensures { λ _. ⌜ RowPut (now (w .entry)) b (bitXor (row (now (from .entry)) a) (row (now (w .entry)) b)) (now (w .exit)) ⌝ }
+{
+    let mut i = 0;
+    while i < 16 {
+        w[b * 16 + i] = from[a * 16 + i] ^ w[b * 16 + i];
+        i += 1;
+    }
+}
+
 // every word becomes zero
 pub fn clear_work(work: &mut [u64])
     ensures { λ _. ⌜ now (work .exit) ≡ replicate (length (now (work .entry))) 0 ⌝ }

@@ -1,6 +1,6 @@
 -- Solving by rows that lead places: going up, a place that leads no row takes its start and one that leads a row what that row asks for; every row then has its value.
 use mathlib.Core.Path.{_≡_, sym, ap, _∙_}
-use mathlib.Core.Bool.{false, cond}
+use mathlib.Core.Bool.{true, false, cond}
 use Prim.Native.Nat.{ℕ, zero, suc, _<_, _≤_}
 use native.Mathlib.Omega.{arith}
 use lib.Dec.{eqb}
@@ -33,8 +33,12 @@ module _ {A : Type 0} (G : Group2 A) where
     solve-below : (n k : ℕ) → k ≤ n → (p : ℕ) → p < k → solve n p ≡ solve k p
     solve-below n k l p h = solve-stays n p (omega arith) ∙ sym (solve-stays k p h)
 
+    -- a free place
+    pub solve-free : (n p : ℕ) → p < n → isZero (f p) ≡ true → solve n p ≡ start p
+    solve-free n p h z = solve-stays n p h ∙ ap (λ b. cond b (start p) (v p ⊕ val G (solve p) p (f p))) z
+
     -- a lead: by the places below it
-    solve-lead : (n p : ℕ) → p < n → isZero (f p) ≡ false → solve n p ≡ v p ⊕ val G (solve n) p (f p)
+    pub solve-lead : (n p : ℕ) → p < n → isZero (f p) ≡ false → solve n p ≡ v p ⊕ val G (solve n) p (f p)
     solve-lead n p h z = solve-stays n p h ∙ ap (λ b. cond b (start p) (v p ⊕ val G (solve p) p (f p))) z
         ∙ ap (λ x. v p ⊕ x) (val-ext G (solve p) (solve n) p (f p) (λ q l. sym (solve-below n p (omega arith) q l)))
 
@@ -43,3 +47,8 @@ module _ {A : Type 0} (G : Group2 A) where
     solve-row l n p h z = val-short G (solve n) (suc p) n (f p) h (record { above = λ q k. l .low p q k })
         ∙ ap (λ b. cond b (solve n p) o ⊕ val G (solve n) p (f p)) (l .own p z)
         ∙ ap (λ x. x ⊕ val G (solve n) p (f p)) (solve-lead n p h z) ∙ cancel-r G (v p) _
+
+    -- a state whose rows have their values, lead by lead
+    pub row-lead : Lead f → (u : ℕ → A) (n p : ℕ) → p < n → isZero (f p) ≡ false → val G u n (f p) ≡ v p → u p ≡ v p ⊕ val G u p (f p)
+    row-lead l u n p h z e = sym (cancel-r G (u p) (val G u p (f p)))
+        ∙ ap (λ x. x ⊕ val G u p (f p)) (ap (λ b. cond b (u p) o ⊕ val G u p (f p)) (sym (l .own p z)) ∙ sym (val-short G u (suc p) n (f p) h (record { above = λ q k. l .low p q k })) ∙ e)

@@ -44,7 +44,7 @@ eliminate-requires c κs =
     let p = c .before .before .before .before .before .before .before .before .before .before .before .pre in
     let less = c .before .before .before .before .before .loop-test .taken in
     let v = places-at _ _ _ _ (p .0) (s .i) less _ _ (s .inv .4 .here) (c .before .before .before .wide .ensures) _ refl in
-    let f = s .inv .4 .few in
+    let f = s .inv .4 .rows .few in
     let nar = few-places _ _ _ _ (p .0) in
     let room = p .1 .0 in
     let l1 = s .inv .1 in
@@ -59,7 +59,7 @@ in-range c =
     let p = c .before .before .before .before .before .before .before .before .before .before .before .before .before .before .before .before .pre in
     let room = p .1 .0 in
     let less = c .before .before .before .before .before .before .before .before .before .before .loop-test .taken in
-    let few = s .inv .4 .few in
+    let few = s .inv .4 .rows .few in
     let most = few-checks _ _ _ _ (p .0) in
     let own = s .inv .2 in
     let lead = c .before .before .before .before .eliminate .ensures .most in
@@ -115,7 +115,7 @@ loop-again c =
     let d = told _ _ _ (s .inv .4 .here) wd (c .before .before .before .before .eliminate .ensures) in
     let long = d .put .len ∙ s .inv .1 in
     let less = c .before .before .before .before .before .before .before .before .before .before .loop-test .taken in
-    let few = s .inv .4 .few in
+    let few = s .inv .4 .rows .few in
     let own = s .inv .2 in
     let len = s .inv .1 in
     let room = p .1 .0 in
@@ -147,7 +147,7 @@ same-length-2 c = c .before .loop .inv .2
 same-length-3 : tie.Need-same-length-3 Inv-loop μ-loop
 same-length-3 c =
     let s = c .before .loop .inv in
-    let few = s .4 .few in
+    let few = s .4 .rows .few in
     let room = c .before .before .before .before .before .before .pre .1 .0 in
     front-length (s .4 .front) (omega arith)
 

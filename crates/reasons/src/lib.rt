@@ -1,0 +1,1 @@
+// The reason for one place after full repair: definitions and laws alone.
