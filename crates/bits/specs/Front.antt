@@ -1,9 +1,10 @@
 -- The front of a buffer: numbers are written there one after another, and the rest is kept.
-use mathlib.Core.Path.{_≡_, refl, sym, ap, ap₂, _∙_}
+use mathlib.Core.Path.{_≡_, refl, sym, ap, ap₂, _∙_, subst}
 use mathlib.Core.List.{List, [], _∷_, _++_}
 use Prim.Native.Nat.{ℕ, suc, _+_, _<_, _≤_}
 use native.Mathlib.Omega.{arith}
-use lib.ListN.{length, set, drop, length-append, length-drop}
+use lib.ListN.{length, set, take, drop, length-append, length-drop}
+use lib.Seq.{take-at}
 
 -- e is old with ps in front; k is how many they are
 pub record Front (ps old e : List ℕ) (k : ℕ) : Type 0 where
@@ -34,3 +35,15 @@ front-more {ps} {old} {e} {k} v f h =
 
 pub front-length : {ps old e : List ℕ} {k : ℕ} → Front ps old e k → k ≤ length old → length e ≡ length old
 front-length {ps} {old} f h = let c = f .count in ap length (f .list) ∙ simp (length-append, length-drop) (omega arith)
+
+-- the same list
+pub front-is : {ps qs old e : List ℕ} {k : ℕ} → Front ps old e k → ps ≡ qs → Front qs old e k
+front-is {old = old} {e = e} {k = k} f h = subst (λ l. Front l old e k) h f
+
+-- it has room
+pub front-room : {ps old e : List ℕ} {k : ℕ} → Front ps old e k → k ≤ length e
+front-room {ps} {old} f = let c = f .count in let l = ap length (f .list) ∙ length-append ps (drop (length ps) old) in omega arith
+
+-- the front alone
+pub front-taken : {ps old e : List ℕ} {k : ℕ} → Front ps old e k → take k e ≡ ps
+front-taken {ps} {old} f = ap₂ take (f .count) (f .list) ∙ take-at ps (drop (length ps) old) (length ps) refl

@@ -20,7 +20,7 @@ use Rattle.gf2.specs.RowValue.{row-lt}
 use Rattle.table.specs.Checks.{CheckIn, Places, checkSum, othersSum}
 use Rattle.table.specs.PacketLaws.{packets-length, packets-sized, view, sum-view}
 use Rattle.table.specs.Packets.{packets, joined, packetSum, lowestNonzero}
-use Rattle.table.specs.SumLaws.{check-below, places-in, lowest-zeros, lowest-is}
+use Rattle.table.specs.SumLaws.{places-low, lowest-zeros, lowest-is}
 use Rattle.erasure.specs.Restoring.{isLost, lostPlaces}
 use Rattle.bits.specs.Front.{Front}
 use Rattle.bits.specs.Row.{RowPut}
@@ -111,10 +111,6 @@ noted-in {x} {l} {all} d b n s low bytes = record {
 -- without a place that it doesn't have
 pub minus-none : (n : ℕ) {l : List ℕ} → All (λ q. q < n) l → minus l (n ∷ []) ≡ l
 minus-none n a = filter-all (λ q. not (has q (n ∷ []))) (all-map (λ q h. rw (eqb-lt q n h)) a)
-
--- the places of a check lie below n
-pub places-low : {t : List ℕ} {at weight n : ℕ} → Places t at weight n → All (λ q. q < n) (take weight (drop at t))
-places-low {t} {at} {weight} {n} p = check-below t at weight [] n 0 (places-in t at weight [] n 0 p (omega arith))
 
 module _ (n : ℕ) (lost : List ℕ) (f : ℕ → ℕ) {c : List ℕ} (low : All (λ q. q < n) c) where
   -- so do those that are summed for it

@@ -142,3 +142,7 @@ module _ (t : List ℕ) (at weight : ℕ) (b : List ℕ) (n s : ℕ) (ok : Check
   -- the sum has s bytes
   pub sum-length : length (packetSum s (packets s n b) (take weight (drop at t))) ≡ s
   sum-length = sum-view s (packets-sized s n b (ok .bytes)) {c = take weight (drop at t)} (rw (packets-length s n b) check-below) .0
+
+-- the places of a check lie below n
+pub places-low : {t : List ℕ} {at weight n : ℕ} → Places t at weight n → All (λ q. q < n) (take weight (drop at t))
+places-low {t} {at} {weight} {n} p = check-below t at weight [] n 0 (places-in t at weight [] n 0 p (omega arith))

@@ -12,7 +12,7 @@ use Rattle.lists.specs.Lists.{from}
 use Rattle.lists.specs.Numbers.{from-snoc}
 use Rattle.gf2.specs.Gf2.{XorGroup, rowOf, bit}
 use Rattle.gf2.specs.Group.{sumOver-append}
-use Rattle.bits.specs.Front.{Front, front-more}
+use Rattle.bits.specs.Front.{Front, front-none, front-more}
 use Rattle.bits.specs.Row.{row, RowPut}
 use Rattle.bits.specs.RowLaws.{put-put, put-is}
 use Rattle.reasons.specs.Reasons.{named}
@@ -21,7 +21,7 @@ use Rattle.tracing.specs.Tracing.{numberIn, Led}
 
 -- one number more of a list
 pub take-more : (l : List ℕ) (i : ℕ) → i < length l → take (i + 1) l ≡ take i l ++ (getD l i 0 ∷ [])
-take-more l i h = part-snoc l 0 i h
+take-more l i h = let e : 0 + i ≡ i = omega arith in part-snoc l 0 i (omega arith) ∙ ap (λ j. take i l ++ (getD l j 0 ∷ [])) e
 
 -- a row more among the feeders
 pub fed : (owner noted : List ℕ) (i o : ℕ) → i < length noted → o ≡ getD owner (getD noted i 0) 0 → {w x y : List ℕ} {r : ℕ}
@@ -29,11 +29,18 @@ pub fed : (owner noted : List ℕ) (i o : ℕ) → i < length noted → o ≡ ge
 fed owner noted i o h e a b = put-is (put-put a b) (ap₂ (λ v u. bitXor v (2 ^ (u - 1))) (a .here) e ∙ sym (ap rowOf (ap (map (numberIn owner)) (take-more noted i h) ∙ map-append (numberIn owner) (take i noted) (getD noted i 0 ∷ []))
     ∙ sumOver-append XorGroup (λ (q : ℕ). 2 ^ q) (map (numberIn owner) (take i noted)) (numberIn owner (getD noted i 0) ∷ []) ∙ ap (bitXor (rowOf (map (numberIn owner) (take i noted)))) (xor-zero-r (2 ^ numberIn owner (getD noted i 0)))))
 
+-- one of the first k
+pub taken-at : (l : List ℕ) (k i : ℕ) → i < k → getD (take k l) i 0 ≡ getD l i 0
+taken-at l k i h = let e : 0 + i ≡ i = omega arith in getD-part l 0 k i h ∙ ap (λ j. getD l j 0) e
+
+pub taken-length : (l : List ℕ) (k : ℕ) → k ≤ length l → length (take k l) ≡ k
+taken-length l k h = part-length l 0 k (omega arith)
+
 -- the place noted next leads a row
 pub led-at : (owner noted : List ℕ) (count i : ℕ) → count ≤ length noted → i < count → Led owner (take count noted)
     → (getD noted i 0 < length owner) × (0 < getD owner (getD noted i 0) 0) × (getD owner (getD noted i 0) 0 ≤ 1024)
-led-at owner noted count i room h l = subst (λ q. (q < length owner) × (0 < getD owner q 0) × (getD owner q 0 ≤ 1024)) (getD-part noted 0 count i h)
-    (all-at 0 (l .each) i (omega (arith, part-length noted 0 count room)))
+led-at owner noted count i room h l = subst (λ q. (q < length owner) × (0 < getD owner q 0) × (getD owner q 0 ≤ 1024)) (taken-at noted count i h)
+    (all-at 0 (l .each) i (omega (arith, taken-length noted count room)))
 
 -- ---- the list
 -- a bit more in the mask
@@ -47,17 +54,23 @@ named-more (true ∷ m) b (u ∷ U) h = ap (λ l. u ∷ l) (named-more m b U (om
 named-more (false ∷ m) b (u ∷ U) h = named-more m b U (omega arith)
 
 bits-more : (i y : ℕ) → bitsBelow (i + 1) y ≡ bitsBelow i y ++ (bit i y ∷ [])
-bits-more i y = let e : i + 1 ≡ suc i = omega arith in ap (λ k. bitsBelow k y) e ∙ ap (map (λ j. bit j y)) (from-snoc 0 i) ∙ map-append (λ j. bit j y) (from 0 i) ((0 + i) ∷ [])
-    ∙ ap (λ j. bitsBelow i y ++ (bit j y ∷ [])) (omega arith)
+bits-more i y = let e : i + 1 ≡ suc i = omega arith in let z : 0 + i ≡ i = omega arith in ap (λ k. bitsBelow k y) e ∙ ap (map (λ j. bit j y)) (from-snoc 0 i) ∙ map-append (λ j. bit j y) (from 0 i) ((0 + i) ∷ [])
+    ∙ ap (λ j. bitsBelow i y ++ (bit j y ∷ [])) z
 
 listed-more : (i y : ℕ) (U : List ℕ) → i < length U → named (bitsBelow (i + 1) y) U ≡ named (bitsBelow i y) U ++ cond (bit i y) (getD U i 0 ∷ []) []
 listed-more i y U h = ap (λ m. named m U) (bits-more i y) ∙ named-more (bitsBelow i y) (bit i y) U (omega (arith, bits-length i y))
     ∙ ap (λ j. named (bitsBelow i y) U ++ cond (bit i y) (getD U j 0 ∷ []) []) (bits-length i y)
 
--- a check more, or none
-pub listed-hit : {i y c : ℕ} {U old e : List ℕ} → i < length U → bit i y ≡ true → c < length old → Front (named (bitsBelow i y) U) old e c
-    → Front (named (bitsBelow (i + 1) y) U) old (set e c (getD U i 0)) (c + 1)
-listed-hit {i} {y} {c} {U} {old} {e} h b room f = subst (λ l. Front l old (set e c (getD U i 0)) (c + 1)) (sym (listed-more i y U h ∙ ap (λ v. named (bitsBelow i y) U ++ cond v (getD U i 0 ∷ []) []) b)) (front-more (getD U i 0) f room)
+-- nothing yet
+pub listed-start : (y : ℕ) (U : List ℕ) {old : List ℕ} → Front (named (bitsBelow 0 y) U) old old 0
+unfolding from
+listed-start y [] {old} = front-none old
+listed-start y (u ∷ U) {old} = front-none old
 
-pub listed-miss : {i y c : ℕ} {U old e : List ℕ} → i < length U → bit i y ≡ false → Front (named (bitsBelow i y) U) old e c → Front (named (bitsBelow (i + 1) y) U) old e c
-listed-miss {i} {y} {c} {U} {old} {e} h b f = subst (λ l. Front l old e c) (sym (listed-more i y U h ∙ ap (λ v. named (bitsBelow i y) U ++ cond v (getD U i 0 ∷ []) []) b ∙ append-nil (named (bitsBelow i y) U))) f
+-- a check more, or none
+pub listed-hit : (i y : ℕ) {c : ℕ} (U : List ℕ) {old e : List ℕ} → i < length U → bit i y ≡ true → c < length old → Front (named (bitsBelow i y) U) old e c
+    → Front (named (bitsBelow (i + 1) y) U) old (set e c (getD U i 0)) (c + 1)
+listed-hit i y {c} U {old} {e} h b room f = subst (λ l. Front l old (set e c (getD U i 0)) (c + 1)) (sym (listed-more i y U h ∙ ap (λ v. named (bitsBelow i y) U ++ cond v (getD U i 0 ∷ []) []) b)) (front-more (getD U i 0) f room)
+
+pub listed-miss : (i y : ℕ) {c : ℕ} (U : List ℕ) {old e : List ℕ} → i < length U → bit i y ≡ false → Front (named (bitsBelow i y) U) old e c → Front (named (bitsBelow (i + 1) y) U) old e c
+listed-miss i y {c} U {old} {e} h b f = subst (λ l. Front l old e c) (sym (listed-more i y U h ∙ ap (λ v. named (bitsBelow i y) U ++ cond v (getD U i 0 ∷ []) []) b ∙ append-nil (named (bitsBelow i y) U))) f

@@ -1,3 +1,4 @@
 pub mod Feeding
 pub mod Loading
 pub mod Taking
+pub mod Walking

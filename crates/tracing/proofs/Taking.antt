@@ -6,7 +6,6 @@ use Prim.Native.Nat.{ℕ, _+_, _-_, _*_, _<_, _≤_}
 use native.Mathlib.Omega.{arith}
 use lib.Bits.{bitXor}
 use lib.ListN.{length, getD, set, take, drop, List·getD-append}
-use lib.Seq.{take-at}
 use Rattle.lists.specs.ListLaws.{all-map, all-zip}
 use Rattle.lists.specs.Lists.{from}
 use Rattle.gf2.specs.EchelonLaws.{path-leads, path-low}
@@ -16,12 +15,12 @@ use Rattle.table.specs.Accepted.{Accepted, check-is, check-count}
 use Rattle.table.specs.Checks.{offset}
 use Rattle.table.specs.ChecksLaws.{offset-more}
 use Rattle.table.specs.Table.{checks}
-use Rattle.bits.specs.Front.{Front, front-none, front-more}
+use Rattle.bits.specs.Front.{Front, front-none, front-more, front-taken}
 use Rattle.bits.specs.Row.{row, RowPut}
-use Rattle.bits.specs.RowLaws.{row-other}
+use Rattle.bits.specs.RowLaws.{row-other, put-is}
 use Rattle.rows.specs.Choosing.{Choosing, choosing-none, choosing-owners, choosing-miss, choosing-hit, choosing-all}
-use Rattle.rows.specs.Leads.{leads, Lowered}
-use Rattle.rows.specs.LeadsLaws.{leads-none, leads-at, named, owners-lead}
+use Rattle.rows.specs.Leads.{leads, Owners, Reducible, Lowered, pathOf}
+use Rattle.rows.specs.LeadsLaws.{leads-none, leads-at, named, leads-kept, owners-kept, owners-lead}
 use Rattle.reasons.specs.Mirror.{mirrorRow, mirrorAt}
 use Rattle.reasons.specs.Trace.{Fed, fed-kept, fed-more}
 use Rattle.reasons.specs.Traced.{Kept, Numbered, noted-sum, noted-short}
@@ -29,7 +28,7 @@ use Rattle.reasons.specs.Used.{chosen}
 use Rattle.tracing.specs.Tracing.{numberIn, feeders, Led, Taken}
 
 -- ---- rows by their numbers
-module _ {w owner : List ℕ} {k : ℕ} (owned : (p : ℕ) → getD owner p 0 ≤ k) where
+module _ (w owner : List ℕ) {k : ℕ} (owned : (p : ℕ) → getD owner p 0 ≤ k) where
   pub numbered : Numbered (leads w owner) (row w) (numberIn owner) k
   numbered = record {
     is = λ q z. named (getD owner q 0) (λ e. absurd (lead-none q e z)) (λ e. leads-at w owner q e);
@@ -48,6 +47,24 @@ module _ {w owner : List ℕ} {k : ℕ} (owned : (p : ℕ) → getD owner p 0 �
       omega arith,
     )) (all-zip (path-low (leads w owner) n x) (path-leads (leads w owner) n x));
   }
+
+-- ---- a row put in, to be reduced
+module _ {w owner e : List ℕ} {k x : ℕ} (o : Owners w owner k) (d : RowPut w k x e) (n : ℕ) where
+  pub path-as : pathOf e owner k n ≡ path (leads w owner) n x
+  path-as = ap₂ (λ (F : ℕ → ℕ) (v : ℕ). path F n v) (leads-kept o d) (d .here)
+
+  pub reducible : Short n x → k * 16 + 16 ≤ length w → n ≤ 1024 → n ≤ length owner → Reducible e owner k n
+  reducible short room few long = record {
+    inside = let l = d .len in omega arith;
+    most = few;
+    places = long;
+    owners = owners-kept o d;
+    short = subst (Short n) (sym (d .here)) short;
+  }
+
+  -- the rows that lead the noted places are its feeders
+  pub noted-as : {old noted : List ℕ} {c : ℕ} → Front (pathOf e owner k n) old noted c → take c noted ≡ path (leads w owner) n x
+  noted-as f = front-taken f ∙ path-as
 
 -- ---- the state of the loop: ps are the numbers of the checks used so far
 pub record Takes (t : List ℕ) (m n : ℕ) (lost ids₀ w owner feed ids : List ℕ) (k i at : ℕ) : Type 0 where
@@ -103,7 +120,7 @@ module _ {t : List ℕ} {m n : ℕ} {lost ids₀ w owner feed ids e d : List ℕ
       last-at (x ∷ l) = last-at l
 
   is-numbered : Numbered (leads w owner) (row w) (numberIn owner) k
-  is-numbered = numbered (s .rows .owned)
+  is-numbered = numbered w owner (s .rows .owned)
 
   new-row : row e k ≡ bitXor (f (getD (s .ps ++ (i ∷ [])) k 0)) (val XorGroup (row e) k (row d k))
   new-row = low .put .here ∙ noted-sum n is-numbered (f i) ∙ ap₂ bitXor (ap f (sym new-at))
@@ -126,7 +143,7 @@ stop {t} {m} {n} {s} {lost} {ids₀} {w} {owner} {feed} {ids} {k} ok room z =
     let many : k ≡ length (chosen (mirrorRow n lost) (checks t)) = z .front .count ∙ sym (ap length is) in
     record {
       count = many;
-      used-are = ap₂ take (z .front .count) (z .front .list) ∙ take-at (z .ps) (drop (length (z .ps)) ids₀) (length (z .ps)) refl ∙ sym is;
+      used-are = front-taken (z .front) ∙ sym is;
       few = let h = z .rows .few in omega arith;
       owned = z .rows .owned;
       lead = z .rows .lead;
@@ -135,6 +152,13 @@ stop {t} {m} {n} {s} {lost} {ids₀} {w} {owner} {feed} {ids} {k} ok room z =
     }
 
 -- the check at its start
-pub told : {t : List ℕ} {m n s : ℕ} (ok : Accepted t m n s) (lost : List ℕ) (i : ℕ) → i < m → {at wt : ℕ} → at ≡ 5 + m + offset t i → wt ≡ getD t (4 + i) 0
-    → mirrorRow n lost (take wt (drop at t)) ≡ mirrorAt n lost (checks t) i
-told {t} {m} {n} {s} ok lost i h {at} {wt} a b = ap (mirrorRow n lost) (check-is t m n s ok i h at wt a b)
+module _ {t : List ℕ} {m n s : ℕ} (ok : Accepted t m n s) (lost : List ℕ) (i : ℕ) (h : i < m) {at wt : ℕ} (a : at ≡ 5 + m + offset t i) (b : wt ≡ getD t (4 + i) 0) where
+  row-told : mirrorRow n lost (take wt (drop at t)) ≡ mirrorAt n lost (checks t) i
+  row-told = ap (mirrorRow n lost) (check-is t m n s ok i h at wt a b)
+
+  pub told-row : {w owner e : List ℕ} {k r : ℕ} → Lowered w owner k n (mirrorRow n lost (take wt (drop at t))) e r → Lowered w owner k n (mirrorAt n lost (checks t) i) e r
+  told-row {w} {owner} {e} {k} {r} d = subst (λ (x : ℕ). Lowered w owner k n x e r) row-told d
+
+  pub told-feed : (w owner : List ℕ) {feed d : List ℕ} {k : ℕ} → RowPut feed k (rowOf (feeders w owner n (mirrorRow n lost (take wt (drop at t))))) d
+      → RowPut feed k (rowOf (feeders w owner n (mirrorAt n lost (checks t) i))) d
+  told-feed w owner g = put-is g (ap (λ x. rowOf (feeders w owner n x)) row-told)

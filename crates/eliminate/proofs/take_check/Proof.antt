@@ -8,7 +8,8 @@ use Rattle.table.specs.Checks.{Places}
 use Rattle.bits.specs.Front.{front-length}
 use Rattle.rows.specs.Leads.{leads}
 use Rattle.rows.specs.LeadsLaws.{lowered-as}
-use Rattle.eliminate.proofs.Taking.{received-few, noted-few, reducible, path-as, noted-part, noted-in, places-low, summed-low, whole, skipped, zero-lowered, judged, kept-sum}
+use Rattle.table.specs.SumLaws.{places-low}
+use Rattle.eliminate.proofs.Taking.{received-few, noted-few, reducible, path-as, noted-part, noted-in, summed-low, whole, skipped, zero-lowered, judged, kept-sum}
 use borrow.Author.Needs.{needs}
 use Rattle.eliminate.proofs.take_check.Statement.{statement}
 use Rattle.eliminate.proofs.take_check.Tie as tie
