@@ -22,11 +22,11 @@ use Rattle.table.specs.PacketLaws.{packets-length, packets-sized, view, sum-vie
 use Rattle.table.specs.Packets.{packets, joined, packetSum, lowestNonzero}
 use Rattle.table.specs.SumLaws.{places-low, lowest-zeros, lowest-is}
 use Rattle.erasure.specs.Restoring.{isLost, lostPlaces}
-use Rattle.bits.specs.Front.{Front}
+use Rattle.bits.specs.Front.{Front, front-is}
 use Rattle.bits.specs.Row.{RowPut}
 use Rattle.bits.specs.RowLaws.{put-is}
 use Rattle.rows.specs.Leads.{leads, Owners, Reducible, Lowered, pathOf}
-use Rattle.rows.specs.LeadsLaws.{leads-kept, owners-kept}
+use Rattle.rows.specs.LeadsLaws.{put-reducible, put-path}
 use Rattle.decided.specs.Decided.{lostRow}
 use Rattle.eliminate.specs.Eliminating.{receivedPlaces, summedPlaces, rowSum, Summed}
 
@@ -189,13 +189,7 @@ noted-few f n x g = let h = path-few f n x in let c = g .count in omega arith
 module _ {w owner e : List ℕ} {k : ℕ} (o : Owners w owner k) (t : List ℕ) (at weight n : ℕ) (lost : List ℕ) (places : Places t at weight n)
     (d : RowPut w k (lostRow lost (take weight (drop at t))) e) where
   pub reducible : k * 16 + 16 ≤ length w → n ≤ 1024 → n ≤ length owner → Reducible e owner k n
-  reducible room few long = record {
-    inside = let l = d .len in omega arith;
-    most = few;
-    places = long;
-    owners = owners-kept o d;
-    short = subst (Short n) (sym (d .here)) (short-lt n (lostRow lost (take weight (drop at t))) (row-lt n (all-filter (isLost lost) (places-low places))));
-  }
+  reducible room few long = put-reducible o d n (short-lt n (lostRow lost (take weight (drop at t))) (row-lt n (all-filter (isLost lost) (places-low places)))) room few long
 
   pub path-as : {old x : List ℕ} {c : ℕ} → Front (pathOf e owner k n) old x c → Front (path (leads w owner) n (lostRow lost (take weight (drop at t)))) old x c
-  path-as {old} {x} {c} g = subst (λ v. Front v old x c) (ap₂ (λ (F : ℕ → ℕ) (v : ℕ). path F n v) (leads-kept o d) (d .here)) g
+  path-as g = front-is g (put-path o d n)

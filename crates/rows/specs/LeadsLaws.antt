@@ -8,12 +8,12 @@ use lib.Dec.{eqb}
 use lib.ListN.{length, getD, set}
 use lib.Seq.{getD-set-same, getD-set-other}
 use borrow.Author.Tests.{eq-eqb, ne-eqb}
-use Rattle.gf2.specs.Gf2.{bit, Bits, Lead, down, isZero}
+use Rattle.gf2.specs.Gf2.{bit, Short, Bits, Lead, down, path, isZero}
 use Rattle.gf2.specs.Bit.{bit-zero}
 use Rattle.lists.specs.Tests.{eqb-true, eqb-false, byBool}
 use Rattle.bits.specs.Row.{row, RowPut}
 use Rattle.bits.specs.RowLaws.{row-other, put-put, put-is}
-use Rattle.rows.specs.Leads.{leads, Owners, Lowered}
+use Rattle.rows.specs.Leads.{leads, Owners, Reducible, Lowered, pathOf}
 
 -- ---- what owner names
 pub leads-none : (w owner : List ℕ) (p : ℕ) → getD owner p 0 ≡ 0 → leads w owner p ≡ 0
@@ -56,6 +56,20 @@ pub lowered-as : {w owner e f : List ℕ} {k n x r : ℕ} → Owners w owner k �
 lowered-as {w} {owner} {e} {f} {k} {n} {x} {r} o d l =
     let y : down (leads e owner) n (row e k) ≡ down (leads w owner) n x = ap₂ (λ (F : ℕ → ℕ) (v : ℕ). down F n v) (leads-kept o d) (d .here) in
     record { put = put-is (put-put d (l .put)) y; bits = subst (λ (v : ℕ). Bits v r) y (l .bits); most = l .most; free = l .free }
+
+-- a row put in, to be reduced
+module _ {w owner e : List ℕ} {k x : ℕ} (o : Owners w owner k) (d : RowPut w k x e) (n : ℕ) where
+  pub put-reducible : Short n x → k * 16 + 16 ≤ length w → n ≤ 1024 → n ≤ length owner → Reducible e owner k n
+  put-reducible short room few long = record {
+    inside = let l = d .len in omega arith;
+    most = few;
+    places = long;
+    owners = owners-kept o d;
+    short = subst (Short n) (sym (d .here)) short;
+  }
+
+  pub put-path : pathOf e owner k n ≡ path (leads w owner) n x
+  put-path = ap₂ (λ (F : ℕ → ℕ) (v : ℕ). path F n v) (leads-kept o d) (d .here)
 
 -- ---- rows named from the first on
 pub owners-below : {w owner : List ℕ} {k : ℕ} → ((p : ℕ) → getD owner p 0 ≤ k) → ((p : ℕ) → 0 < getD owner p 0 → Bits (row w (getD owner p 0 - 1)) (p + 1))

@@ -1,14 +1,11 @@
 -- The loop over the checks with the rows that fed each: `Takes` holds at each turn.
 use mathlib.Core.Path.{_≡_, refl, sym, ap, ap₂, _∙_, subst}
-use mathlib.Core.Bool.{true, false, true≢false}
 use mathlib.Core.List.{List, [], _∷_, _++_}
 use Prim.Native.Nat.{ℕ, _+_, _-_, _*_, _<_, _≤_}
 use native.Mathlib.Omega.{arith}
 use lib.Bits.{bitXor}
 use lib.ListN.{length, getD, set, take, drop, List·getD-append}
-use Rattle.lists.specs.ListLaws.{all-map, all-zip}
 use Rattle.lists.specs.Lists.{from}
-use Rattle.gf2.specs.EchelonLaws.{path-leads, path-low}
 use Rattle.gf2.specs.Gf2.{Short, XorGroup, rowOf, isZero, choose, path}
 use Rattle.gf2.specs.RowValue.{val, val-ext}
 use Rattle.table.specs.Accepted.{Accepted, check-is, check-count}
@@ -19,52 +16,14 @@ use Rattle.bits.specs.Front.{Front, front-none, front-more, front-taken}
 use Rattle.bits.specs.Row.{row, RowPut}
 use Rattle.bits.specs.RowLaws.{row-other, put-is}
 use Rattle.rows.specs.Choosing.{Choosing, choosing-none, choosing-owners, choosing-miss, choosing-hit, choosing-all}
-use Rattle.rows.specs.Leads.{leads, Owners, Reducible, Lowered, pathOf}
-use Rattle.rows.specs.LeadsLaws.{leads-none, leads-at, named, leads-kept, owners-kept, owners-lead}
+use Rattle.rows.specs.Leads.{leads, Lowered}
+use Rattle.rows.specs.LeadsLaws.{owners-lead}
 use Rattle.reasons.specs.Mirror.{mirrorRow, mirrorAt}
 use Rattle.reasons.specs.Trace.{Fed, fed-kept, fed-more}
 use Rattle.reasons.specs.Traced.{Kept, Numbered, noted-sum, noted-short}
 use Rattle.reasons.specs.Used.{chosen}
-use Rattle.tracing.specs.Tracing.{numberIn, feeders, Led, Taken}
-
--- ---- rows by their numbers
-module _ (w owner : List ℕ) {k : ℕ} (owned : (p : ℕ) → getD owner p 0 ≤ k) where
-  pub numbered : Numbered (leads w owner) (row w) (numberIn owner) k
-  numbered = record {
-    is = λ q z. named (getD owner q 0) (λ e. absurd (lead-none q e z)) (λ e. leads-at w owner q e);
-    few = λ q z. named (getD owner q 0) (λ e. absurd (lead-none q e z)) (λ e. let h = owned q in omega arith);
-  }
-    where
-      lead-none : (q : ℕ) → getD owner q 0 ≡ 0 → isZero (leads w owner q) ≡ false → ⊥
-      lead-none q e z = true≢false (sym (ap isZero (leads-none w owner q e)) ∙ z)
-
-  -- the places of a path lead rows
-  pub path-led : (n x : ℕ) → n ≤ length owner → k ≤ 1024 → Led owner (path (leads w owner) n x)
-  path-led n x long few = record {
-    each = all-map (λ q h. let j = h .0 in let a = owned q in (
-      omega arith,
-      named (getD owner q 0) (λ e. absurd (true≢false (sym (ap isZero (leads-none w owner q e)) ∙ h .1))) (λ e. e),
-      omega arith,
-    )) (all-zip (path-low (leads w owner) n x) (path-leads (leads w owner) n x));
-  }
-
--- ---- a row put in, to be reduced
-module _ {w owner e : List ℕ} {k x : ℕ} (o : Owners w owner k) (d : RowPut w k x e) (n : ℕ) where
-  pub path-as : pathOf e owner k n ≡ path (leads w owner) n x
-  path-as = ap₂ (λ (F : ℕ → ℕ) (v : ℕ). path F n v) (leads-kept o d) (d .here)
-
-  pub reducible : Short n x → k * 16 + 16 ≤ length w → n ≤ 1024 → n ≤ length owner → Reducible e owner k n
-  reducible short room few long = record {
-    inside = let l = d .len in omega arith;
-    most = few;
-    places = long;
-    owners = owners-kept o d;
-    short = subst (Short n) (sym (d .here)) short;
-  }
-
-  -- the rows that lead the noted places are its feeders
-  pub noted-as : {old noted : List ℕ} {c : ℕ} → Front (pathOf e owner k n) old noted c → take c noted ≡ path (leads w owner) n x
-  noted-as f = front-taken f ∙ path-as
+use Rattle.tracing.specs.Tracing.{numberIn, feeders, Taken}
+use Rattle.tracing.specs.TracingLaws.{numbered}
 
 -- ---- the state of the loop: ps are the numbers of the checks used so far
 pub record Takes (t : List ℕ) (m n : ℕ) (lost ids₀ w owner feed ids : List ℕ) (k i at : ℕ) : Type 0 where

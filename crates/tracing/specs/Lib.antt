@@ -1,1 +1,2 @@
 pub mod Tracing
+pub mod TracingLaws
