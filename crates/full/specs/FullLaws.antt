@@ -51,7 +51,7 @@ module _ (t b map work : List ℕ) where
   fitting-refusal f = at-own (f .old .table) ∙ rw (eq-eqb (length b) (places t * size t) (f .old .block), eq-eqb (length map) (places t) (f .old .map-length), eq-eqb (length work) workWords (f .room), f .old .map-bytes)
 
   -- the other way: no cause up to 7
-  fits : NoneHolds ((wrongBuffers t b map work, 5) ∷ (byteOver map, 7) ∷ []) → refusal t ≡ 0 → FittingAll t b map work
+  pub fits : NoneHolds ((wrongBuffers t b map work, 5) ∷ (byteOver map, 7) ∷ []) → refusal t ≡ 0 → FittingAll t b map work
   fits (cons w (cons o n)) ok = record {
     old = old.fits t b map (cons (or-false-l (wrongLengths t b map) (wrongLength (length work) workWords) w) (cons o nil)) ok;
     room = eqb-true (length work) workWords (not-false (eqb (length work) workWords) (or-false-r (wrongLengths t b map) (wrongLength (length work) workWords) w));

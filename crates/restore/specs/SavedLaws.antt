@@ -27,7 +27,11 @@ module _ (z l sv : List ℕ) (at n : ℕ) (room : n ≤ length z) (inside : at +
 pub saved-room : (z l sv : List ℕ) (n : ℕ) → n ≤ length z → length l ≡ n → sv ≡ written z 0 (take n (drop 0 l)) → n ≤ length sv
 saved-room z l sv n room ll e = part-room z l sv 0 n room (omega arith) e
 
+-- the map in front of the buffer
+pub saved-is : (z l sv : List ℕ) (n : ℕ) → n ≤ length z → length l ≡ n → sv ≡ written z 0 (take n (drop 0 l)) → take n (drop 0 sv) ≡ l
+saved-is z l sv n room ll e = part-saved z l sv 0 n room (omega arith) e ∙ take-all n l (omega arith)
+
 pub put-back : (z l l₂ sv l₃ : List ℕ) (n : ℕ) → n ≤ length z → length l ≡ n → length l₂ ≡ n → sv ≡ written z 0 (take n (drop 0 l)) → l₃ ≡ written l₂ 0 (take n (drop 0 sv)) → l₃ ≡ l
 put-back z l l₂ sv l₃ n room ll l2 e g =
     g ∙ written-whole l₂ (take n (drop 0 sv)) (part-length sv 0 n (let r = saved-room z l sv n room ll e in omega arith) ∙ sym l2)
-    ∙ part-saved z l sv 0 n room (omega arith) e ∙ take-all n l (omega arith)
+    ∙ saved-is z l sv n room ll e

@@ -11,7 +11,7 @@ use Rattle.full.specs.Full.{wrongBuffers, clashing, fullRefusal, fullBlockAfter
 use Rattle.reasons.specs.Reasons.{kindOf, Listed}
 use Rattle.table.specs.FirstCause.{firstCause, wrongLength}
 use Rattle.table.specs.Table.{places, checks, tableCauses}
-use Rattle.why.specs.declared.Why.{Why}
+use Rattle.why.specs.declared.Reason.{Reason}
 
 -- "The reason buffer has exactly 1,024 16-bit numbers"
 abbrev pub reasonNumbers : ℕ
@@ -80,7 +80,7 @@ module _ (t b map work : List ℕ) (p : ℕ) (reason : List ℕ) where
   whyAnswer list = whyAnswerAt (whyRefusal t b map work p reason) (kindOf map (checks t) p) list whyMapAfter
 
 -- what the code answers
-abbrev pub whyAnswerOf : Why → WhyAnswer
+abbrev pub whyAnswerOf : Reason → WhyAnswer
 whyAnswerOf r = record {
   refusal = r .refusal;
   kind = r .kind;
@@ -92,7 +92,7 @@ whyAnswerOf r = record {
 }
 
 -- what the call answers, and what it leaves in block, map, work and reason: there is only one list for the place (reasons' listed-one)
-pub record Explains (t b map work : List ℕ) (p : ℕ) (reason : List ℕ) (r : Why) (b′ map′ work′ reason′ : List ℕ) : Type 0 where
+pub record Explains (t b map work : List ℕ) (p : ℕ) (reason : List ℕ) (r : Reason) (b′ map′ work′ reason′ : List ℕ) : Type 0 where
   pub list : List ℕ
   pub listed : whyRefusal t b map work p reason ≡ 0 → Listed (places t) (checks t) map p list
   pub report : whyAnswerOf r ≡ whyAnswer t b map work p reason list

@@ -1,0 +1,4 @@
+pub mod Answering
+pub mod Fitting
+pub mod Looking
+pub mod Telling
