@@ -6,7 +6,9 @@ use Rattle.merge.specs.Merge.{MergeAnswer}
 use Rattle.repair.specs.Repair.{RepairAnswer}
 use Rattle.receiver.specs.declared.FullRepair.{FullRepair}
 use Rattle.receiver.specs.declared.Merge.{Merge}
+use Rattle.receiver.specs.declared.Reason.{Reason}
 use Rattle.receiver.specs.declared.Repair.{Repair}
+use Rattle.why.specs.declared.Reason as why
 
 -- C has numbers: 1 or 0 for whether
 abbrev pub oneIf : Bool → ℕ
@@ -29,6 +31,17 @@ merged r = record {
   restored = r .restored;
   lost = r .lost;
   additions = r .additions;
+  check = r .check;
+  byte = r .byte;
+}
+
+abbrev pub reasoned : Reason → why.Reason
+reasoned r = record {
+  refusal = r .refusal;
+  kind = r .kind;
+  length = r .length;
+  restored = r .restored;
+  lost = r .lost;
   check = r .check;
   byte = r .byte;
 }

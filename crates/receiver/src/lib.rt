@@ -1,4 +1,4 @@
-// The receiver's library for C: the packet call, verification, repair, full repair and merging.
+// The receiver's library for C: the packet call, verification, repair, full repair, merging, and the reason for one place.
 ghost use mathlib.Core.Path.{_≡_};
 ghost use Prim.Native.Nat.{_≤_};
 ghost use lib.ListN.{length};
@@ -9,7 +9,8 @@ ghost use Rattle.full.specs.Full.{fullAnswer, fullBlockAfter, fullMapAfter, ful
 ghost use Rattle.faults.specs.Faults.{checkOf, byteOf};
 ghost use Rattle.aerials.specs.Aerials.{held};
 ghost use Rattle.merge.specs.Merge.{mergeAnswer, mergeAfter};
-ghost use Rattle.receiver.specs.Answers.{oneIf, repaired, fullyRepaired, merged};
+ghost use Rattle.why.specs.Why.{Explains};
+ghost use Rattle.receiver.specs.Answers.{oneIf, repaired, fullyRepaired, merged, reasoned};
 use verify::Verified;
 
 // Where in the block a packet lies: 0 and 0 on refusal.
@@ -213,5 +214,44 @@ pub extern "C" fn bs_merge(
         additions: m.additions,
         check: m.check,
         byte: m.byte,
+    }
+}
+
+// What the reason for one place reports: the refusal, 0 for none; its kind, 1 received, 2 restored, 3 lost; the
+// length of its list; full repair's counts; check and byte are 0.
+#[repr(C)]
+pub struct Reason {
+    pub refusal: u32,
+    pub kind: u32,
+    pub length: u32,
+    pub restored: u32,
+    pub lost: u32,
+    pub check: u32,
+    pub byte: u32,
+}
+
+#[no_mangle]
+pub extern "C" fn bs_why(
+    table: &[u16],
+    block: &mut [u8],
+    map: &mut [u8],
+    work: &mut [u64],
+    place: usize,
+    reason: &mut [u16],
+) -> Reason
+    ensures { λ r. ⌜
+        Explains (now (table .entry)) (now (block .entry)) (now (map .entry)) (now (work .entry)) place (now (reason .entry))
+        (reasoned r) (now (block .exit)) (now (map .exit)) (now (work .exit)) (now (reason .exit))
+        ⌝ }
+{
+    let w = why::why(table, block, map, work, place, reason);
+    Reason {
+        refusal: w.refusal,
+        kind: w.kind,
+        length: w.length,
+        restored: w.restored,
+        lost: w.lost,
+        check: w.check,
+        byte: w.byte,
     }
 }
