@@ -275,6 +275,9 @@ fn asked_again(
 
 // --------------------------------------------------------------- by trial
 
+/// A kind, and the list that goes with it.
+type Told<'a> = (u32, &'a [usize]);
+
 /// Whether the library's full repair restores a place of a block of zeros.
 fn restores(
     rng: &mut Rng,
@@ -291,38 +294,45 @@ fn restores(
 }
 
 /// A check isn't used if it, given one more place that is lost, restores this together
-/// with lower checks.
+/// with lower checks. Not tried where a table has no room for that place.
 fn used(rng: &mut Rng, t: &Table, lost: &[usize], check: usize) -> Result<bool, String> {
     let mut checks = t.checks[..=check].to_vec();
     checks[check].push(t.n);
+    if model::look_over(&model::table_words(t.n + 1, 1, &checks)).is_err() {
+        return Ok(true);
+    }
     let more = [lost, &[t.n]].concat();
     Ok(!restores(rng, t.n + 1, &checks, &more, t.n)?)
 }
 
 /// The listed checks are used; they restore the place, and not without each. No place of
-/// a set can be left out, whatever lower ones take its part.
+/// a set can be left out, whatever lower ones take its part. So many numbers of the list
+/// are tried.
 fn by_trial(
     rng: &mut Rng,
     t: &Table,
     lost: &[usize],
     place: usize,
-    answer: &Reason,
-    list: &[usize],
+    (kind, list): Told,
+    most: usize,
 ) -> Result<(), String> {
-    if answer.kind == RESTORED {
+    let mut some = list.to_vec();
+    rng.shuffle(&mut some);
+    some.truncate(most);
+    if kind == RESTORED {
         let of = |list: &[usize]| -> Vec<Vec<usize>> {
             list.iter().map(|c| t.checks[*c].clone()).collect()
         };
         holds("restored by the list", restores(rng, t.n, &of(list), lost, place)?)?;
-        for c in list {
+        for c in &some {
             holds(&format!("check {c} is used"), used(rng, t, lost, *c)?)?;
             let others: Vec<usize> = list.iter().copied().filter(|d| d != c).collect();
             let restored = restores(rng, t.n, &of(&others), lost, place)?;
             holds(&format!("check {c} is needed"), !restored)?;
         }
     }
-    if answer.kind == LOST {
-        for p in list.iter().filter(|p| **p != place) {
+    if kind == LOST {
+        for p in some.iter().filter(|p| **p != place) {
             let lower = lost.iter().filter(|q| *q < p);
             let higher = list.iter().filter(|q| *q > p);
             let others: Vec<usize> = lower.chain(higher).chain([&place]).copied().collect();
@@ -408,6 +418,7 @@ fn ask_some(rng: &mut Rng, t: &Table, block: &[u8], map: &[u8]) -> Result<(), St
         if answer.refusal == 0 && rng.once_in(3) {
             whatever_the_packets(rng, t, map, place, &answer, &list)?;
             asked_again(rng, t, place, &answer, &list, &after)?;
+            by_trial(rng, t, &places_lost(map), place, (answer.kind, &list), 2)?;
         }
     }
     Ok(())
@@ -492,7 +503,7 @@ fn brute_case(rng: &mut Rng) -> Result<(), String> {
     let mut t = gen::small_table(rng, 9, 8);
     t.s = rng.range(1, 3);
     for _ in 0..2 {
-        let mut block = block_for(rng, &t);
+        let mut block = if rng.once_in(4) { block_for(rng, &t) } else { gen::codeword(rng, &t) };
         let map = lose(rng, t.n);
         age(rng, &mut block, t.s, &map);
         as_subsets_say(rng, &t, &block, &map)?;
@@ -512,7 +523,7 @@ fn trial_case(rng: &mut Rng) -> Result<(), String> {
     let place = rng.pick(&lost);
     let (answer, list, _) = ask(rng, &t, &block, &map, place)?;
     same("packets of one codeword", &answer.refusal, &0)?;
-    by_trial(rng, &t, &lost, place, &answer, &list)
+    by_trial(rng, &t, &lost, place, (answer.kind, &list), list.len())
 }
 
 pub fn random_case(rng: &mut Rng) -> Result<(), String> {
@@ -526,9 +537,6 @@ pub fn random_case(rng: &mut Rng) -> Result<(), String> {
 }
 
 // ------------------------------------------------------------- fixed cases
-
-/// A kind, and the list that goes with it.
-type Told<'a> = (u32, &'a [usize]);
 
 const HERE: Told = (RECEIVED, &[]);
 
@@ -562,20 +570,16 @@ fn told(
 fn reasons(table: &[u16], block: &[u8], lost: &[usize], each: &[Told]) -> Result<(), String> {
     let of = |kind: u32| each.iter().filter(|told| told.0 == kind).count() as u32;
     let counts = [of(RESTORED), of(LOST)];
-    same("places", &each.len(), &(table[1] as usize))?;
+    let (mut rng, t) = (Rng::new(21, 0), model::look_over(table).unwrap());
+    same("places", &each.len(), &t.n)?;
     for (place, one) in each.iter().enumerate() {
+        let at = |what| format!("place {place}: {what}");
         for fill in [0xffff, 0, 1] {
-            told(table, block, lost, place, *one, counts, fill)
-                .map_err(|what| format!("place {place}: {what}"))?;
+            told(table, block, lost, place, *one, counts, fill).map_err(at)?;
         }
-        let (kind, list) = *one;
-        let answer = accepted(kind, list, counts);
-        let t = model::look_over(table).unwrap();
-        by_trial(&mut Rng::new(21, 0), &t, lost, place, &answer, list)
-            .map_err(|what| format!("place {place}: {what}"))?;
+        by_trial(&mut rng, &t, lost, place, *one, t.n).map_err(at)?;
     }
-    let t = model::look_over(table).unwrap();
-    as_subsets_say(&mut Rng::new(21, 0), &t, block, &map_of(t.n, lost))
+    as_subsets_say(&mut rng, &t, block, &map_of(t.n, lost))
 }
 
 fn table_a_cases(run: &mut Run) {
@@ -724,7 +728,9 @@ fn chain_cases(run: &mut Run) {
         ("descending", |link| 1023 - link, |check| check),
         ("mixed", |link| 37 * link % 1024, |check| 101 * check % 512),
     ];
-    for (name, place_of, number_of) in chains {
+    // Bare buffers: a few.
+    let step = if bare() { 3 } else { 1 };
+    for (name, place_of, number_of) in chains.into_iter().step_by(step) {
         // Check i of the chain holds links i and i + 1.
         let mut checks = vec![vec![]; 512];
         for i in 0..512 {
@@ -744,7 +750,6 @@ fn chain_cases(run: &mut Run) {
             run.fixed(&format!("why, chain {name}, {what} lost, link {link}"), result);
         };
         let links: Vec<usize> = (0..=512).collect();
-        let step = if bare() { 300 } else { 1 };
         for link in [0, 300, 511].into_iter().step_by(step) {
             let list = (link..512).map(number_of).collect();
             chain("all but the last", &links[..512], link, RESTORED, list);
@@ -827,7 +832,7 @@ fn limit_cases(run: &mut Run) {
         let t = Table { n: 1024, s, checks };
         let sent = gen::codeword(&mut rng, &t);
         for share in [8, 46, 50, 54, 100] {
-            if bare() && share != 50 {
+            if bare() && (share != 50 || name == "most words") {
                 continue;
             }
             let map = map_of(t.n, &rng.some_below(t.n, t.n * share / 100));
