@@ -1,10 +1,11 @@
 //! The receiver's library against the model: repair, full repair, verification,
-//! packet. Cases of merging are in merge.rs.
+//! packet. Cases of merging are in merge.rs, those of reasons in why.rs.
 
 mod gen;
 mod harness;
 mod merge;
 mod model;
+mod why;
 
 use gen::Rng;
 use harness::{equal, holds, same, Lent, Run};
@@ -158,14 +159,14 @@ fn by_trial(rng: &mut Rng, table: &[u16], block: &[u8], map: &[u8]) -> Result<()
     }
 }
 
-/// The library's answer, block and map, if they and the work are the model's.
-fn full_repair_with(
+/// The library's answer, block, map and work; it wrote nowhere else.
+fn full_repair_alone(
     rng: &mut Rng,
     table: &[u16],
     block: &[u8],
     map: &[u8],
     work: &[u64],
-) -> Result<(FullyRepaired, Vec<u8>, Vec<u8>), String> {
+) -> Result<(FullyRepaired, Vec<u8>, Vec<u8>, Vec<u64>), String> {
     let lent_table = Lent::new(rng, table);
     let mut lent_block = Lent::new(rng, block);
     let mut lent_map = Lent::new(rng, map);
@@ -182,13 +183,29 @@ fn full_repair_with(
             lent_work.len(),
         )
     };
+    lent_table.kept("full repair, table")?;
+    lent_block.guarded("full repair, block")?;
+    lent_map.guarded("full repair, map")?;
+    lent_work.guarded("full repair, work")?;
+    let (block, map, work) = (lent_block.content(), lent_map.content(), lent_work.content());
+    Ok((answer, block.to_vec(), map.to_vec(), work.to_vec()))
+}
+
+/// The library's answer, block and map, if they and the work are the model's.
+fn full_repair_with(
+    rng: &mut Rng,
+    table: &[u16],
+    block: &[u8],
+    map: &[u8],
+    work: &[u64],
+) -> Result<(FullyRepaired, Vec<u8>, Vec<u8>), String> {
+    let (answer, after, map_after, work_after) = full_repair_alone(rng, table, block, map, work)?;
     let (mut block, mut map, mut work) = (block.to_vec(), map.to_vec(), work.to_vec());
     let expected = model::full_repair(table, &mut block, &mut map, &mut work);
     same("full repair", &answer, &expected)?;
-    lent_table.kept("full repair, table")?;
-    lent_block.holds("full repair, block", &block)?;
-    lent_map.holds("full repair, map", &map)?;
-    lent_work.holds("full repair, work", &work)?;
+    equal("full repair, block", &after, &block)?;
+    equal("full repair, map", &map_after, &map)?;
+    equal("full repair, work", &work_after, &work)?;
     Ok((answer, block, map))
 }
 
@@ -803,7 +820,7 @@ fn brute_full_case(rng: &mut Rng) -> Result<(), String> {
 }
 
 fn random_case(rng: &mut Rng, number: u64) -> Result<(), String> {
-    match number % 30 {
+    match number % 36 {
         0..=6 => repair_case(rng),
         7..=9 => verify_case(rng),
         10..=12 => damaged_case(rng),
@@ -817,7 +834,8 @@ fn random_case(rng: &mut Rng, number: u64) -> Result<(), String> {
         21 => brute_full_case(rng),
         22 | 23 => blame_case(rng),
         24 => brute_blame_case(rng),
-        _ => merge::random_case(rng),
+        25..=29 => merge::random_case(rng),
+        _ => why::random_case(rng),
     }
 }
 
@@ -1866,7 +1884,7 @@ fn full_refusal_cases(run: &mut Run) {
 }
 
 fn main() {
-    let mut run = Run::from_arguments(9960);
+    let mut run = Run::from_arguments(11952);
     fixed_cases(&mut run);
     depth_cases(&mut run);
     told_cases(&mut run);
@@ -1882,6 +1900,8 @@ fn main() {
     pattern_cases(&mut run);
     full_refusal_cases(&mut run);
     merge::fixed_cases(&mut run);
+    why::fixed_cases(&mut run);
     run.random(random_case);
+    run.met(&why::ALL_MET);
     run.end()
 }
