@@ -38,18 +38,22 @@ module _ (n : ℕ) (cs : List (List ℕ)) (lost : List ℕ) (p : ℕ) where
     lost-least = λ u v. absurd (true≢false (sym d ∙ v));
   }
 
-  module _ (low : All (λ c. All (λ q. q < n) c) cs) (h : p < n) where
-    -- the list
-    abbrev listFor : List ℕ
-    listFor = elim (isLost lost p) [ true ↦ elim (decided lost cs p) [ true ↦ restoredBy lost cs p | false ↦ leastList n cs lost p ] | false ↦ [] ]
+  -- one that computes
+  abbrev pub listFor : List ℕ
+  listFor =
+      elim (isLost lost p) [
+        | true ↦
+            elim (decided lost cs p) [ true ↦ restoredBy lost cs p | false ↦ leastList n cs lost p ]
+        | false ↦ []
+      ]
 
-    pub listed-some : Listed n cs lost p listFor
-    listed-some = record {
-      received = λ t. rw (t, listFor);
-      restored = λ t d. rw (t, listFor, d);
-      lost-up = λ t d. rw (t, listFor, d) (list-up n cs low lost p h t d);
-      lost-least = λ t d. rw (t, listFor, d) (list-least n cs low lost p h t d);
-    }
+  pub listed-some : All (λ c. All (λ q. q < n) c) cs → p < n → Listed n cs lost p listFor
+  listed-some low h = record {
+    received = λ t. rw (t, listFor);
+    restored = λ t d. rw (t, listFor, d);
+    lost-up = λ t d. rw (t, listFor, d) (list-up n cs low lost p h t d);
+    lost-least = λ t d. rw (t, listFor, d) (list-least n cs low lost p h t d);
+  }
 
 -- full repair's mark by the kind
 abbrev pub markOf : ℕ → ℕ

@@ -18,4 +18,5 @@ pub mod Starred
 pub mod StoredPlans
 pub mod TwoAerials
 pub mod Week
+pub mod WhyMissing
 pub mod Worked

@@ -20,6 +20,8 @@ use Rattle.full.specs.Full.{fullCauses, fullRefusal, fullAnswer, fullAnswerAt, 
 use Rattle.aerials.specs.Aerials.{Held}
 use Rattle.merge.specs.Merge.{mergeCauses, mergeRefusal, mergeAnswer}
 use Rattle.merge.specs.MergeLaws.{refusal-told}
+use Rattle.why.specs.Why.{whyCauses, whyRefusal, whyAnswer}
+use Rattle.why.specs.WhyLaws.{refusal-told as why-told}
 use Rattle.erasure.specs.Offered.{handedOn}
 use Rattle.erasure.specs.Restoring.{State, contradicting}
 use Rattle.faults.specs.Faults.{Fault}
@@ -65,6 +67,11 @@ full-refusals t b map work = subst (λ r. RefusedBy r (fullCauses t b map work))
     told : (r : ℕ) (after : List ℕ) → fullAnswerAt r after .refusal ≡ r
     told zero after = refl
     told (suc r) after = refl
+
+-- 1 to 5, 7, 14, 8, as the reason for a place reports it, whatever is listed
+pub why-refusals : (t b map work : List ℕ) (p : ℕ) (reason list : List ℕ) → RefusedBy (whyAnswer t b map work p reason list .refusal) (whyCauses t b map work p reason)
+unfolding whyRefusal
+why-refusals t b map work p reason list = subst (λ r. RefusedBy r (whyCauses t b map work p reason)) (sym (why-told t b map work p reason list)) (refused-by (whyCauses t b map work p reason) refl)
 
 -- 1 to 5, 7, 8, as merging reports it
 pub merge-refusals : (t : List ℕ) (one two out : Held) → RefusedBy (mergeAnswer t one two out .refusal) (mergeCauses t one two out)

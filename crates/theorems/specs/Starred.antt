@@ -4,7 +4,7 @@ use mathlib.Core.Path.{_≡_, refl}
 use mathlib.Core.Bool.{cond}
 use mathlib.Core.List.{List, [], _∷_, _++_, map}
 use Prim.Native.Nat.{ℕ, _+_, _-_, _*_}
-use lib.ListN.{length, replicate}
+use lib.ListN.{length, take, replicate}
 use Rattle.aerials.specs.Aerials.{Held}
 use Rattle.blame.specs.Blame.{blamed}
 use Rattle.erasure.specs.Restoring.{agreeing, blockIf, mapIf}
@@ -25,8 +25,13 @@ use Rattle.encoder.specs.Encoding.{encodeRefusalAt, encodeAnswer, encodeBlockAf
 use Rattle.repair.specs.Repair.{repairRefusal, repairAnswer, repairBlockAfter, repairMapAfter}
 use Rattle.repair.specs.RepairTheorems.{oldAnswer}
 use Rattle.full.specs.Full.{fullRefusal, fullAnswer, fullBlockAfter, fullMapAfter}
+use Rattle.gf2.specs.Gf2.{down}
+use Rattle.gf2.specs.Solving.{solve}
+use Rattle.reasons.specs.Echelon.{insert, leadsOf}
+use Rattle.reasons.specs.ListedLaws.{listFor}
+use Rattle.why.specs.Why.{whyRefusal, whyAnswer, whyBlockAfter, whyMapAfter, reasonAfter, reasonNumbers}
 use Rattle.table.specs.Packets.{lowestNonzero}
-use Rattle.table.specs.Table.{atSize}
+use Rattle.table.specs.Table.{atSize, places, checks}
 use Rattle.verify.specs.Verify.{verifyRefusal, verifyAnswer}
 
 -- ---- the tables and the block of P2
@@ -99,6 +104,27 @@ hears1 = record { block = 0x01 ∷ 0x02 ∷ 0xff ∷ 0x0e ∷ 0xff ∷ 0xff ∷ 
 abbrev hears2 : ℕ → Held
 hears2 v = record { block = 0xff ∷ 0xff ∷ 0x04 ∷ v ∷ 0xff ∷ 0x0b ∷ 0xff ∷ []; map = 1 ∷ 1 ∷ 0 ∷ 0 ∷ 1 ∷ 0 ∷ 1 ∷ [] }
 
+-- ---- C-21: three places of one byte, checks [1 2][2]
+abbrev table21 : List ℕ
+table21 = 2 ∷ 3 ∷ 1 ∷ 2 ∷ 2 ∷ 1 ∷ 3 ∷ 1 ∷ 2 ∷ 2 ∷ []
+
+-- P2's block with 2, 4, 5 lost; as it is afterwards, none of them restored
+abbrev lost245 : List ℕ
+lost245 = 0x01 ∷ 0x02 ∷ 0xff ∷ 0x0e ∷ 0xff ∷ 0xff ∷ 0x0d ∷ []
+
+abbrev zero245 : List ℕ
+zero245 = 0x01 ∷ 0x02 ∷ 0x00 ∷ 0x0e ∷ 0x00 ∷ 0x00 ∷ 0x0d ∷ []
+
+abbrev map245 : List ℕ
+map245 = 0 ∷ 0 ∷ 1 ∷ 0 ∷ 1 ∷ 1 ∷ 0 ∷ []
+
+-- P2's block with 11 at place 0, nothing lost
+abbrev wrong0 : List ℕ
+wrong0 = 0x11 ∷ 0x02 ∷ 0x04 ∷ 0x0e ∷ 0x08 ∷ 0x0b ∷ 0x0d ∷ []
+
+abbrev none0 : List ℕ
+none0 = replicate 7 0
+
 -- ---- what the calls give, as lists of numbers
 -- the planner's refusal, with buffers of the right lengths
 abbrev planning : List ℕ → List ℕ
@@ -122,6 +148,14 @@ answered w s information buffer scratch = let r = encodeAnswer w s information b
 abbrev pub mended : List ℕ → List ℕ → List ℕ → List (List ℕ)
 mended t b map = let r = repairAnswer t b map in
     (r .refusal ∷ r .restored ∷ r .lost ∷ r .additions ∷ []) ∷ (r .check ∷ r .byte ∷ []) ∷ repairBlockAfter t b map ∷ repairMapAfter t b map ∷ []
+
+-- the reason for place p, with work and reason buffer of the right lengths, the latter full of 9: refusal, kind and length of the list, restored
+-- and still lost, the buffer's first four numbers, the block and the map; the list is the only one that there is (theorems' list-exists)
+abbrev pub explained : List ℕ → List ℕ → List ℕ → ℕ → List (List ℕ)
+explained t b map p = let work : List ℕ = replicate workWords 0 in let reason : List ℕ = replicate reasonNumbers 9 in
+    let list = listFor (places t) (checks t) map p in let r = whyAnswer t b map work p reason list in
+    (r .refusal ∷ r .kind ∷ r .length ∷ []) ∷ (r .restored ∷ r .lost ∷ []) ∷ take 4 (reasonAfter t b map work p reason list)
+    ∷ whyBlockAfter t b map work p reason ∷ whyMapAfter t b map work p reason ∷ []
 
 -- the repair without C-17's rule: the same
 abbrev oldMended : List ℕ → List ℕ → List ℕ → List (List ℕ)
@@ -256,8 +290,19 @@ starred =
     -- C-20: 12,708 steps are taken, 12,709 refused with 9
     ∷ record { given = answered (stepsPlan 12708) 1 [] (9 ∷ []) []; wanted = (0 ∷ 0 ∷ []) ∷ (0 ∷ []) ∷ [] ∷ [] }
     ∷ record { given = answered (stepsPlan 12709) 1 [] (9 ∷ []) []; wanted = (9 ∷ 0 ∷ []) ∷ (9 ∷ []) ∷ [] ∷ [] }
+    -- C-21: checks [1 2][2], lost 1 and 2: place 2 by check 1 alone, since the feeders cancel; place 1 by both
+    ∷ record { given = explained table21 (0x05 ∷ 0xff ∷ 0xff ∷ []) (0 ∷ 1 ∷ 1 ∷ []) 2; wanted = (0 ∷ 2 ∷ 1 ∷ []) ∷ (2 ∷ 0 ∷ []) ∷ (1 ∷ 0 ∷ 0 ∷ 0 ∷ []) ∷ (0x05 ∷ 0x00 ∷ 0x00 ∷ []) ∷ (0 ∷ 2 ∷ 2 ∷ []) ∷ [] }
+    ∷ record { given = explained table21 (0x05 ∷ 0xff ∷ 0xff ∷ []) (0 ∷ 1 ∷ 1 ∷ []) 1; wanted = (0 ∷ 2 ∷ 2 ∷ []) ∷ (2 ∷ 0 ∷ []) ∷ (0 ∷ 1 ∷ 0 ∷ 0 ∷ []) ∷ (0x05 ∷ 0x00 ∷ 0x00 ∷ []) ∷ (0 ∷ 2 ∷ 2 ∷ []) ∷ [] }
+    -- C-21: table A, lost 2, 4, 5: the set 2 4 5 for each
+    ∷ record { given = explained tableA lost245 map245 2; wanted = (0 ∷ 3 ∷ 3 ∷ []) ∷ (0 ∷ 3 ∷ []) ∷ (2 ∷ 4 ∷ 5 ∷ 0 ∷ []) ∷ zero245 ∷ map245 ∷ [] }
+    ∷ record { given = explained tableA lost245 map245 4; wanted = (0 ∷ 3 ∷ 3 ∷ []) ∷ (0 ∷ 3 ∷ []) ∷ (2 ∷ 4 ∷ 5 ∷ 0 ∷ []) ∷ zero245 ∷ map245 ∷ [] }
+    ∷ record { given = explained tableA lost245 map245 5; wanted = (0 ∷ 3 ∷ 3 ∷ []) ∷ (0 ∷ 3 ∷ []) ∷ (2 ∷ 4 ∷ 5 ∷ 0 ∷ []) ∷ zero245 ∷ map245 ∷ [] }
+    -- C-21: a received place; 14 for a place not below n, before 8; 8 leaves the reason buffer
+    ∷ record { given = explained tableA lost245 map245 0; wanted = (0 ∷ 1 ∷ 0 ∷ []) ∷ (0 ∷ 3 ∷ []) ∷ (0 ∷ 0 ∷ 0 ∷ 0 ∷ []) ∷ zero245 ∷ map245 ∷ [] }
+    ∷ record { given = explained tableA wrong0 none0 7; wanted = (14 ∷ 0 ∷ 0 ∷ []) ∷ (0 ∷ 0 ∷ []) ∷ (9 ∷ 9 ∷ 9 ∷ 9 ∷ []) ∷ wrong0 ∷ none0 ∷ [] }
+    ∷ record { given = explained tableA wrong0 none0 6; wanted = (8 ∷ 0 ∷ 0 ∷ []) ∷ (0 ∷ 0 ∷ []) ∷ (9 ∷ 9 ∷ 9 ∷ 9 ∷ []) ∷ wrong0 ∷ none0 ∷ [] }
     ∷ []
 
 pub starred-cases : map (λ c. c .given) starred ≡ map (λ c. c .wanted) starred
-unfolding planningRefusalAt encodeRefusalAt repairRefusal mergeRefusal blamed fullRefusal verifyRefusal lowestNonzero planOfBy numbersBy alistWriteRefusalAt alistReadRefusalAt alistText alistTable numbersIn digitsWithin from
+unfolding planningRefusalAt encodeRefusalAt repairRefusal mergeRefusal blamed fullRefusal whyRefusal verifyRefusal lowestNonzero planOfBy numbersBy alistWriteRefusalAt alistReadRefusalAt alistText alistTable numbersIn digitsWithin from solve leadsOf insert down
 starred-cases = refl

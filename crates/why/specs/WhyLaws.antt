@@ -3,11 +3,11 @@ use mathlib.Core.Path.{_≡_, refl, sym, ap, ap₂, _∙_}
 use mathlib.Core.Bool.{Bool, true, false, cond, not, true≢false}
 use mathlib.Core.List.{List, [], _∷_, _++_}
 use mathlib.Core.Logic.{_≢_}
-use Prim.Native.Nat.{ℕ, zero, suc, _*_, _<_, _≤_}
+use Prim.Native.Nat.{ℕ, zero, suc, _-_, _*_, _<_, _≤_}
 use native.Mathlib.Omega.{arith}
 use borrow.Author.Tests.{eq-eqb, ne-eqb, not-false, ltb-true, ltb-false}
 use lib.Dec.{eqb, ltb}
-use lib.ListN.{length}
+use lib.ListN.{length, replicate}
 use Rattle.erasure.specs.Offered.{byteOver}
 use Rattle.full.specs.Full.{wrongBuffers, clashing, fullRefusal, fullBlockAfter, fullMapAfter, fullWorkAfter, FittingAll}
 use Rattle.full.specs.FullLaws.{fits, fitting-refusal, block-refused, map-refused, work-refused}
@@ -15,8 +15,9 @@ use Rattle.lists.specs.Lists.{All, All.nil, All.cons}
 use Rattle.lists.specs.Tests.{byBool, eqb-true, eqb-self, or-false-l, or-false-r}
 use Rattle.table.specs.FirstCause.{firstCause, wrongLength, NoneHolds}
 use Rattle.table.specs.FirstCauseLaws.{none-holds, none-refuses, first-decides, rest-decides, quiet}
-use Rattle.table.specs.Table.{places, size, tableCauses, refusal, workWords}
-use Rattle.why.specs.Why.{wrongLent, notBelow, earlyCauses, whyRefusal, asFull, whyBlockAfter, whyMapAfter, whyWorkAfter, reasonNumbers}
+use Rattle.reasons.specs.Reasons.{kindOf}
+use Rattle.table.specs.Table.{places, size, checks, tableCauses, refusal, workWords}
+use Rattle.why.specs.Why.{wrongLent, notBelow, earlyCauses, whyRefusal, whyAnswerAt, whyAnswer, asFull, whyBlockAfter, whyMapAfter, whyWorkAfter, reasonAfter, reasonNumbers}
 
 -- a refusal by causes of which none has the number k isn't k
 other-number : (k : ℕ) → eqb 0 k ≡ false → {cs : List (Bool × ℕ)} → All (λ c. eqb (c .1) k ≡ false) cs → eqb (firstCause cs) k ≡ false
@@ -82,6 +83,11 @@ module _ (t b map work : List ℕ) (p : ℕ) (reason : List ℕ) where
   unfolding whyRefusal
   refused-early ne = first-decides (earlyCauses t b map work p reason) ((clashing t b map, 8) ∷ []) ne
 
+  -- accepted: none of them holds
+  pub accepted-fits : whyRefusal t b map work p reason ≡ 0 → Fits
+  unfolding whyRefusal
+  accepted-fits h = early-fits (none-refuses (earlyCauses t b map work p reason) refl ((clashing t b map, 8) ∷ []) h .0)
+
   pub not-eight : eqb early 8 ≡ false
   not-eight = other-number 8 refl {cs = earlyCauses t b map work p reason} (cons refl (cons refl (cons refl (cons refl (cons refl (cons refl (cons refl nil)))))))
 
@@ -130,3 +136,18 @@ module _ (t b map work : List ℕ) (p : ℕ) (reason : List ℕ) where
 
     pub work-ran : whyWorkAfter t b map work p reason ≡ fullWorkAfter t b map work
     work-ran = rw (ran, whyWorkAfter)
+
+  -- ---- the answer
+  answer-told : (r kind : ℕ) (list after : List ℕ) → whyAnswerAt r kind list after .refusal ≡ r
+  answer-told zero kind list after = refl
+  answer-told (suc r) kind list after = refl
+
+  pub refusal-told : (list : List ℕ) → whyAnswer t b map work p reason list .refusal ≡ whyRefusal t b map work p reason
+  refusal-told list = answer-told (whyRefusal t b map work p reason) (kindOf map (checks t) p) list (whyMapAfter t b map work p reason)
+
+  -- accepted: by the kind and the list
+  pub answer-accepted : whyRefusal t b map work p reason ≡ 0 → (list : List ℕ) → whyAnswer t b map work p reason list ≡ whyAnswerAt 0 (kindOf map (checks t) p) list (whyMapAfter t b map work p reason)
+  answer-accepted h list = ap (λ r. whyAnswerAt r (kindOf map (checks t) p) list (whyMapAfter t b map work p reason)) h
+
+  pub buffer-accepted : whyRefusal t b map work p reason ≡ 0 → (list : List ℕ) → reasonAfter t b map work p reason list ≡ list ++ replicate (reasonNumbers - length list) 0
+  buffer-accepted h list = rw (h, reasonAfter)
