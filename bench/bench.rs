@@ -1,5 +1,5 @@
 //! Benchmarks of the libraries' calls, as ratios within one run. Built with
-//! --cfg uplink (plan, encode), --cfg receiver (repair, full repair, merge,
+//! --cfg uplink (plan, encode), --cfg receiver (repair, full repair, why, merge,
 //! verify), --cfg tables (make, read, write), or some of them.
 //!
 //! A round is one call of each kind in turn: the library's, the pure
@@ -278,6 +278,60 @@ fn merges(
     }
 }
 
+// --------------------------------------------------------------- the reason
+
+/// The mark that full repair leaves at the place that is asked for. Half of the
+/// places are lost.
+const WHYS: [(&str, u8); 2] = [("why restored", 2), ("why lost", 1)];
+
+/// Microseconds, how many numbers are listed, and the ratios to plain Rust and to
+/// the library's full repair of the same block.
+#[cfg(receiver)]
+struct Explaining {
+    time: f64,
+    length: u32,
+    to_plain: Ratio,
+    to_full: Ratio,
+}
+
+#[cfg(receiver)]
+fn measure_why(call: &mut calls::Why, warm: bool, long: Duration) -> Explaining {
+    let kinds: [fn(&mut calls::Why); 3] =
+        [calls::Why::library, calls::Why::plain, calls::Why::full_repair];
+    let timed = |call: &mut calls::Why, run: fn(&mut calls::Why)| {
+        call.reset();
+        if !warm {
+            flush(call.packets());
+        }
+        let start = Instant::now();
+        run(call);
+        micros(start)
+    };
+    let rounds = rounds(long, || kinds.map(|run| timed(call, run)));
+    let to = |kind: usize| Ratio::of(rounds.iter().map(|times| times[0] / times[kind]));
+    Explaining {
+        time: Ratio::of(rounds.iter().map(|times| times[0])).median,
+        length: call.length(),
+        to_plain: to(1),
+        to_full: to(2),
+    }
+}
+
+/// The reason for a restored and for a lost place, on one table at one size.
+#[cfg(receiver)]
+fn whys(report: &mut Report, kind: &str, name: &str, s: usize, lent: impl Fn() -> Lent) {
+    for (call, mark) in WHYS {
+        let mut with = calls::Why::new(lent(), 50, mark);
+        let warm = measure_why(&mut with, true, millis(800));
+        report.why_row(name, call, "warm", s, &warm);
+        for (to, mark, ratio) in marks_of_why(&warm) {
+            report.marks.push(mark_line(call, kind, s, to, mark, ratio));
+        }
+        let cold = measure_why(&mut with, false, millis(300));
+        report.why_row(name, call, "cold", s, &cold);
+    }
+}
+
 // -------------------------------------------------------------------- marks
 
 /// The most that the ratios may be where n is 1,024 and the block is warm: to
@@ -320,6 +374,12 @@ fn marks_of_merge(call: &str, s: usize, of: &Merging) -> Vec<(&'static str, f64,
     }
 }
 
+/// What the ratios of a reason are to, the most that they may be, and the ratios.
+#[cfg(receiver)]
+fn marks_of_why(of: &Explaining) -> [(&'static str, f64, Ratio); 2] {
+    [("plain Rust", 2.0, of.to_plain), ("full repair", 3.5, of.to_full)]
+}
+
 fn mark_line(call: &str, kind: &str, s: usize, to: &str, mark: f64, ratio: Ratio) -> String {
     let verdict = ratio.verdict(mark);
     format!("{call:<12} {kind:<10} {s:>5}  {to:<14} {mark:>7.2}  {ratio:<25} {verdict}")
@@ -348,6 +408,7 @@ struct Report {
     figures: Vec<String>,
     contradictions: Vec<String>,
     merges: Vec<String>,
+    whys: Vec<String>,
     marks: Vec<String>,
 }
 
@@ -376,6 +437,12 @@ impl Report {
         let line = format!("{table:<18} {call:<12} {block:<5} {s:>5} {time:>8.1}");
         let ratios = format!("{to_plain:<22} {to_repair:<22} {to_memory:<27} {to_hot}");
         self.merges.push(format!("{line}  {ratios}"));
+    }
+    #[cfg(receiver)]
+    fn why_row(&mut self, table: &str, call: &str, block: &str, s: usize, of: &Explaining) {
+        let Explaining { time, length, to_plain, to_full } = of;
+        let line = format!("{table:<18} {call:<12} {block:<5} {s:>5} {time:>8.1} {length:>7}");
+        self.whys.push(format!("{line}  {to_plain:<22} {to_full}"));
     }
     fn print(&self) {
         println!(
@@ -408,6 +475,11 @@ impl Report {
             "to pure xor"
         );
         self.merges.iter().for_each(|line| println!("{line}"));
+        println!(
+            "\n{:<18} {:<12} {:<5} {:>5} {:>8} {:>7}  {:<22} {}",
+            "table", "call", "block", "s", "us", "listed", "to plain Rust", "to full repair"
+        );
+        self.whys.iter().for_each(|line| println!("{line}"));
         println!(
             "\n{:<12} {:<10} {:>5}  {:<14} {:>7}  {:<25} {}",
             "call", "table", "s", "ratio to", "mark", "this run", "verdict"
@@ -457,6 +529,9 @@ fn main() {
             if kind != "few" {
                 let lent = || Lent::new(&with_size(&table, s), &planned);
                 merges(&mut report, kind, &name, s, marked, lent);
+                if marked {
+                    whys(&mut report, kind, &name, s, lent);
+                }
             }
         }
     }

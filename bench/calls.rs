@@ -10,7 +10,7 @@
 pub use uplink::{Encode, Plan};
 
 #[cfg(receiver)]
-pub use receiver::{FullRepair, Merge, Repair, Verify, Wrong};
+pub use receiver::{FullRepair, Merge, Repair, Verify, Why, Wrong};
 
 #[cfg(tables)]
 pub use tables::{AlistRead, AlistWrite, Staircase};
@@ -222,6 +222,19 @@ mod receiver {
             map3: *mut u8,
             map3_len: usize,
         ) -> model::Merged;
+        fn bs_why(
+            table: *const u16,
+            table_len: usize,
+            block: *mut u8,
+            block_len: usize,
+            map: *mut u8,
+            map_len: usize,
+            work: *mut u64,
+            work_len: usize,
+            place: usize,
+            reason: *mut u16,
+            reason_len: usize,
+        ) -> model::Reason;
         fn bs_verify(
             table: *const u16,
             table_len: usize,
@@ -700,6 +713,25 @@ mod receiver {
         }
     }
 
+    /// The library's full repair.
+    fn full_repair(lent: &mut Lent, map: &mut [u8], work: &mut [u64]) -> model::FullyRepaired {
+        let bytes = lent.bytes();
+        let Lent { table, slots, .. } = lent;
+        let block = &mut slots[..bytes];
+        unsafe {
+            bs_full_repair(
+                table.as_ptr(),
+                table.len(),
+                block.as_mut_ptr(),
+                block.len(),
+                map.as_mut_ptr(),
+                map.len(),
+                work.as_mut_ptr(),
+                work.len(),
+            )
+        }
+    }
+
     /// Every sum of a full repair, in order.
     fn sums_of(checks: &[Vec<usize>], received: &[u8]) -> Vec<Sum> {
         let (turns, last) = course(checks, received.to_vec());
@@ -723,21 +755,7 @@ mod receiver {
             self.map.copy_from_slice(&self.received);
         }
         fn library(&mut self) {
-            let bytes = self.lent.bytes();
-            let Lent { table, slots, .. } = &mut self.lent;
-            let block = &mut slots[..bytes];
-            let answer = unsafe {
-                bs_full_repair(
-                    table.as_ptr(),
-                    table.len(),
-                    block.as_mut_ptr(),
-                    block.len(),
-                    self.map.as_mut_ptr(),
-                    self.map.len(),
-                    self.work.as_mut_ptr(),
-                    self.work.len(),
-                )
-            };
+            let answer = full_repair(&mut self.lent, &mut self.map, &mut self.work);
             assert_eq!(answer, self.answer);
         }
         fn real(&mut self) {
@@ -762,6 +780,103 @@ mod receiver {
         }
         fn packets(&self) -> Vec<&[u8]> {
             vec![&self.lent.slots[..self.lent.bytes()]]
+        }
+    }
+
+    /// The reason for one place, restored or still lost, beside plain Rust and
+    /// beside full repair of the same block.
+    pub struct Why {
+        lent: Lent,
+        received: Vec<u8>,
+        map: Vec<u8>,
+        work: Vec<u64>,
+        place: usize,
+        reason: Vec<u16>,
+        answer: model::Reason,
+    }
+
+    impl Why {
+        /// So many of a hundred places are lost. Of those that full repair marks
+        /// so the one with the longest list is asked for. The library leaves what
+        /// plain Rust leaves, full repair the same block and map.
+        pub fn new(lent: Lent, share: usize, mark: u8) -> Self {
+            let received = received_map(&lent, share);
+            let (map, bytes) = (received.clone(), lent.bytes());
+            let (work, reason) = (vec![7; model::WORK_BUFFER], vec![7; model::REASON_BUFFER]);
+            let answer = model::Reason::refused(0);
+            let mut call = Why { lent, received, map, work, place: 0, reason, answer };
+            full_repair(&mut call.lent, &mut call.map, &mut call.work);
+            let marked: Vec<usize> = (0..call.map.len()).filter(|p| call.map[*p] == mark).collect();
+            call.place = marked.into_iter().max_by_key(|p| call.listed(*p)).unwrap();
+            call.listed(call.place);
+            assert_eq!((call.answer.refusal, call.answer.kind), (0, 4 - mark as u32));
+            let (after, list) = (call.map.clone(), call.reason.clone());
+            let block = call.lent.slots[..bytes].to_vec();
+            for by in [Self::library, Self::full_repair] {
+                call.reset();
+                call.work.fill(7);
+                by(&mut call);
+                assert!(call.map == after && call.lent.slots[..bytes] == block, "another block");
+                assert!(call.work.iter().all(|w| *w == 0), "work isn't zero");
+            }
+            assert!(call.reason == list, "another list");
+            call
+        }
+        /// How many numbers are listed for a place, by plain Rust, whose answer is
+        /// kept.
+        fn listed(&mut self, place: usize) -> u32 {
+            self.reset();
+            self.place = place;
+            self.answer = self.by_plain();
+            self.answer.length
+        }
+        /// Before each call; not measured.
+        pub fn reset(&mut self) {
+            self.map.copy_from_slice(&self.received);
+        }
+        pub fn library(&mut self) {
+            let bytes = self.lent.bytes();
+            let Lent { table, slots, .. } = &mut self.lent;
+            let block = &mut slots[..bytes];
+            let answer = unsafe {
+                bs_why(
+                    table.as_ptr(),
+                    table.len(),
+                    block.as_mut_ptr(),
+                    block.len(),
+                    self.map.as_mut_ptr(),
+                    self.map.len(),
+                    self.work.as_mut_ptr(),
+                    self.work.len(),
+                    self.place,
+                    self.reason.as_mut_ptr(),
+                    self.reason.len(),
+                )
+            };
+            assert_eq!(answer, self.answer);
+        }
+        fn by_plain(&mut self) -> model::Reason {
+            let bytes = self.lent.bytes();
+            let Lent { table, slots, .. } = &mut self.lent;
+            let (block, map) = (&mut slots[..bytes], &mut self.map);
+            let place = black_box(self.place);
+            plain::why(black_box(table), block, map, &mut self.work, place, &mut self.reason)
+        }
+        pub fn plain(&mut self) {
+            let answer = self.by_plain();
+            assert_eq!(answer, self.answer);
+        }
+        pub fn full_repair(&mut self) {
+            let answer = full_repair(&mut self.lent, &mut self.map, &mut self.work);
+            let counts = (self.answer.restored, self.answer.lost);
+            assert_eq!((answer.refusal, (answer.restored, answer.lost)), (0, counts));
+        }
+        /// Numbers in the list.
+        pub fn length(&self) -> u32 {
+            self.answer.length
+        }
+        pub fn packets(&self) -> &[u8] {
+            &self.lent.slots[..self.lent.bytes()]
         }
     }
 }

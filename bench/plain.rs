@@ -1,9 +1,9 @@
-//! Repair, merging, full repair, verification, encoding, the staircase maker and
-//! alist texts in plain Rust, for comparison.
+//! Repair, merging, full repair, the reason for a missing packet, verification,
+//! encoding, the staircase maker and alist texts in plain Rust, for comparison.
 
-use crate::model::{Encoded, FullyRepaired, Made, Merged, Repaired, Verified};
+use crate::model::{Encoded, FullyRepaired, Made, Merged, Reason, Repaired, Verified};
 use crate::model::{MAX_CHECKS, MAX_GAP, MAX_ONES, MAX_PLACES, MAX_SIZE, MAX_STEPS, MAX_WEIGHT};
-use crate::model::WORK_BUFFER;
+use crate::model::{LOST, REASON_BUFFER, RECEIVED, RESTORED, WORK_BUFFER};
 use std::cmp::Reverse;
 use std::collections::BinaryHeap;
 
@@ -431,17 +431,20 @@ fn eliminate(t: &Checks, block: &mut [u8], peeled: &Peeled, work: &mut [u64]) ->
 
 /// From the highest lead down: the rows of lower leads are added until the row
 /// is empty, and its place is restored, or a place is met that leads no row, and
-/// it stays lost.
+/// it stays lost. Packets are added only where the place is restored.
 fn settle(t: &Checks, block: &mut [u8], state: &mut [u8], leads: &Leads, work: &[u64]) -> u32 {
     let mut restored = 0;
+    let mut added: Vec<u16> = Vec::with_capacity(t.n);
     for lead in (0..t.n).rev().filter(|p| leads[*p] > 0) {
         let at = |place: usize| (leads[place] as usize - 1) * WORDS;
         let mut row = [0u64; WORDS];
         row.copy_from_slice(&work[at(lead)..][..WORDS]);
         row[lead / 64] ^= 1 << (lead % 64);
         let mut words = lead / 64 + 1;
+        added.clear();
         loop {
             let Some(place) = highest(&row, &mut words) else {
+                added.iter().for_each(|place| add_slots(block, t.s, lead, *place as usize));
                 state[lead] = 2;
                 restored += 1;
                 break;
@@ -450,7 +453,7 @@ fn settle(t: &Checks, block: &mut [u8], state: &mut [u8], leads: &Leads, work: &
                 break;
             }
             add_words(&mut row[..words], &work[at(place)..][..words]);
-            add_slots(block, t.s, lead, place);
+            added.push(place as u16);
         }
     }
     restored
@@ -489,6 +492,151 @@ pub fn full_repair(
     work.fill(0);
     let lost = map.iter().filter(|b| **b == 1).count() as u32;
     FullyRepaired { refusal: 0, restored, lost, check: 0, byte: 0 }
+}
+
+// ------------------------------------------------------------ the reason
+
+/// Words with a bit for each check.
+const CHECK_WORDS: usize = MAX_CHECKS / 64;
+
+/// Lost places, and the checks whose sum has these and no other lost place.
+#[derive(Clone, Copy)]
+struct Traced {
+    places: [u64; WORDS],
+    checks: [u64; CHECK_WORDS],
+}
+
+#[inline]
+fn flip(words: &mut [u64], i: usize) {
+    words[i / 64] ^= 1 << (i % 64);
+}
+
+/// The bits that are set, ascending.
+fn ones(words: &[u64]) -> impl Iterator<Item = usize> + '_ {
+    (0..words.len() * 64).filter(|i| words[i / 64] >> (i % 64) & 1 == 1)
+}
+
+/// The lowest place of a row, whose words before this one are zero.
+#[inline]
+fn lowest(row: &[u64], word: &mut usize) -> Option<usize> {
+    while *word < row.len() {
+        if row[*word] != 0 {
+            return Some(*word * 64 + row[*word].trailing_zeros() as usize);
+        }
+        *word += 1;
+    }
+    None
+}
+
+/// Rows of the used checks, each led by its lowest place.
+struct TracedRows {
+    rows: Vec<Traced>,
+    leads: Leads,
+}
+
+impl TracedRows {
+    /// A check is used if something is left of its lost places when the rows of
+    /// lower ones are added.
+    fn new(t: &Checks, lost: &[u8]) -> Self {
+        let mut rows = TracedRows { rows: Vec::with_capacity(t.m), leads: [0; MAX_PLACES] };
+        for c in 0..t.m {
+            let mut row = Traced { places: [0; WORDS], checks: [0; CHECK_WORDS] };
+            flip(&mut row.checks, c);
+            for p in t.check(c).iter().filter(|p| lost[**p as usize] == 1) {
+                flip(&mut row.places, *p as usize);
+            }
+            if let Some(lead) = rows.reduce(&mut row) {
+                rows.rows.push(row);
+                rows.leads[lead] = rows.rows.len() as u16;
+            }
+        }
+        rows
+    }
+    /// The row that a place leads.
+    #[inline]
+    fn led_by(&self, place: usize) -> Option<&Traced> {
+        match self.leads[place] {
+            0 => None,
+            one_more => Some(&self.rows[one_more as usize - 1]),
+        }
+    }
+    /// The lowest place left of a row, to which those that its lowest places lead
+    /// are added as long as they lead any.
+    fn reduce(&self, row: &mut Traced) -> Option<usize> {
+        let mut word = 0;
+        loop {
+            let lead = lowest(&row.places, &mut word)?;
+            let Some(by) = self.led_by(lead) else { return Some(lead) };
+            add_words(&mut row.places[word..], &by.places[word..]);
+            add_words(&mut row.checks, &by.checks);
+        }
+    }
+    /// A place that leads no row, and below it the leads that make each row even.
+    fn even_set(&self, highest: usize) -> [u64; WORDS] {
+        let mut set = [0; WORDS];
+        flip(&mut set, highest);
+        for lead in (0..highest).rev() {
+            let Some(row) = self.led_by(lead) else { continue };
+            let both = row.places.iter().zip(&set).fold(0, |both, (a, b)| both ^ (a & b));
+            if both.count_ones() % 2 == 1 {
+                flip(&mut set, lead);
+            }
+        }
+        set
+    }
+}
+
+/// Whether a lost place is restored by some checks, which are listed, or stays
+/// lost with some places, which are listed.
+fn explain(t: &Checks, lost: &[u8], place: usize) -> (u32, Vec<usize>) {
+    let rows = TracedRows::new(t, lost);
+    let mut row = Traced { places: [0; WORDS], checks: [0; CHECK_WORDS] };
+    flip(&mut row.places, place);
+    match rows.reduce(&mut row) {
+        None => (RESTORED, ones(&row.checks).collect()),
+        Some(left) => (LOST, ones(&rows.even_set(left)).collect()),
+    }
+}
+
+/// Full repair, then elimination from the map as it was lent, in which each row
+/// has a bit for each check in it.
+pub fn why(
+    table: &[u16],
+    block: &mut [u8],
+    map: &mut [u8],
+    work: &mut [u64],
+    place: usize,
+    reason: &mut [u16],
+) -> Reason {
+    let t = match look_over(table) {
+        Ok(t) => t,
+        Err(cause) => return Reason::refused(cause),
+    };
+    let lengths = [block.len(), map.len(), work.len(), reason.len()];
+    if lengths != [t.n * t.s, t.n, WORK_BUFFER, REASON_BUFFER] {
+        return Reason::refused(5);
+    }
+    if map.iter().any(|b| *b > 1) {
+        return Reason::refused(7);
+    }
+    if place >= t.n {
+        return Reason::refused(14);
+    }
+    let lent = map.to_vec();
+    let FullyRepaired { refusal, restored, lost, check, byte } =
+        full_repair(table, block, map, work);
+    if refusal != 0 {
+        return Reason::refused(refusal);
+    }
+    let (kind, list) = match lent[place] {
+        0 => (RECEIVED, Vec::new()),
+        _ => explain(&t, &lent, place),
+    };
+    reason.fill(0);
+    for (number, listed) in reason.iter_mut().zip(&list) {
+        *number = *listed as u16;
+    }
+    Reason { refusal, kind, length: list.len() as u32, restored, lost, check, byte }
 }
 
 // --------------------------------------------------------------- encoding

@@ -1,7 +1,7 @@
 /* Repairs a block that lost three packets, then verifies it. Then repairs one
  * where no check has a single lost place. Then one with a wrong packet, and one
  * with two. Then finds where two packets differ that should be equal. Then merges
- * what two receivers heard. */
+ * what two receivers heard. Then tells why places are restored, lost or received. */
 
 #include <stdio.h>
 #include <string.h>
@@ -194,8 +194,93 @@ static int merge_two(void)
     return 0;
 }
 
+static uint16_t reason[BS_REASON_NUMBERS];
+
+/* Why a place of the sent block is as it is, where these places didn't arrive. */
+static bs_reason why(const uint8_t *lost, size_t place)
+{
+    static uint64_t work[8192];
+    uint8_t block[7], map[7];
+    for (size_t p = 0; p < 7; p++) {
+        block[p] = lost[p] ? 0 : sent[p];
+        map[p] = lost[p];
+    }
+    return bs_why(table, table_len, block, sizeof block, map, sizeof map,
+                  work, sizeof work / sizeof work[0], place, reason, BS_REASON_NUMBERS);
+}
+
+/* Whether the list is this, with zeros behind it. */
+static int listed(const uint16_t *list, size_t length)
+{
+    for (size_t i = 0; i < BS_REASON_NUMBERS; i++) {
+        if (reason[i] != (i < length ? list[i] : 0)) {
+            return 0;
+        }
+    }
+    return 1;
+}
+
+/* Whether the answer is of this kind with this list; says so if it isn't. */
+static int tells(bs_reason told, uint32_t kind, const uint16_t *list, size_t length)
+{
+    if (told.refusal == 0 && told.kind == kind && told.length == length && listed(list, length)) {
+        return 1;
+    }
+    printf("receiver.c: why: refusal %u, kind %u, length %u\n",
+           (unsigned)told.refusal, (unsigned)told.kind, (unsigned)told.length);
+    return 0;
+}
+
+static void print_list(const char *text, uint32_t length)
+{
+    printf("receiver.c: %s", text);
+    for (uint32_t i = 0; i < length; i++) {
+        printf(" %u", (unsigned)reason[i]);
+    }
+    printf("\n");
+}
+
+static int ask_why(void)
+{
+    /* Places 2, 4 and 6 didn't arrive, and are restored. Checks 0 and 1 both hold
+     * 2 and 6, so that these cancel, and place 4 is left. */
+    static const uint8_t three[7] = {0, 0, 1, 0, 1, 0, 1};
+    static const uint16_t checks[] = {0, 1};
+    bs_reason told = why(three, 4);
+    if (!tells(told, 2, checks, 2) || told.restored != 3 || told.lost != 0) {
+        return 1;
+    }
+    print_list("place 4 is restored by checks", told.length);
+
+    /* A received place has no list. */
+    if (!tells(why(three, 3), 1, NULL, 0)) {
+        return 1;
+    }
+    printf("receiver.c: place 3 is received\n");
+
+    /* Places 2, 4 and 5 didn't arrive. Each check holds two of them, so that
+     * nothing tells if the three are off by the same. */
+    static const uint8_t others[7] = {0, 0, 1, 0, 1, 1, 0};
+    static const uint16_t together[] = {2, 4, 5};
+    told = why(others, 4);
+    if (!tells(told, 3, together, 3) || told.restored != 0 || told.lost != 3) {
+        return 1;
+    }
+    print_list("place 4 stays lost with", told.length);
+
+    /* There is no place 7; the list stays as it was. */
+    told = why(others, 7);
+    if (told.refusal != 14 || told.kind != 0 || !listed(together, 3)) {
+        printf("receiver.c: place 7: refusal %u\n", (unsigned)told.refusal);
+        return 1;
+    }
+    printf("receiver.c: place 7 is refused with %u\n", (unsigned)told.refusal);
+    return 0;
+}
+
 int main(void)
 {
     return repair_and_verify() != 0 || repair_fully() != 0 || blame_a_place() != 0
-        || refuse_two_wrong() != 0 || find_the_byte() != 0 || merge_two() != 0;
+        || refuse_two_wrong() != 0 || find_the_byte() != 0 || merge_two() != 0
+        || ask_why() != 0;
 }

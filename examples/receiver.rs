@@ -1,7 +1,8 @@
 //! Repairs a block that lost three packets, then verifies it. Then repairs one
 //! where no check has a single lost place. Then one with a wrong packet, and one
 //! with two. Then finds where two packets differ that should be equal. Then
-//! merges what two receivers heard.
+//! merges what two receivers heard. Then tells why places are restored, lost or
+//! received.
 
 #[repr(C)]
 struct Repaired {
@@ -33,6 +34,17 @@ struct Merged {
     restored: u32,
     lost: u32,
     additions: u32,
+    check: u32,
+    byte: u32,
+}
+
+#[repr(C)]
+struct Reason {
+    refusal: u32,
+    kind: u32,
+    length: u32,
+    restored: u32,
+    lost: u32,
     check: u32,
     byte: u32,
 }
@@ -88,6 +100,19 @@ extern "C" {
         map3: *mut u8,
         map3_len: usize,
     ) -> Merged;
+    fn bs_why(
+        table: *const u16,
+        table_len: usize,
+        block: *mut u8,
+        block_len: usize,
+        map: *mut u8,
+        map_len: usize,
+        work: *mut u64,
+        work_len: usize,
+        place: usize,
+        reason: *mut u16,
+        reason_len: usize,
+    ) -> Reason;
     fn bs_verify(table: *const u16, table_len: usize, block: *const u8, block_len: usize)
         -> Verified;
     fn bs_packet(n: usize, s: usize, place: usize, block: *const u8, block_len: usize) -> Part;
@@ -177,6 +202,46 @@ fn merge(table: &[u16], first: &Heard, second: &Heard) -> (Merged, [u8; 7], [u8;
         )
     };
     (merged, block, map)
+}
+
+/// Why a place is as it is after full repair.
+#[derive(Debug, PartialEq)]
+enum Why {
+    Received,
+    /// By the sum of these checks.
+    Restored(Vec<u16>),
+    /// With these places, itself among them: no check tells if all are off by
+    /// the same.
+    Lost(Vec<u16>),
+}
+
+/// Restores as full repair does, and says why a place is then as it is; or the
+/// refusal.
+fn why(table: &[u16], block: &mut [u8], map: &mut [u8], place: usize) -> Result<Why, u32> {
+    let mut work = vec![0u64; 8192];
+    let mut reason = vec![0u16; 1024];
+    let told = unsafe {
+        bs_why(
+            table.as_ptr(),
+            table.len(),
+            block.as_mut_ptr(),
+            block.len(),
+            map.as_mut_ptr(),
+            map.len(),
+            work.as_mut_ptr(),
+            work.len(),
+            place,
+            reason.as_mut_ptr(),
+            reason.len(),
+        )
+    };
+    reason.truncate(told.length as usize);
+    match (told.refusal, told.kind) {
+        (0, 1) => Ok(Why::Received),
+        (0, 2) => Ok(Why::Restored(reason)),
+        (0, _) => Ok(Why::Lost(reason)),
+        (refusal, _) => Err(refusal),
+    }
 }
 
 /// None for a codeword, else the lowest check that fails and the lowest byte
@@ -320,6 +385,47 @@ fn merge_two() {
     println!("receiver.rs: place 3 in clash, and restored as {:02x}", block[3]);
 }
 
+/// The numbers of a list, with spaces between them.
+fn numbers(list: &[u16]) -> String {
+    list.iter().map(u16::to_string).collect::<Vec<_>>().join(" ")
+}
+
+/// Why a place of the sent block is as it is, where these places didn't arrive.
+fn why_lost(lost: [u8; 7], place: usize) -> Result<Why, u32> {
+    let mut block = std::array::from_fn::<u8, 7, _>(|p| SENT[p] * (1 - lost[p]));
+    let mut map = lost;
+    why(&TABLE, &mut block, &mut map, place)
+}
+
+fn ask_why() {
+    // Places 2, 4 and 6 didn't arrive, and are restored. Checks 0 and 1 both hold
+    // 2 and 6, so that these cancel, and place 4 is left.
+    let three = [0, 0, 1, 0, 1, 0, 1];
+    let checks = vec![0, 1];
+    let restored = format!("place 4 is restored by checks {}", numbers(&checks));
+
+    // Places 2, 4 and 5 didn't arrive. Each check holds two of them, so that
+    // nothing tells if the three are off by the same.
+    let others = [0, 0, 1, 0, 1, 1, 0];
+    let together = vec![2, 4, 5];
+    let lost = format!("place 4 stays lost with {}", numbers(&together));
+
+    let asked = [
+        (three, 4, Ok(Why::Restored(checks)), restored),
+        (three, 3, Ok(Why::Received), "place 3 is received".to_string()),
+        (others, 4, Ok(Why::Lost(together)), lost),
+        // There is no place 7.
+        (others, 7, Err(14), "place 7 is refused with 14".to_string()),
+    ];
+    for (map, place, expected, text) in asked {
+        let told = why_lost(map, place);
+        if told != expected {
+            wrong(format!("place {place}: {told:?}"));
+        }
+        println!("receiver.rs: {text}");
+    }
+}
+
 fn main() {
     repair_and_verify();
     repair_fully();
@@ -327,4 +433,5 @@ fn main() {
     refuse_two_wrong();
     find_the_byte();
     merge_two();
+    ask_why();
 }

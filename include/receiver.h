@@ -1,5 +1,5 @@
-/* Receiver: repair, full repair, merging and verification of sparse-check
- * blocks.
+/* Receiver: repair, full repair, the reason for a missing packet, merging and
+ * verification of sparse-check blocks.
  *
  * A block is n packets of s bytes, at places 0 to n - 1. A check is a set of
  * places; the block is a codeword if the packets of each check sum to zero
@@ -28,11 +28,15 @@
  *      7  a byte of the lost map over 1; of bs_merge, in either listener's map
  *      8  of bs_repair: the received packets contradict each other, and not
  *         exactly one place can be blamed for it; of bs_merge: the merged
- *         packets contradict each other; of bs_full_repair: no codeword agrees
- *         with them
+ *         packets contradict each other; of bs_full_repair and bs_why: no
+ *         codeword agrees with them
  *     10  a place not below n in bs_packet
+ *     14  a place not below n in bs_why
  *
- * Of several causes the one with the lowest number is given.
+ * Of several causes the one with the lowest number is given; but 14 comes
+ * before 8.
+ *
+ * bs_why needs about 110 KiB of stack.
  *
  * bs_repaired has grown by check and byte, bs_verified by byte: build callers
  * anew.
@@ -46,6 +50,8 @@
 #ifdef __cplusplus
 extern "C" {
 #endif
+
+#define BS_REASON_NUMBERS 1024 /* length of the reason buffer */
 
 typedef struct {
     uint32_t refusal;
@@ -132,6 +138,52 @@ bs_fully_repaired bs_full_repair(const uint16_t *table, size_t table_len,
                                  uint8_t *block, size_t block_len,
                                  uint8_t *map, size_t map_len,
                                  uint64_t *work, size_t work_len);
+
+typedef struct {
+    uint32_t refusal;
+    uint32_t kind;     /* 1 received, 2 restored, 3 lost; 0 if refused */
+    uint32_t length;   /* numbers in the list */
+    uint32_t restored; /* places restored, as of bs_full_repair */
+    uint32_t lost;     /* places still lost, as of bs_full_repair */
+    uint32_t check;    /* 0 */
+    uint32_t byte;     /* 0 */
+} bs_reason;
+
+/* Repairs as bs_full_repair does, and says why one place is then as it is.
+ * block, map and work are as for bs_full_repair. reason has exactly 1,024
+ * 16-bit numbers; what it holds doesn't count.
+ *
+ * Accepted: block and map are as bs_full_repair leaves them, and work is zero.
+ * reason holds a list, ascending, and then zeros; its length is returned. The
+ * list depends on table and map alone, and not on a packet. Lost places here
+ * are those that map says are lost beforehand.
+ *
+ *   1, received   the list is empty.
+ *   2, restored   the used checks whose sum holds this place and otherwise only
+ *                 received places: so the packet is the sum of what was
+ *                 received there. A check is used if its lost places aren't the
+ *                 sum of those of lower used checks. There is only one such
+ *                 list, and it is never empty.
+ *   3, lost       a set of lost places with this one in it that every check
+ *                 meets an even number of times: add one packet, whatever it
+ *                 is, to all of these places, and no check tells. Of two such
+ *                 sets it is the one without the highest place in which they
+ *                 differ. All of its places are still lost.
+ *
+ * Refusals: 1 to 5, 7, 14 and 8, the first of these in this order. After 8
+ * block, map and work are as bs_full_repair leaves them: every place that map
+ * says is lost holds zero bytes, map and received places are kept, and work is
+ * zero; reason is kept. After any other refusal all buffers are as they were.
+ *
+ * A map that a repair has marked is refused with 7. So to ask for several
+ * places of one block keep the map that came, and lend a copy each time; the
+ * block can stay as it is. */
+bs_reason bs_why(const uint16_t *table, size_t table_len,
+                 uint8_t *block, size_t block_len,
+                 uint8_t *map, size_t map_len,
+                 uint64_t *work, size_t work_len,
+                 size_t place,
+                 uint16_t *reason, size_t reason_len);
 
 typedef struct {
     uint32_t refusal;
