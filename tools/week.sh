@@ -4,7 +4,7 @@
 #
 #   tools/week.sh            builds the programs first
 #   tools/week.sh DIR        takes staircase_file, table_to_alist, alist_to_table, planlist, encode_file, repair_file, full_repair_file,
-#                            merge_file and verify_file from DIR
+#                            merge_file, reason_file and verify_file from DIR
 
 set -eu
 root=$(cd "$(dirname "$0")/.." && pwd)
@@ -14,7 +14,11 @@ else
     bin=$root/target/bin
     mkdir -p "$root/target"
     # a line for each crate as it is done; the whole log only where something fails
-    { cd "$root" && rt check staircase_file table_to_alist alist_to_table planlist encode_file repair_file full_repair_file merge_file verify_file 2>&1; echo $? >"$root/target/week.status"; } |
+    {
+        cd "$root" && rt check staircase_file table_to_alist alist_to_table planlist encode_file repair_file full_repair_file merge_file reason_file \
+            verify_file 2>&1
+        echo $? >"$root/target/week.status"
+    } |
         tee "$root/target/week.log" | grep '^rt: ' || true
     [ "$(cat "$root/target/week.status")" = 0 ] || {
         cat "$root/target/week.log"
@@ -165,6 +169,23 @@ said 'repair_file, stalled' 'restored 3 lost 17 *' "$("$bin/repair_file" table s
 said 'full_repair_file' 'restored 20 lost 0' "$("$bin/full_repair_file" table full full_map)"
 cmp full block.aa
 echo 'stalled: packets 10 to 29 lost, 3 restored by repair, 20 by full repair'
+
+# The helpdesk asks: packet 29 comes back by seven checks. With packet 30 lost too, six stay lost, and 11 is one of them. The files are only read.
+cp block.aa asked
+lose asked 10 20
+said 'reason_file, restored' 'place 29 is restored by checks 0 2 3 11 13 16 17
+restored 20 lost 0' "$("$bin/reason_file" table asked map 29)"
+said 'reason_file, received' 'place 9 was received
+restored 20 lost 0' "$("$bin/reason_file" table asked map 9)"
+lose asked 10 21
+cp asked as_it_came
+cp map map_as_it_came
+said 'reason_file, lost' 'place 11 stays lost: every check meets the lost places 11 17 24 25 29 30 an even number of times
+restored 15 lost 6' "$("$bin/reason_file" table asked map 11)"
+refuses "refused 14: the place is not below the table's number of places" reason_file table asked map 64
+cmp asked as_it_came
+cmp map map_as_it_came
+echo 'asked: packet 29 restored by seven checks; packets 10 to 30 lost, 11 stays lost with five others'
 
 # Two receivers on one ship: the first lost packets 10 to 29, the second 22 to 41, and each is stalled alone. Merged, 32 agree, 24 were heard by one, and
 # the eight that none heard are restored. Whatever BLOCK and MAP held is gone.
