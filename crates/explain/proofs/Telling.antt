@@ -35,8 +35,8 @@ use Rattle.explain.specs.Telling.{Tells}
 use Rattle.explain.specs.declared.Told.{Told}
 
 -- a place flipped in a row that was zero
-pub one-place : (q : ℕ) {w e f : List ℕ} {r : ℕ} → RowPut w r 0 e → RowPut e r (bitXor (row e r) (2 ^ q)) f → RowPut w r (2 ^ q) f
-one-place q a b = put-is (put-put a b) (ap (λ v. bitXor v (2 ^ q)) (a .here) ∙ xor-zero-l (2 ^ q))
+pub one-place : (q v : ℕ) → v ≡ q → {w e f : List ℕ} {r : ℕ} → RowPut w r 0 e → RowPut e r (bitXor (row e r) (2 ^ v)) f → RowPut w r (2 ^ q) f
+one-place q v i a b = put-is (put-put a b) (ap₂ (λ x y. bitXor x (2 ^ y)) (a .here) i ∙ xor-zero-l (2 ^ q))
 
 module _ (t : List ℕ) (m n s : ℕ) (ok : Accepted t m n s) (lost : List ℕ) {w owner feed ids : List ℕ} {k : ℕ} (z : Taken t n lost w owner feed ids k) where
   low : All (λ c. All (λ q. q < n) c) (checks t)

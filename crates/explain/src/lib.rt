@@ -36,7 +36,7 @@ fn reduce_place(w: &mut [u64], owner: &[u16], n: usize, place: usize, noted: &mu
         ⌝ }
 {
     bits::clear(w, PLACE_ROW);
-    bits::flip(w, PLACE_ROW, n - 1 - place);
+    bits::flip(w, PLACE_ROW, tracing::bit_of(place, n));
     rows::reduce(w, owner, PLACE_ROW, n, noted)
 }
 

@@ -56,7 +56,7 @@ fn solve_set(w: &[u64], owner: &[u16], n: usize, set: &mut [u8])
     }
 }
 
-// the places of the set, ascending, and how many: place p stands at bit n - 1 - p
+// the places of the set, ascending, and how many
 fn write_places(set: &[u8], n: usize, list: &mut [u16]) -> usize
     requires { ⌜ (n ≤ length (now set))
         × (n ≤ length (now list))
@@ -66,7 +66,7 @@ fn write_places(set: &[u8], n: usize, list: &mut [u16]) -> usize
     let mut c = 0;
     let mut p = 0;
     while p < n {
-        if set[n - 1 - p] == 1 {
+        if set[tracing::bit_of(p, n)] == 1 {
             list[c] = p as u16;
             c += 1;
         }

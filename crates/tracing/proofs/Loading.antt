@@ -1,5 +1,5 @@
 -- One turn of the loop that loads a check's lost places, mirrored.
-use mathlib.Core.Path.{_≡_, sym, ap, _∙_}
+use mathlib.Core.Path.{_≡_, sym, ap, ap₂, _∙_}
 use mathlib.Core.Bool.{true, false, cond}
 use mathlib.Core.List.{List, [], _∷_, _++_, append-nil}
 use Prim.Native.Nat.{ℕ, _+_, _^_, _<_}
@@ -32,9 +32,9 @@ module _ (n : ℕ) (lost t : List ℕ) (at i p : ℕ) (h : at + i < length t) (e
   row-is : (b : List ℕ) → mirrorRow n lost b ≡ summed (lostPlaces lost b)
   row-is b = sum-map XorGroup (λ q. 2 ^ q) (mirror n) (lostPlaces lost b)
 
-  -- a lost place is flipped
-  pub flipped : isLost lost p ≡ true → {w x y : List ℕ} {r : ℕ} → RowPut w r (mirrorRow n lost c) x → RowPut x r (bitXor (row x r) (2 ^ mirror n p)) y → RowPut w r (mirrorRow n lost d) y
-  flipped l a b = put-is (put-put a b) (ap (λ v. bitXor v (2 ^ mirror n p)) (a .here ∙ row-is c) ∙ sym (row-is d ∙ ap summed (lost-more ∙ ap (λ v. lostPlaces lost c ++ cond v (p ∷ []) []) l)
+  -- a lost place is flipped at its bit
+  pub flipped : isLost lost p ≡ true → (q : ℕ) → q ≡ mirror n p → {w x y : List ℕ} {r : ℕ} → RowPut w r (mirrorRow n lost c) x → RowPut x r (bitXor (row x r) (2 ^ q)) y → RowPut w r (mirrorRow n lost d) y
+  flipped l q m a b = put-is (put-put a b) (ap₂ (λ v u. bitXor v (2 ^ u)) (a .here ∙ row-is c) m ∙ sym (row-is d ∙ ap summed (lost-more ∙ ap (λ v. lostPlaces lost c ++ cond v (p ∷ []) []) l)
       ∙ sumOver-append XorGroup (λ q. 2 ^ mirror n q) (lostPlaces lost c) (p ∷ []) ∙ ap (bitXor (summed (lostPlaces lost c))) (xor-zero-r (2 ^ mirror n p))))
 
   -- another is passed over

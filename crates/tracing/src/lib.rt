@@ -17,9 +17,17 @@ ghost use Rattle.reasons.specs.Trace.{trace as traced};
 ghost use Rattle.reasons.specs.Traced.{bitsBelow};
 ghost use Rattle.tracing.specs.Tracing.{numberIn, feeders, Led, Taken};
 
+// the bit at which place p stands, the highest place lowest
+pub fn bit_of(p: usize, n: usize) -> usize
+    requires { ⌜ p < n ⌝ }
+    ensures { λ r. ⌜ r ≡ mirror n p ⌝ }
+{
+    n - 1 - p
+}
+
 // ---- a check
 
-// the lost places of a check become row k, place p at bit n - 1 - p
+// the lost places of a check become row k, each at its bit
 fn load_lost(w: &mut [u64], k: usize, t: &[u16], at: usize, weight: usize, lost: &[u8], n: usize)
     requires { ⌜ (k * 16 + 16 ≤ length (now w))
         × Places (now t) at weight n
@@ -34,7 +42,7 @@ fn load_lost(w: &mut [u64], k: usize, t: &[u16], at: usize, weight: usize, lost:
     while i < weight {
         let p = wide(t[at + i]);
         if lost[p] == 1 {
-            bits::flip(w, k, n - 1 - p);
+            bits::flip(w, k, bit_of(p, n));
         }
         i += 1;
     }

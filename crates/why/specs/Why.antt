@@ -27,8 +27,11 @@ abbrev pub notBelow : ℕ → ℕ → Bool
 notBelow p n = not (ltb p n)
 
 -- the causes before the repair, 1 to 5, 7 and 14, in their order
+abbrev pub ownCauses : List ℕ → List ℕ → List ℕ → List ℕ → ℕ → List ℕ → List (Bool × ℕ)
+ownCauses t b map work p reason = (wrongLent t b map work reason, 5) ∷ (byteOver map, 7) ∷ (notBelow p (places t), 14) ∷ []
+
 abbrev pub earlyCauses : List ℕ → List ℕ → List ℕ → List ℕ → ℕ → List ℕ → List (Bool × ℕ)
-earlyCauses t b map work p reason = tableCauses t ++ ((wrongLent t b map work reason, 5) ∷ (byteOver map, 7) ∷ (notBelow p (places t), 14) ∷ [])
+earlyCauses t b map work p reason = tableCauses t ++ ownCauses t b map work p reason
 
 -- "after all of document 01's refusals except 8": then 8
 abbrev pub whyCauses : List ℕ → List ℕ → List ℕ → List ℕ → ℕ → List ℕ → List (Bool × ℕ)

@@ -17,7 +17,7 @@ use Rattle.table.specs.FirstCause.{firstCause, wrongLength, NoneHolds}
 use Rattle.table.specs.FirstCauseLaws.{none-holds, none-refuses, first-decides, rest-decides, quiet}
 use Rattle.reasons.specs.Reasons.{kindOf}
 use Rattle.table.specs.Table.{places, size, checks, tableCauses, refusal, workWords}
-use Rattle.why.specs.Why.{wrongLent, notBelow, earlyCauses, whyRefusal, whyAnswerAt, whyAnswer, asFull, whyBlockAfter, whyMapAfter, whyWorkAfter, reasonAfter, reasonNumbers}
+use Rattle.why.specs.Why.{notBelow, ownCauses, earlyCauses, whyRefusal, whyAnswerAt, whyAnswer, asFull, whyBlockAfter, whyMapAfter, whyWorkAfter, reasonAfter, reasonNumbers}
 
 -- a refusal by causes of which none has the number k isn't k
 other-number : (k : ℕ) → eqb 0 k ≡ false → {cs : List (Bool × ℕ)} → All (λ c. eqb (c .1) k ≡ false) cs → eqb (firstCause cs) k ≡ false
@@ -31,7 +31,7 @@ module _ (t b map work : List ℕ) (p : ℕ) (reason : List ℕ) where
 
   -- the causes beyond the table's
   abbrev own : List (Bool × ℕ)
-  own = (wrongLent t b map work reason, 5) ∷ (byteOver map, 7) ∷ (notBelow p (places t), 14) ∷ []
+  own = ownCauses t b map work p reason
 
   pub early-table : refusal t ≢ 0 → early ≡ refusal t
   early-table ne = first-decides (tableCauses t) own ne

@@ -1,6 +1,6 @@
 -- `least::write_places` meets its contract: the places below p are looked at.
 use Prim.Native.Nat.{_-_, _≤_}
-use mathlib.Core.Path.{_≡_, refl, ap, _∙_}
+use mathlib.Core.Path.{_≡_, refl, sym, ap, _∙_}
 use mathlib.Core.Logic.{⊎-elim}
 use native.Mathlib.Omega.{arith}
 use lib.ListN.{length, length-set}
@@ -18,16 +18,13 @@ abbrev μ-loop : tie.MeasureT-loop
 μ-loop set n list₀ c₀ p₀ list c p = n - p
 
 loop-holds : tie.Need-loop-holds Inv-loop μ-loop
-loop-holds c = (omega arith, omega arith, refl, places-start (c .args .n) (inSet (c .args .set .now)))
+loop-holds c = (omega arith, omega arith, refl, places-start (c .before .before .args .n) (inSet (c .before .before .args .set .now)))
 
-sub-if1 : tie.Need-sub-if1 Inv-loop μ-loop
-sub-if1 c = omega arith
-
-sub-if1-2 : tie.Need-sub-if1-2 Inv-loop μ-loop
-sub-if1-2 c = omega arith
+bit-of-requires : tie.Need-bit-of-requires Inv-loop μ-loop
+bit-of-requires c κs = omega arith
 
 shared-slice-read-if1 : tie.Need-shared-slice-read-if1 Inv-loop μ-loop
-shared-slice-read-if1 c = let p = c .before .before .before .pre .0 in omega arith
+shared-slice-read-if1 c = let p = c .before .before .before .before .before .before .pre .0 in let b = c .before .bit-of .ensures in omega arith
 
 cast-list : tie.Need-cast-list Inv-loop μ-loop
 cast-list c = omega arith
@@ -36,7 +33,7 @@ mul-list : tie.Need-mul-list Inv-loop μ-loop
 mul-list c = omega arith
 
 slice-write-list : tie.Need-slice-write-list Inv-loop μ-loop
-slice-write-list c = let p = c .before .before .before .before .pre .1 in let l = c .before .before .before .loop .inv .2 in let d = c .before .before .before .loop .inv .1 in omega arith
+slice-write-list c = let p = c .before .before .before .before .before .before .before .pre .1 in let l = c .before .before .before .before .loop .inv .2 in let d = c .before .before .before .before .loop .inv .1 in omega arith
 
 add-c : tie.Need-add-c Inv-loop μ-loop
 add-c c = omega arith
@@ -49,13 +46,13 @@ loop-less c = omega arith
 
 loop-again : tie.Need-loop-again Inv-loop μ-loop
 loop-again c =
-    let a = c .before .before .before .before .args in
-    let s = c .before .before .before .loop in
-    let room = c .before .before .before .before .pre .1 in
+    let a = c .before .before .before .before .before .before .before .args in
+    let s = c .before .before .before .before .loop in
+    let room = c .before .before .before .before .before .before .before .pre .1 in
     let d = s .inv .1 in
     ⊎-elim
-    (λ u. (omega arith, rw (u .2) (omega arith), ap length (u .1) ∙ simp length-set (s .inv .2), rw (u .1, u .2) (places-hit (a .n) (inSet (a .set .now)) (s .p) (eq-eqb _ 1 (u .0 .taken)) (omega arith) (s .inv .3))))
-    (λ u. (omega arith, rw (u .2) (omega arith), ap length (u .1) ∙ s .inv .2, rw (u .1, u .2) (places-miss (a .n) (inSet (a .set .now)) (s .p) (ne-eqb _ 1 (u .0 .left)) (s .inv .3))))
+    (λ u. (omega arith, rw (u .2) (omega arith), ap length (u .1) ∙ simp length-set (s .inv .2), rw (u .1, u .2) (places-hit (a .n) (inSet (a .set .now)) (s .p) (sym (ap (inSet (a .set .now)) (c .before .before .bit-of .ensures)) ∙ eq-eqb _ 1 (u .0 .taken)) (omega arith) (s .inv .3))))
+    (λ u. (omega arith, rw (u .2) (omega arith), ap length (u .1) ∙ s .inv .2, rw (u .1, u .2) (places-miss (a .n) (inSet (a .set .now)) (s .p) (sym (ap (inSet (a .set .now)) (c .before .before .bit-of .ensures)) ∙ ne-eqb _ 1 (u .0 .left)) (s .inv .3))))
     (c .if1 .came)
 
 same-length : tie.Need-same-length Inv-loop μ-loop
@@ -64,8 +61,8 @@ same-length c = c .before .loop .inv .2
 returns : tie.Need-returns Inv-loop μ-loop
 returns c =
     let s = c .before .loop in
-    let e : s .p ≡ c .before .before .args .n = omega arith in
+    let e : s .p ≡ c .before .before .before .before .args .n = omega arith in
     rw e at (s .inv .3)
 
 pub write-places-spec : {M : Type 1} → statement M
-write-places-spec = tie.close (tie.spec Inv-loop μ-loop loop-holds sub-if1 sub-if1-2 shared-slice-read-if1 cast-list mul-list slice-write-list add-c add-p loop-less loop-again same-length returns)
+write-places-spec = tie.close (tie.spec Inv-loop μ-loop loop-holds bit-of-requires shared-slice-read-if1 cast-list mul-list slice-write-list add-c add-p loop-less loop-again same-length returns)

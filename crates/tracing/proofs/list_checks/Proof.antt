@@ -21,7 +21,7 @@ slice-aggregate-trace : tie.Need-slice-aggregate-trace
 slice-aggregate-trace c = search needs
 
 trace-requires : tie.Need-trace-requires
-trace-requires c κs = let p = c .before .before .before .before .before .before .before .before .before .pre in let l = c .before .before .note-feeders .ensures .len in (omega arith, p .0 .0, p .0 .2)
+trace-requires c κs = let p = c .before .before .before .before .before .before .before .before .before .pre .0 in let room = p .0 in let few = p .2 in let l = c .before .before .note-feeders .ensures .len in (omega arith, omega arith, omega arith)
 
 slice-aggregate-write-checks : tie.Need-slice-aggregate-write-checks
 slice-aggregate-write-checks c = search needs

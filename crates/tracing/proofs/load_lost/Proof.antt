@@ -40,20 +40,18 @@ wide-requires c κs = omega arith
 shared-slice-read-if1 : tie.Need-shared-slice-read-if1 Inv-loop μ-loop
 shared-slice-read-if1 c = let h = c .before .before .before .before .before .before .before .before .before .before .before .before .pre .1 .below (c .before .before .before .before .loop .i) (c .before .before .before .loop-test .taken) in let e = c .before .wide .ensures in omega arith
 
-sub-flip : tie.Need-sub-flip Inv-loop μ-loop
-sub-flip c = let h = c .before .before .before .before .before .before .before .before .before .before .before .before .before .before .pre .1 .below (c .before .before .before .before .before .before .loop .i) (c .before .before .before .before .before .loop-test .taken) in let e = c .before .before .before .wide .ensures in omega arith
-
-sub-flip-2 : tie.Need-sub-flip-2 Inv-loop μ-loop
-sub-flip-2 c = let h = c .before .before .before .before .before .before .before .before .before .before .before .before .before .before .pre .1 .below (c .before .before .before .before .before .before .loop .i) (c .before .before .before .before .before .loop-test .taken) in let e = c .before .before .before .wide .ensures in omega arith
+bit-of-requires : tie.Need-bit-of-requires Inv-loop μ-loop
+bit-of-requires c κs = let h = c .before .before .before .before .before .before .before .before .before .before .before .before .before .before .pre .1 .below (c .before .before .before .before .before .before .loop .i) (c .before .before .before .before .before .loop-test .taken) in let e = c .before .before .before .wide .ensures in omega arith
 
 flip-requires : tie.Need-flip-requires Inv-loop μ-loop
 flip-requires c κs =
-    let h = c .before .before .before .before .before .before .before .before .before .before .before .before .before .before .pre .1 .below (c .before .before .before .before .before .before .loop .i) (c .before .before .before .before .before .loop-test .taken) in
-    let e = c .before .before .before .wide .ensures in
-    let few = c .before .before .before .before .before .before .before .before .before .before .before .before .before .before .pre .3 in
-    let l = c .before .before .before .before .before .before .loop .inv .1 .len in
-    let r = c .before .before .before .before .before .before .before .before .before .clear .ensures .len in
-    let room = c .before .before .before .before .before .before .before .before .before .before .before .before .before .before .pre .0 in
+    let h = c .before .before .before .before .before .before .before .before .before .before .before .before .before .before .before .pre .1 .below (c .before .before .before .before .before .before .before .loop .i) (c .before .before .before .before .before .before .loop-test .taken) in
+    let e = c .before .before .before .before .wide .ensures in
+    let b = c .bit-of .ensures in
+    let few = c .before .before .before .before .before .before .before .before .before .before .before .before .before .before .before .pre .3 in
+    let l = c .before .before .before .before .before .before .before .loop .inv .1 .len in
+    let r = c .before .before .before .before .before .before .before .before .before .before .clear .ensures .len in
+    let room = c .before .before .before .before .before .before .before .before .before .before .before .before .before .before .before .pre .0 in
     (omega arith, omega arith)
 
 add-i : tie.Need-add-i Inv-loop μ-loop
@@ -70,7 +68,7 @@ loop-again c =
     let q = c .before .before .wide in
     let inside : a .at + l .i < length (a .t .now) = let r = c .before .before .before .before .before .before .before .before .before .before .before .before .before .pre .1 .room in omega arith in
     ⊎-elim
-    (λ u. (omega arith, rw (u .5) (flipped (a .n) (a .lost .now) (a .t .now) (a .at) (l .i) (q .result) inside (q .ensures) (eq-eqb _ 1 (u .0 .taken)) (l .inv .1) (u .2 .ensures))))
+    (λ u. (omega arith, rw (u .6) (flipped (a .n) (a .lost .now) (a .t .now) (a .at) (l .i) (q .result) inside (q .ensures) (eq-eqb _ 1 (u .0 .taken)) (u .2 .result) (u .2 .ensures) (l .inv .1) (u .3 .ensures))))
     (λ u. (omega arith, rw (u .1) (passed (a .n) (a .lost .now) (a .t .now) (a .at) (l .i) (q .result) inside (q .ensures) (ne-eqb _ 1 (u .0 .left)) (l .inv .1))))
     (c .if1 .came)
 
@@ -84,4 +82,4 @@ returns c =
     put-put (c .before .before .before .before .clear .ensures) (rw e at (l .inv .1))
 
 pub load-lost-spec : {M : Type 1} → statement M
-load-lost-spec = tie.close (tie.spec Inv-loop μ-loop clear-requires loop-holds add-wide mul-wide shared-slice-read-wide wide-requires shared-slice-read-if1 sub-flip sub-flip-2 flip-requires add-i loop-less loop-again same-length returns)
+load-lost-spec = tie.close (tie.spec Inv-loop μ-loop clear-requires loop-holds add-wide mul-wide shared-slice-read-wide wide-requires shared-slice-read-if1 bit-of-requires flip-requires add-i loop-less loop-again same-length returns)

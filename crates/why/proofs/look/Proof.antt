@@ -50,10 +50,10 @@ returns-6 : tie.Need-returns-6
 returns-6 c = let a = c .before .before .before .before .before .before .before .before .before .before .before .before .before .before .before .before .before .args in found-byte (a .t .now) (a .block .now) (a .map .now) (a .work .now) (a .place) (a .reason .now) _ _ _ (c .before .before .before .before .before .before .before .before .before .before .before .look-over .ensures) (c .before .before .before .before .before .before .before .before .before .before .if1 .left) (c .before .before .before .before .before .before .before .before .wide .ensures) (c .before .before .before .before .before .before .wide2 .ensures) (c .before .before .before .before .before .if2 .left) (c .before .before .before .before .if3 .left) (c .before .before .before .if4 .left) (c .before .before .if5 .left) (sym (c .before .over-one .ensures) ∙ c .if6 .taken)
 
 returns-7 : tie.Need-returns-7
-returns-7 c = let a = c .before .before .before .before .before .before .before .before .before .before .before .before .before .before .before .before .before .before .args in found-place (a .t .now) (a .block .now) (a .map .now) (a .work .now) (a .place) (a .reason .now) _ _ _ (c .before .before .before .before .before .before .before .before .before .before .before .before .look-over .ensures) (c .before .before .before .before .before .before .before .before .before .before .before .if1 .left) (c .before .before .before .before .before .before .before .before .before .wide .ensures) (c .before .before .before .before .before .before .before .wide2 .ensures) (c .before .before .before .before .before .before .if2 .left) (c .before .before .before .before .before .if3 .left) (c .before .before .before .before .if4 .left) (c .before .before .before .if5 .left) (sym (c .before .before .over-one .ensures) ∙ c .before .if6 .left) (c .if7 .taken)
+returns-7 c = let a = c .before .before .before .before .before .before .before .before .before .before .before .before .before .before .before .before .before .before .args in found-place (a .t .now) (a .block .now) (a .map .now) (a .work .now) (a .place) (a .reason .now) _ _ _ (c .before .before .before .before .before .before .before .before .before .before .before .before .look-over .ensures) (c .before .before .before .before .before .before .before .before .before .before .before .if1 .left) (c .before .before .before .before .before .before .before .before .before .wide .ensures) (c .before .before .before .before .before .before .before .wide2 .ensures) (c .before .before .before .before .before .before .if2 .left) (c .before .before .before .before .before .if3 .left) (c .before .before .before .before .if4 .left) (c .before .before .before .if5 .left) (sym (c .before .before .over-one .ensures) ∙ c .before .if6 .left) (let h = c .if7 .taken in omega arith)
 
 returns-8 : tie.Need-returns-8
-returns-8 c = let a = c .before .before .before .before .before .before .before .before .before .before .before .before .before .before .before .before .before .before .args in found-none (a .t .now) (a .block .now) (a .map .now) (a .work .now) (a .place) (a .reason .now) _ _ _ (c .before .before .before .before .before .before .before .before .before .before .before .before .look-over .ensures) (c .before .before .before .before .before .before .before .before .before .before .before .if1 .left) (c .before .before .before .before .before .before .before .before .before .wide .ensures) (c .before .before .before .before .before .before .before .wide2 .ensures) (c .before .before .before .before .before .before .if2 .left) (c .before .before .before .before .before .if3 .left) (c .before .before .before .before .if4 .left) (c .before .before .before .if5 .left) (sym (c .before .before .over-one .ensures) ∙ c .before .if6 .left) (c .if7 .left)
+returns-8 c = let a = c .before .before .before .before .before .before .before .before .before .before .before .before .before .before .before .before .before .before .args in found-none (a .t .now) (a .block .now) (a .map .now) (a .work .now) (a .place) (a .reason .now) _ _ _ (c .before .before .before .before .before .before .before .before .before .before .before .before .look-over .ensures) (c .before .before .before .before .before .before .before .before .before .before .before .if1 .left) (c .before .before .before .before .before .before .before .before .before .wide .ensures) (c .before .before .before .before .before .before .before .wide2 .ensures) (c .before .before .before .before .before .before .if2 .left) (c .before .before .before .before .before .if3 .left) (c .before .before .before .before .if4 .left) (c .before .before .before .if5 .left) (sym (c .before .before .over-one .ensures) ∙ c .before .if6 .left) (let h = c .if7 .left in omega arith)
 
 pub look-spec : {M : Type 1} → statement M
 look-spec = tie.close (tie.spec look-over-requires returns shared-slice-read-wide wide-requires shared-slice-read-wide-2 wide-requires-2 mul-if2 returns-2 returns-3 returns-4 returns-5 over-one-requires returns-6 returns-7 returns-8)
