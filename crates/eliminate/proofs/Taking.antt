@@ -9,15 +9,15 @@ use lib.Bits.{bitXor}
 use lib.Dec.{eqb}
 use lib.Seq.{take-at}
 use borrow.Author.Tests.{not-true, not-false}
-use Rattle.lists.specs.Buffers.{getD-part, part-length}
-use Rattle.lists.specs.ListLaws.{all-append, all-filter, all-at, all-map, filter-all, getD-zeros}
-use Rattle.lists.specs.Lists.{has, minus, All}
-use Rattle.lists.specs.Tests.{byBool, eqb-lt, eqb-true, eqb-false}
+use Rattle.lists.specs.Buffers.{part-length}
+use Rattle.lists.specs.ListLaws.{all-append, all-filter, all-map, getD-zeros}
+use Rattle.lists.specs.Lists.{minus, All}
+use Rattle.lists.specs.Tests.{byBool, eqb-true, eqb-false}
 use Rattle.gf2.specs.Bit.{bit-zero}
 use Rattle.gf2.specs.EchelonLaws.{path-low, passed-skip, short-lt}
 use Rattle.gf2.specs.Gf2.{bit, isZero, Short, Bits, XorGroup, sumOver, down, path, rowOf}
 use Rattle.gf2.specs.RowValue.{row-lt}
-use Rattle.table.specs.Checks.{CheckIn, Places, checkSum, othersSum}
+use Rattle.table.specs.Checks.{Places, checkSum, othersSum}
 use Rattle.table.specs.PacketLaws.{packets-length, packets-sized, view, sum-view}
 use Rattle.table.specs.Packets.{packets, joined, packetSum, lowestNonzero}
 use Rattle.table.specs.SumLaws.{places-low, lowest-zeros, lowest-is}
@@ -29,6 +29,7 @@ use Rattle.rows.specs.Leads.{leads, Owners, Reducible, Lowered, pathOf}
 use Rattle.rows.specs.LeadsLaws.{put-reducible, put-path}
 use Rattle.decided.specs.Decided.{lostRow}
 use Rattle.eliminate.specs.Eliminating.{receivedPlaces, summedPlaces, rowSum, Summed}
+use Rattle.eliminate.specs.EliminatingLaws.{Noted, minus-none}
 
 -- ---- the two parts
 parts : (lost c : List ℕ) → length (receivedPlaces lost c) + length (lostPlaces lost c) ≡ length c
@@ -80,12 +81,6 @@ module _ (lost c : List ℕ) (none : lostPlaces lost c ≡ []) where
   summed-all f n = ap₂ _++_ (all-received lost c none) (ap (path f n) row-zero ∙ zero-path f n) ∙ append-nil c
 
 -- ---- the list as it lies in a buffer
--- the first all numbers of x are l
-pub record Noted (x : List ℕ) (all : ℕ) (l : List ℕ) : Type 0 where
-  pub list : take all (drop 0 x) ≡ l
-  pub count : all ≡ length l
-  pub room : all ≤ length x
-
 -- ps in front, and qs behind them, written into the rest of the buffer
 pub noted-part : {ps old e qs x e′ : List ℕ} {j k : ℕ} → Front ps old e j → Front qs x e′ k → (z : List ℕ) → Noted (take j e ++ (e′ ++ z)) (j + k) (ps ++ qs)
 noted-part {ps} {old} {e} {qs} {x} {e′} {j} {k} f g z =
@@ -100,20 +95,8 @@ noted-part {ps} {old} {e} {qs} {x} {e′} {j} {k} f g z =
       room = omega arith;
     }
 
--- it can be summed
-pub noted-in : {x l : List ℕ} {all : ℕ} → Noted x all l → (b : List ℕ) (n s : ℕ) → All (λ q. q < n) l → length b ≡ n * s → CheckIn x 0 all b n s
-noted-in {x} {l} {all} d b n s low bytes = record {
-  room = let r = d .room in omega arith;
-  below = λ i h. subst (λ v. v < n) (ap (λ v. getD v i 0) (sym (d .list)) ∙ getD-part x 0 all i h) (all-at 0 low i (let c = d .count in omega arith));
-  bytes = bytes;
-}
-
--- without a place that it doesn't have
-pub minus-none : (n : ℕ) {l : List ℕ} → All (λ q. q < n) l → minus l (n ∷ []) ≡ l
-minus-none n a = filter-all (λ q. not (has q (n ∷ []))) (all-map (λ q h. rw (eqb-lt q n h)) a)
-
 module _ (n : ℕ) (lost : List ℕ) (f : ℕ → ℕ) {c : List ℕ} (low : All (λ q. q < n) c) where
-  -- so do those that are summed for it
+  -- the places that are summed for it are places too
   pub summed-low : All (λ q. q < n) (summedPlaces lost c f n)
   summed-low = all-append (all-filter (λ q. not (isLost lost q)) low) (path-low f n (lostRow lost c))
 

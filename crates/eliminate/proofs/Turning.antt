@@ -9,44 +9,37 @@ use lib.Bits.{bitXor, xor-zero-l}
 use lib.Dec.{eqb}
 use lib.ListN.{length, getD, set, replicate, length-replicate}
 use lib.Seq.{ext-getD, getD-set-same, getD-set-other}
-use borrow.Author.Tests.{eq-eqb, ne-eqb}
+use borrow.Author.Tests.{eq-eqb}
 use Rattle.lists.specs.ListLaws.{all-map, all-of, all-zip, all-getD, getD-zeros, has-par, has-filter, map-all}
 use Rattle.lists.specs.Lists.{All, All.nil, All.cons}
 use Rattle.lists.specs.Tests.{byBool, eqb-true, eqb-false}
-use Rattle.gf2.specs.EchelonLaws.{bit-nonzero, path-leads, sum-bit, sums-complete}
+use Rattle.gf2.specs.EchelonLaws.{sum-bit, sums-complete}
 use Rattle.gf2.specs.Gf2.{bit, Short, Bits, XorGroup, add, sumOver, down, path, isZero}
 use Rattle.gf2.specs.Group.{sumOver-append}
 use Rattle.gf2.specs.OneRowMore.{Stopped, short-zero}
 use Rattle.gf2.specs.Places.{bit-row}
 use Rattle.gf2.specs.PairElimination.{places-within, reducedPair, reduced-in, vanished, rows′, sums′, turn-out, turn-in}
 use Rattle.gf2.specs.Pairs.{PairGroup, pairsOf}
-use Rattle.gf2.specs.RowValue.{sum-ext-in}
 use Rattle.gf2.specs.Span.{Span, span-zero, span-head, span-tail, span-within, Within, Within.none as wnil, Within.more, within-self}
 use Rattle.table.specs.Checks.{offset}
 use Rattle.table.specs.PacketLaws.{packets-length, packets-sized, view, sum-view}
 use Rattle.table.specs.Packets.{packets, joined, packetSum}
-use Rattle.table.specs.Accepted.{Accepted}
 use Rattle.table.specs.Table.{checks}
-use Rattle.table.specs.TableLaws.{accepted}
 use Rattle.packets.specs.SetLaws.{packets-set, bytes-set}
 use Rattle.erasure.specs.Restoring.{isLost, lostPlaces, zeroLost}
 use Rattle.erasure.specs.Values.{zeroLost-length, zeroLost-kept, zeroLost-zero}
 use Rattle.bits.specs.Row.{row}
 use Rattle.rows.specs.Leads.{leads, Owners, Lowered}
-use Rattle.rows.specs.LeadsLaws.{leads-none, leads-at, named, leads-kept, owners-kept, owners-below, own-here, own-other, own-most, lead-here, lead-other, lead-bits}
+use Rattle.rows.specs.LeadsLaws.{leads-none, named, leads-kept, owners-kept, owners-below, own-here, own-other, own-most, lead-here, lead-other, lead-bits}
 use Rattle.decided.specs.Decided.{lostRow, receivedSum, clashes}
 use Rattle.decided.specs.EliminatedPairs.{ByteGroup, comb-row, pairOf, found-clash}
 use Rattle.erasure.specs.OutcomeLaws.{zeroLost-sized}
 use Rattle.decided.specs.Words.{Block}
 use Rattle.eliminate.specs.Eliminating.{receivedPlaces, rowSum, sumsAt, ledPairs, Eliminated}
+use Rattle.eliminate.specs.EliminatingLaws.{none-sum, sums-led, path-sum}
 use Rattle.eliminate.proofs.Taking.{row-view}
 
 -- ---- sums of packets, byte by byte
--- byte j of a sum of functions of the byte
-pub sum-byte : (v : ℕ → ℕ → ℕ) (l : List ℕ) (j : ℕ) → sumOver ByteGroup v l j ≡ sumOver XorGroup (λ q. v q j) l
-sum-byte v [] j = refl
-sum-byte v (q ∷ l) j = ap (bitXor (v q j)) (sum-byte v l j)
-
 -- a sum in which lost places give nothing is that over the received ones
 received-sum : (lost : List ℕ) (g h : ℕ → ℕ) {c : List ℕ} → All (λ q. (isLost lost q ≡ true → g q ≡ 0) × (isLost lost q ≡ false → g q ≡ h q)) c
     → sumOver XorGroup g c ≡ sumOver XorGroup h (receivedPlaces lost c)
@@ -67,29 +60,9 @@ pub record Takes (t : List ℕ) (m n s : ℕ) (b₀ lost w owner b : List ℕ) (
   pub within : Within (PairGroup XorGroup ByteGroup) (map (pairOf s (packets s n b₀) lost) (checks t)) (ledPairs s n w owner b)
   pub passed : (j : ℕ) → j < i → Span (PairGroup XorGroup ByteGroup) (ledPairs s n w owner b) (pairOf s (packets s n b₀) lost (getD (checks t) j []))
 
--- rows that lead nothing have no sum
-pub none-sum : (w owner : List ℕ) (s n : ℕ) (b : List ℕ) → ((p : ℕ) → 0 < getD owner p 0 → Bits (row w (getD owner p 0 - 1)) (p + 1))
-    → (p : ℕ) → isZero (leads w owner p) ≡ true → sumsAt s n owner b p ≡ ByteGroup .o
-none-sum w owner s n b lead p z = named (getD owner p 0)
-    (λ e. fun-ext (λ j. rw (eq-eqb (getD owner p 0) 0 e)))
-    (λ e. let o : p + 1 - 1 ≡ p = omega arith in
-    absurd (true≢false (sym z ∙ ap isZero (leads-at w owner p e) ∙ bit-nonzero p (row w (getD owner p 0 - 1)) (rw o at (lead p e .last (omega arith))))))
-
--- a place on a path is led
-pub led-path : (w owner : List ℕ) (n x : ℕ) → All (λ q. 0 < getD owner q 0) (path (leads w owner) n x)
-led-path w owner n x = all-map (λ q z. named (getD owner q 0) (λ e. absurd (true≢false (ap isZero (sym (leads-none w owner q e)) ∙ z))) (λ e. e)) (path-leads (leads w owner) n x)
-
--- the sum at a led place is that of its packet
-pub sums-led : (s n : ℕ) (owner b : List ℕ) (q j : ℕ) → 0 < getD owner q 0 → sumsAt s n owner b q j ≡ view (packets s n b) j q
-sums-led s n owner b q j h = rw (ne-eqb (getD owner q 0) 0 (λ (e : getD owner q 0 ≡ 0). omega arith))
-
+-- a place that no row leads has no sum
 sums-none : (s n : ℕ) (owner b : List ℕ) (q j : ℕ) → getD owner q 0 ≡ 0 → sumsAt s n owner b q j ≡ 0
 sums-none s n owner b q j h = rw (eq-eqb (getD owner q 0) 0 h)
-
--- the sums along a path
-pub path-sum : (s n : ℕ) (w owner b : List ℕ) (k x j : ℕ) → sumOver ByteGroup (sumsAt s n owner b) (path (leads w owner) k x) j ≡ sumOver XorGroup (view (packets s n b) j) (path (leads w owner) k x)
-path-sum s n w owner b k x j = sum-byte (sumsAt s n owner b) (path (leads w owner) k x) j
-    ∙ sum-ext-in XorGroup (all-map (λ q h. sums-led s n owner b q j h) (led-path w owner k x))
 
 -- where all members' pairs are sums
 within-list : {S : List (ℕ × (ℕ → ℕ))} (f : List ℕ → ℕ × (ℕ → ℕ)) (cs : List (List ℕ))
@@ -141,10 +114,6 @@ all-known lost [] h = nil
 all-known lost (p ∷ c) h = byBool (isLost lost p)
     (λ e. let z : _≡_ {A = ℕ} (suc (length (lostPlaces lost c))) 0 = ap length (rw e at h) in absurd (omega arith))
     (λ e. cons e (all-known lost c (rw e at h)))
-
--- the places of every check lie below n
-pub checks-low : (t : List ℕ) (m n s : ℕ) → Accepted t m n s → All (λ c. All (λ p. p < n) c) (checks t)
-checks-low t m n s k = rw (k .places-are) (accepted t (k .accepted) .low)
 
 -- ---- one check
 module _ {t : List ℕ} {m n s : ℕ} {b₀ lost w owner b : List ℕ} {k i at : ℕ} (z : Takes t m n s b₀ lost w owner b k i at)

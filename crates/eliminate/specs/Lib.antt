@@ -1,1 +1,2 @@
 pub mod Eliminating
+pub mod EliminatingLaws

@@ -63,7 +63,7 @@ fn decide(
 {
     let done = restore::restore_packets(t, m, n, s, block, map);
     if done.agrees {
-        return eliminate::solve(t, m, n, s, block, map, work);
+        return settle::solve(t, m, n, s, block, map, work);
     }
     false
 }

@@ -8,7 +8,8 @@ use lib.ListN.{length, length-set}
 use Rattle.table.specs.Accepted.{few-places, few-checks, has-weights, light, check-count, places-at, check-is, check-fits, offset-more}
 use Rattle.table.specs.Table.{checks}
 use Rattle.eliminate.specs.Eliminating.{Eliminated}
-use Rattle.eliminate.proofs.Turning.{Takes, start, owners, checks-low, still-known, turn-clash, turn-same, turn-miss, turn-hit, same-block, done}
+use Rattle.eliminate.specs.EliminatingLaws.{checks-low}
+use Rattle.eliminate.proofs.Turning.{Takes, start, owners, still-known, turn-clash, turn-same, turn-miss, turn-hit, same-block, done}
 use Rattle.eliminate.proofs.take_all.Statement.{statement}
 use Rattle.eliminate.proofs.take_all.Tie as tie
 

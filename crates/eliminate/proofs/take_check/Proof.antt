@@ -9,7 +9,8 @@ use Rattle.bits.specs.Front.{front-length}
 use Rattle.rows.specs.Leads.{leads}
 use Rattle.rows.specs.LeadsLaws.{lowered-as}
 use Rattle.table.specs.SumLaws.{places-low}
-use Rattle.eliminate.proofs.Taking.{received-few, noted-few, reducible, path-as, noted-part, noted-in, summed-low, whole, skipped, zero-lowered, judged, kept-sum}
+use Rattle.eliminate.specs.EliminatingLaws.{noted-in}
+use Rattle.eliminate.proofs.Taking.{received-few, noted-few, reducible, path-as, noted-part, summed-low, whole, skipped, zero-lowered, judged, kept-sum}
 use borrow.Author.Needs.{needs}
 use Rattle.eliminate.proofs.take_check.Statement.{statement}
 use Rattle.eliminate.proofs.take_check.Tie as tie

@@ -1,11 +1,11 @@
--- `eliminate::settle_all` meets its contract: `Settles` holds at each turn.
+-- `settle::settle_all` meets its contract: `Settles` holds at each turn.
 use Prim.Native.Nat.{_-_, _≤_}
 use mathlib.Core.Path.{_≡_, refl, sym, _∙_}
 use native.Mathlib.Omega.{arith}
 use lib.ListN.{length}
-use Rattle.eliminate.proofs.Settling.{Settles, start, passed-over, settled, all-settled}
-use Rattle.eliminate.proofs.settle_all.Statement.{statement}
-use Rattle.eliminate.proofs.settle_all.Tie as tie
+use Rattle.settle.proofs.Settling.{Settles, start, passed-over, settled, all-settled}
+use Rattle.settle.proofs.settle_all.Statement.{statement}
+use Rattle.settle.proofs.settle_all.Tie as tie
 
 abbrev Inv-loop : tie.InvT-loop
 Inv-loop w₀ owner₀ n s block₀ map₀ noted₀ p₀ w owner block map noted p =

@@ -27,8 +27,8 @@ use Rattle.bits.specs.Row.{row, RowPut}
 use Rattle.bits.specs.RowLaws.{row-other, put-put, put-is}
 use Rattle.rows.specs.Leads.{leads, Owners, Reducible, Lowered, pathOf}
 use Rattle.rows.specs.LeadsLaws.{leads-none, leads-at, named}
 use Rattle.eliminate.specs.Eliminating.{without, vanishes, settledPacket, settledMap, Led, Settled, SettledAll}
-use Rattle.eliminate.proofs.Taking.{Noted, noted-in, minus-none}
+use Rattle.eliminate.specs.EliminatingLaws.{Noted, noted-in, minus-none}
 
 -- ---- rows below a place
 -- reducing from place p down sees only the rows that lead lower places

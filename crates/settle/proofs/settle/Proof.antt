@@ -1,11 +1,11 @@
--- `eliminate::settle` meets its contract: the laws of one place, applied.
+-- `settle::settle` meets its contract: the laws of one place, applied.
 use native.Mathlib.Omega.{arith}
 use lib.ListN.{length-set}
 use borrow.Author.Needs.{needs}
 use Rattle.table.specs.BufferLaws.{place-fits}
-use Rattle.eliminate.proofs.Settling.{behind-long, whole-long, noted-few, can-reduce, can-restore, gone, left}
-use Rattle.eliminate.proofs.settle.Statement.{statement}
-use Rattle.eliminate.proofs.settle.Tie as tie
+use Rattle.settle.proofs.Settling.{behind-long, whole-long, noted-few, can-reduce, can-restore, gone, left}
+use Rattle.settle.proofs.settle.Statement.{statement}
+use Rattle.settle.proofs.settle.Tie as tie
 
 mul-wide : tie.Need-mul-wide
 mul-wide c = search needs

@@ -1,11 +1,11 @@
--- `eliminate::solve` meets its contract.
+-- `settle::solve` meets its contract.
 use borrow.Author.Needs.{needs}
 use Rattle.lists.specs.ListLaws.{getD-zeros}
 use Rattle.table.specs.Accepted.{few-places}
-use Rattle.eliminate.proofs.Turning.{checks-low}
-use Rattle.eliminate.proofs.Solving.{solved, clashed}
-use Rattle.eliminate.proofs.solve.Statement.{statement}
-use Rattle.eliminate.proofs.solve.Tie as tie
+use Rattle.eliminate.specs.EliminatingLaws.{checks-low}
+use Rattle.settle.proofs.Solving.{solved, clashed}
+use Rattle.settle.proofs.solve.Statement.{statement}
+use Rattle.settle.proofs.solve.Tie as tie
 
 slice-aggregate-take-all : tie.Need-slice-aggregate-take-all
 slice-aggregate-take-all c = search needs

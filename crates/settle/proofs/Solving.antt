@@ -27,9 +27,9 @@ use Rattle.decided.specs.AfterWords.{value-length}
 use Rattle.decided.specs.EliminatedPairs.{ByteGroup, pairOf, echelon-calm, lead-decided, lead-value, free-lost}
 use Rattle.decided.specs.Packed.{listOf-length}
 use Rattle.decided.specs.Words.{Block}
 use Rattle.eliminate.specs.Eliminating.{sumsAt, without, vanishes, ZeroLost, Led, Eliminated, SettledAll, Solves}
-use Rattle.eliminate.proofs.Settling.{settled-gone, settled-left}
-use Rattle.eliminate.proofs.Turning.{none-sum, path-sum, sums-led}
+use Rattle.eliminate.specs.EliminatingLaws.{none-sum, path-sum, sums-led}
+use Rattle.settle.proofs.Settling.{settled-gone, settled-left}
 
 -- rows that owner names lead their places
 led-lead : {w owner : List ℕ} {n : ℕ} → Led w owner n → Lead (leads w owner)
