@@ -3,7 +3,7 @@ use mathlib.Core.Path.{_≡_}
 use mathlib.Core.Bool.{Bool, true, false, cond, not, _||_, _&&_}
 use mathlib.Core.List.{List, [], _∷_, _++_}
 use mathlib.Core.Option.{Option, none, some}
-use Prim.Native.Nat.{ℕ, zero, suc, _+_}
+use Prim.Native.Nat.{ℕ, zero, suc, _+_, _≤_}
 use lib.Dec.{eqb}
 use lib.ListN.{length, take, drop}
 
@@ -66,6 +66,11 @@ pub data All {X : Type 0} (P : X → Type 0) : List X → Type 0 where
 pub data Distinct : List ℕ → Type 0 where
   dnil : Distinct []
   dnew : {x : ℕ} {l : List ℕ} → has x l ≡ false → Distinct l → Distinct (x ∷ l)
+
+-- strictly ascending, from b on
+pub data Up : ℕ → List ℕ → Type 0 where
+  unone : {b : ℕ} → Up b []
+  uthen : {b x : ℕ} {l : List ℕ} → b ≤ x → Up (suc x) l → Up b (x ∷ l)
 
 -- ---- lists from lists
 -- the members that pass, in their order

@@ -8,8 +8,8 @@ use native.Mathlib.Omega.{arith}
 use borrow.Author.Tests.{ltb-true, ltb-false}
 use lib.Dec.{eqb, ltb}
 use Rattle.gf2.specs.Gf2.{Group2, XorGroup, sumOver, comb, isSum, isZero, choose}
-use Rattle.lists.specs.Ascending.{Up, Up.none as upnil, Up.then as upmore, up-weak, up-filter}
-use Rattle.lists.specs.Lists.{All, All.nil, All.cons, has, filter, from}
+use Rattle.lists.specs.Ascending.{up-weak, up-filter}
+use Rattle.lists.specs.Lists.{All, All.nil, All.cons, has, filter, from, Up, Up.unone as upnil, Up.uthen as upmore}
 use Rattle.lists.specs.ListLaws.{all-map}
 use Rattle.lists.specs.Numbers.{filter-has}
 use Rattle.lists.specs.Tests.{byBool, eqb-true, eqb-false, eqb-self, or-r}

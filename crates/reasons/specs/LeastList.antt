@@ -8,9 +8,8 @@ use Rattle.decided.specs.Decided.{decided}
 use Rattle.erasure.specs.Restoring.{isLost}
 use Rattle.gf2.specs.Gf2.{isZero, Short, down}
 use Rattle.gf2.specs.OneRowMore.{Stopped, down-zero}
-use Rattle.lists.specs.Ascending.{Up}
 use Rattle.lists.specs.ListLaws.{all-map, map-all}
-use Rattle.lists.specs.Lists.{has, filter, from, All}
+use Rattle.lists.specs.Lists.{has, filter, from, All, Up}
 use Rattle.reasons.specs.AscendingLaws.{up-run, up-same, has-run}
 use Rattle.reasons.specs.Echelon.{down-stopped, topOf, top-is, leadsOf, echelon, echelon-lead, echelon-in, echelon-out}
 use Rattle.reasons.specs.Least.{least-one, found, found-least, unit-short}

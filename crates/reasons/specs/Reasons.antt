@@ -8,8 +8,7 @@ use lib.ListN.{length, getD}
 use Rattle.decided.specs.Decided.{lostRow, decided}
 use Rattle.erasure.specs.Restoring.{isLost}
 use Rattle.gf2.specs.Gf2.{XorGroup, BoolGroup, sumOver, isZero, choose, maskFor}
-use Rattle.lists.specs.Ascending.{Up}
-use Rattle.lists.specs.Lists.{has, par, count, from, All}
+use Rattle.lists.specs.Lists.{has, par, count, from, All, Up}
 
 -- ---- the used checks
 -- the lost places of check j, as a row

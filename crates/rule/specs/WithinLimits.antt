@@ -6,10 +6,10 @@ use Prim.Native.Nat.{ℕ, _+_, _*_, _<_, _≤_}
 use native.Mathlib.Nat.{mul-le-mul}
 use native.Mathlib.Omega.{arith}
 use lib.ListN.{length, length-append}
-use Rattle.lists.specs.Ascending.{Up, up-filter, down-rev, down-below}
+use Rattle.lists.specs.Ascending.{up-filter, down-rev, down-below}
 use Rattle.gf2.specs.Gf2.{isZero, choose, XorGroup, rowOf, isSum}
 use Rattle.lists.specs.ListLaws.{length-rev}
-use Rattle.lists.specs.Lists.{Distinct, rev, All}
+use Rattle.lists.specs.Lists.{Distinct, rev, All, Up}
 use Rattle.lists.specs.Tests.{byBool}
 use Rattle.table.specs.Table.{mostPlaces, mostOnes, ones}
 use Rattle.plan.specs.Layout.{mostAside, mostSteps, leastPlan, leastNumbers}

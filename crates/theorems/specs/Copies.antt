@@ -7,8 +7,7 @@ use Prim.Native.Nat.{ℕ, zero, suc, _+_, _*_, _<_, _≤_}
 use native.Mathlib.Omega.{arith}
 use lib.Dec.{ltb}
 use lib.ListN.{length}
-use Rattle.lists.specs.Ascending.{Up.none as unone, Up.then as uthen}
-use Rattle.lists.specs.Lists.{All, All.nil, All.cons}
+use Rattle.lists.specs.Lists.{All, All.nil, All.cons, Up.unone, Up.uthen}
 use Rattle.table.specs.Table.{mostChecks, checks, ones, refusal, rising}
 use Rattle.making.specs.ReadBack.{checks-back}
 use Rattle.making.specs.WrittenAccepted.{Fits, written-accepted}

@@ -7,7 +7,7 @@ use Prim.Native.Nat.{ℕ, _+_, _-_, _<_, _≤_}
 use native.Mathlib.Omega.{arith}
 use borrow.Author.Tests.{lt-ltb, le-ltb, le-leb, eq-eqb}
 use lib.ListN.{length}
-use Rattle.lists.specs.Lists.{allPass, All, All.nil, All.cons}
+use Rattle.lists.specs.Lists.{allPass, All, All.nil, All.cons, Up, Up.unone, Up.uthen}
 use Rattle.table.specs.Table.{mostPlaces, mostChecks, places, checks, refusal, rising}
 use Rattle.table.specs.TableLaws.{Good, accepted, within}
 use Rattle.plan.specs.Step.{unpack, unpackAll}
@@ -19,7 +19,6 @@ pub use Rattle.rule.specs.Choices.{byRule}
 use Rattle.rule.specs.Rule.{Plan}
 use Rattle.rule.specs.WellFormed.{well-formed, info-low}
 use Rattle.rule.specs.Info.{info-number, kept-few}
-use Rattle.lists.specs.Ascending.{Up, Up.none as unone, Up.then as uthen}
 use Rattle.rule.specs.WithinLimits.{info-up, kept-length, aside-few, steps-limit}
 use Rattle.planner.specs.Planning.{planOfBy, numbersBy}
 

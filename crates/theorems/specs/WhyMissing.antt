@@ -13,9 +13,8 @@ use Rattle.decided.specs.Decided.{decided, markAfter, solvedMap}
 use Rattle.erasure.specs.Restoring.{isLost}
 use Rattle.full.specs.Full.{fullRefusal, fullMapAfter}
 use Rattle.full.specs.FullLaws.{map-accepted}
-use Rattle.lists.specs.Ascending.{Up}
 use Rattle.lists.specs.ListLaws.{all-at, none-any}
-use Rattle.lists.specs.Lists.{has, from, All}
+use Rattle.lists.specs.Lists.{has, from, All, Up}
 use Rattle.lists.specs.Numbers.{map-from-at}
 use Rattle.lists.specs.Tests.{byBool, eqb-true, eqb-false}
 use Rattle.reasons.specs.LeastList.{least-only}
