@@ -602,7 +602,7 @@ fn table_a_cases(run: &mut Run) {
     let p4 = [HERE, HERE, HERE, three, HERE, five, (RESTORED, &[0])];
     a("P4", A, &[3, 5, 6], p4);
     a("A, nothing lost", A, &[], [HERE; 7]);
-    // Of the sets of place 6 the one without 5 and 4 has the most places.
+    // Of the sets of place 6 the least is the one without 5, 4 and 2, though {2, 3, 6} has fewer places.
     let (low, high): (Told, Told) = ((LOST, &[0, 1, 2]), (LOST, &[0, 3, 4]));
     let all = [low, low, low, high, high, (LOST, &[1, 3, 5]), (LOST, &[0, 1, 3, 6])];
     a("A, all lost", A, &[0, 1, 2, 3, 4, 5, 6], all);

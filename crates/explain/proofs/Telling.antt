@@ -1,11 +1,11 @@
 -- The list for a lost place, from what elimination left and from the place's own row, reduced.
-use mathlib.Core.Path.{_≡_, refl, sym, ap, ap₂, _∙_, subst}
+use mathlib.Core.Path.{_≡_, sym, ap, ap₂, _∙_, subst}
 use mathlib.Core.Bool.{true, false, true≢false}
 use mathlib.Core.List.{List, map}
-use Prim.Native.Nat.{ℕ, suc, _+_, _-_, _*_, _^_, _<_, _≤_}
+use Prim.Native.Nat.{ℕ, suc, _-_, _^_, _<_, _≤_}
 use native.Mathlib.Omega.{arith}
 use lib.Bits.{bitXor, xor-zero-l}
-use lib.ListN.{length, getD, take}
+use lib.ListN.{length, take}
 use Rattle.bits.specs.Front.{Front, front-is, front-taken}
 use Rattle.bits.specs.Row.{row, RowPut}
 use Rattle.bits.specs.RowLaws.{put-put, put-is}
@@ -20,7 +20,7 @@ use Rattle.reasons.specs.LeastBits.{evenBits}
 use Rattle.reasons.specs.LeastList.{placesOf, listed-least, listed-up}
 use Rattle.reasons.specs.ListedLaws.{listed-restored}
 use Rattle.reasons.specs.Mirror.{mirror, mirrorRow}
-use Rattle.reasons.specs.Reasons.{named, Listed}
+use Rattle.reasons.specs.Reasons.{named}
 use Rattle.reasons.specs.Trace.{trace}
 use Rattle.reasons.specs.Traced.{bitsBelow, Numbered, kept-in, kept-out, place-decided, traced-list}
 use Rattle.reasons.specs.Used.{chosen}
@@ -32,7 +32,6 @@ use Rattle.table.specs.TableLaws.{accepted}
 use Rattle.tracing.specs.Tracing.{numberIn, Led, Taken}
 use Rattle.tracing.specs.TracingLaws.{numbered, path-led}
 use Rattle.explain.specs.Telling.{Tells}
-use Rattle.explain.specs.declared.Told.{Told}
 
 -- a place flipped in a row that was zero
 pub one-place : (q v : ℕ) → v ≡ q → {w e f : List ℕ} {r : ℕ} → RowPut w r 0 e → RowPut e r (bitXor (row e r) (2 ^ v)) f → RowPut w r (2 ^ q) f

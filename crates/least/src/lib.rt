@@ -75,7 +75,8 @@ fn write_places(set: &[u8], n: usize, list: &mut [u16]) -> usize
     c
 }
 
-// The set that has bit f, which leads no row, and that every row meets an even number of times: its places, written in front, and how many.
+// The set with bit f, without the other bits that lead no row, and with those that lead one as their rows ask: its places, written in front,
+// and how many.
 pub fn list_places(w: &[u64], owner: &[u16], n: usize, f: usize, list: &mut [u16]) -> usize
     requires rows { ⌜ ((p : ℕ) → getD (now owner) p 0 * 16 ≤ length (now w))
         × ((p : ℕ) → 0 < getD (now owner) p 0 → Bits (row (now w) (getD (now owner) p 0 - 1)) (p + 1)) ⌝ }

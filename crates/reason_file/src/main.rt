@@ -1,25 +1,35 @@
 // reason_file TABLE BLOCK MAP PLACE: says why the place's packet is there or missing after full
-// repair, and full repair's counts. It writes no file.
+// repair, and full repair's counts. MAP is the map before any repair. It writes no file.
 use numerals::Number;
 use text::Read;
+ghost use mathlib.Core.Bool.{true};
+ghost use mathlib.Core.List.{[], _∷_};
+ghost use mathlib.Core.Path.{_≡_};
+ghost use Rattle.lists.specs.Lists.{has};
 
 // the most bytes of a block
 const MOST_BLOCK: usize = 32768;
-
-// the numbers of a reason buffer
-const REASON_NUMBERS: usize = 1024;
 
 // the kinds of a reason; a third is lost
 const RECEIVED: u32 = 1;
 
 const RESTORED: u32 = 2;
 
-// Says the refusal.
-fn refuse(refusal: u32) {
-    if refusal == 8 {
+// Says on standard error why no reason is told.
+fn refuse(refusal: u32)
+    requires { ⌜ has refusal (1 ∷ 2 ∷ 3 ∷ 4 ∷ 5 ∷ 7 ∷ 14 ∷ 8 ∷ []) ≡ true ⌝ }
+{
+    if refusal == 5 {
         io::write_all(
             libc::STDERR_FILENO,
-            b"refused 8: no codeword agrees with the received packets\n",
+            b"refused 5: a block or map that doesn't have the table's places and packet size\n",
+        );
+        return;
+    }
+    if refusal == 7 {
+        io::write_all(
+            libc::STDERR_FILENO,
+            b"refused 7: the map has a byte over 1; give the map as it was before any repair\n",
         );
         return;
     }
@@ -30,7 +40,14 @@ fn refuse(refusal: u32) {
         );
         return;
     }
-    text::say_refused(refusal);
+    if refusal == 8 {
+        io::write_all(
+            libc::STDERR_FILENO,
+            b"refused 8: no codeword agrees with the received packets\n",
+        );
+        return;
+    }
+    text::say_table_refused(refusal);
 }
 
 // Prints numbers, each after a blank.
@@ -70,7 +87,7 @@ fn print_reason(place: usize, kind: u32, list: &[u16]) {
 
 fn explain_place(table: &[u16], block: &mut [u8], map: &mut [u8], place: usize) {
     let mut work = [0u64; table::WORK_WORDS];
-    let mut reason = [0u16; REASON_NUMBERS];
+    let mut reason = [0u16; why::REASON_NUMBERS];
     let answer = why::why(table, block, map, &mut work, place, &mut reason);
     if answer.refusal != 0 {
         refuse(answer.refusal);

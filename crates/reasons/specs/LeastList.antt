@@ -1,5 +1,5 @@
 -- The least even set as an ascending list that computes: it is least, and the only list that is.
-use mathlib.Core.Path.{_≡_, sym, ap, _∙_, subst, fun-ext}
+use mathlib.Core.Path.{_≡_, sym, _∙_, subst, fun-ext}
 use mathlib.Core.Bool.{Bool, true, false, cond}
 use mathlib.Core.List.{List, map}
 use Prim.Native.Nat.{ℕ, _^_, _<_}
@@ -12,7 +12,7 @@ use Rattle.lists.specs.ListLaws.{all-map, map-all}
 use Rattle.lists.specs.Lists.{has, filter, from, All, Up}
 use Rattle.reasons.specs.AscendingLaws.{up-run, up-same, has-run}
 use Rattle.reasons.specs.Echelon.{down-stopped, topOf, top-is, leadsOf, echelon, echelon-lead, echelon-in, echelon-out}
-use Rattle.reasons.specs.Least.{least-one, found, found-least, unit-short}
+use Rattle.reasons.specs.Least.{least-one, found-least, unit-short}
 use Rattle.reasons.specs.LeastBits.{evenBits}
 use Rattle.reasons.specs.Mirror.{mirror, mirrorRow, mirror-short, mirror-decided}
 use Rattle.reasons.specs.Reasons.{LeastEven}

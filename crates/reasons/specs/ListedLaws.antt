@@ -1,6 +1,6 @@
 -- The list for a place: there is one, there is only one, and the kind agrees with full repair's map.
-use mathlib.Core.Path.{_≡_, refl, sym, ap, _∙_}
-use mathlib.Core.Bool.{true, false, true≢false, false≢true}
+use mathlib.Core.Path.{_≡_, refl, sym, _∙_}
+use mathlib.Core.Bool.{true, false, true≢false}
 use mathlib.Core.List.{List, []}
 use Prim.Native.Nat.{ℕ, _<_}
 use lib.Dec.{eqb}
@@ -55,16 +55,16 @@ module _ (n : ℕ) (cs : List (List ℕ)) (lost : List ℕ) (p : ℕ) where
     lost-least = λ t d. rw (t, listFor, d) (list-least n cs low lost p h t d);
   }
 
--- full repair's mark by the kind
-abbrev pub markOf : ℕ → ℕ
-markOf k =
-    elim (eqb k 1) [
-      | true ↦ 0
+-- the kind by full repair's mark: 0 received, 2 restored, 1 lost
+abbrev pub kindBy : ℕ → ℕ
+kindBy mark =
+    elim (eqb mark 0) [
+      | true ↦ 1
       | false ↦
-          elim (eqb k 2) [ true ↦ 2 | false ↦ 1 ]
+          elim (eqb mark 2) [ true ↦ 2 | false ↦ 3 ]
     ]
 
-pub kind-mark : (cs : List (List ℕ)) (lost : List ℕ) (p : ℕ) → (isLost lost p ≡ false → getD lost p 0 ≡ 0) → markAfter cs lost p ≡ markOf (kindOf lost cs p)
+pub kind-mark : (cs : List (List ℕ)) (lost : List ℕ) (p : ℕ) → (isLost lost p ≡ false → getD lost p 0 ≡ 0) → kindOf lost cs p ≡ kindBy (markAfter cs lost p)
 kind-mark cs lost p zero = byBool (isLost lost p)
     (λ t. byBool (decided lost cs p) (λ d. rw (t, markAfter, kindOf, d)) (λ d. rw (t, markAfter, kindOf, d)))
-    (λ t. rw (t, markAfter, kindOf) (zero t))
+    (λ t. rw (t, markAfter, kindOf, zero t))

@@ -2,16 +2,15 @@
 use mathlib.Core.Path.{_≡_, refl, sym, ap, ap₂, _∙_}
 use mathlib.Core.Bool.{Bool, true, false≢true}
 use mathlib.Core.List.{List, [], _∷_, map}
-use Prim.Native.Nat.{ℕ, zero, suc, _-_, _^_, _<_, _≤_}
+use Prim.Native.Nat.{ℕ, zero, suc, _-_, _^_, _<_}
 use native.Mathlib.Omega.{arith}
-use lib.Dec.{eqb}
 use lib.ListN.{length, getD}
 use Rattle.erasure.specs.Restoring.{isLost, lostPlaces}
 use Rattle.gf2.specs.EchelonLaws.{sums-sound, sums-complete, short-lt}
 use Rattle.gf2.specs.Gf2.{Group2, XorGroup, sumOver, comb, isZero, choose, rowOf, sums, Short}
 use Rattle.gf2.specs.Linear.{Lin, lin-image}
 use Rattle.gf2.specs.RowValue.{val, val-lin, val-row, val-pow, sum-ext-in, row-lt}
-use Rattle.lists.specs.ListLaws.{all-map, all-filter, map-all}
+use Rattle.lists.specs.ListLaws.{all-map, all-of, all-filter, map-all, map-same}
 use Rattle.lists.specs.Lists.{All, All.nil, All.cons, from}
 use Rattle.lists.specs.Tests.{byBool}
 use Rattle.decided.specs.Decided.{decided, lostRow}
@@ -67,15 +66,11 @@ mirrored-back n {c} a = mirrored-row n (mirror-low n a)
 -- ---- rows carried there and back by linear maps
 module _ {X : Type 0} (g g′ : X → ℕ) (φ ψ : ℕ → ℕ) (lin-φ : Lin XorGroup XorGroup φ) (lin-ψ : Lin XorGroup XorGroup ψ)
     (there : (x : X) → φ (g x) ≡ g′ x) (back : (x : X) → ψ (g′ x) ≡ g x) where
-  same-rows : {A : Type 0} (h k : X → A) → ((x : X) → h x ≡ k x) → (ys : List X) → map h ys ≡ map k ys
-  same-rows h k e [] = refl
-  same-rows h k e (y ∷ ys) = ap₂ _∷_ (e y) (same-rows h k e ys)
-
   pub comb-there : (m : List Bool) (ys : List X) → φ (comb XorGroup m (map g ys)) ≡ comb XorGroup m (map g′ ys)
-  comb-there m ys = lin-image XorGroup XorGroup lin-φ g m ys ∙ ap (comb XorGroup m) (same-rows (λ x. φ (g x)) g′ there ys)
+  comb-there m ys = lin-image XorGroup XorGroup lin-φ g m ys ∙ ap (comb XorGroup m) (map-same (λ x. φ (g x)) g′ (all-of there ys))
 
   pub comb-back : (m : List Bool) (ys : List X) → ψ (comb XorGroup m (map g′ ys)) ≡ comb XorGroup m (map g ys)
-  comb-back m ys = lin-image XorGroup XorGroup lin-ψ g′ m ys ∙ ap (comb XorGroup m) (same-rows (λ x. ψ (g′ x)) g back ys)
+  comb-back m ys = lin-image XorGroup XorGroup lin-ψ g′ m ys ∙ ap (comb XorGroup m) (map-same (λ x. ψ (g′ x)) g (all-of back ys))
 
   sums-there : (ys : List X) {y y′ : ℕ} → φ y ≡ y′ → sums (map g ys) y ≡ true → sums (map g′ ys) y′ ≡ true
   sums-there ys {y} {y′} i e = let p = sums-sound (map g ys) y e in

@@ -1,16 +1,15 @@
 -- Elimination of the mirrored rows that notes which rows fed a row: it keeps the used checks, the walk back from a place gives the list for it,
 -- and solving the set.
-use mathlib.Core.Path.{_≡_, refl, sym, ap, ap₂, _∙_, subst}
+use mathlib.Core.Path.{_≡_, refl, sym, ap, _∙_, subst}
 use mathlib.Core.Bool.{Bool, true, false, cond}
-use mathlib.Core.List.{List, [], _∷_, _++_, map}
-use Prim.Native.Nat.{ℕ, zero, suc, _^_, _<_, _≤_}
+use mathlib.Core.List.{List, [], _∷_, map}
+use Prim.Native.Nat.{ℕ, zero, suc, _^_, _<_}
 use native.Mathlib.Nat.{le-refl}
-use native.Mathlib.Omega.{arith}
 use lib.Bits.{bitXor}
 use lib.ListN.{length, getD, length-map}
 use Rattle.decided.specs.Decided.{decided}
 use Rattle.gf2.specs.Columns.{isZero-sound}
-use Rattle.gf2.specs.EchelonLaws.{sums-sound, sums-complete, down-path, path-leads}
+use Rattle.gf2.specs.EchelonLaws.{sums-sound, sums-complete, down-path, path-leads, short-lt}
 use Rattle.gf2.specs.Gf2.{Group2, XorGroup, sumOver, comb, bit, isZero, onto, rowOf, sums, Lead, Short, rowsOf, down, path, maskFor}
 use Rattle.gf2.specs.Group.{eq-zero, left-comm}
 use Rattle.gf2.specs.GreedyLaws.{choose-spans}
@@ -18,7 +17,6 @@ use Rattle.gf2.specs.MaskLaws.{mask-sums, mask-length}
 use Rattle.gf2.specs.OneRowMore.{down-zero}
 use Rattle.gf2.specs.PairElimination.{place-in, places-within}
 use Rattle.gf2.specs.RowValue.{val, val-row, sum-ext-in, row-lt}
-use Rattle.gf2.specs.EchelonLaws.{short-lt}
 use Rattle.gf2.specs.Span.{Within, span-within, within-trans}
 use Rattle.gf2.specs.Unique.{mask-unique}
 use Rattle.lists.specs.ListLaws.{all-map, map-all}
@@ -27,7 +25,7 @@ use Rattle.lists.specs.Numbers.{from-length}
 use Rattle.reasons.specs.Mirror.{mirror, mirrorRow, mirrorAt, mirrored, sum-map, rows-back, chosen-used, place-back, mirror-decided}
 use Rattle.reasons.specs.Reasons.{rowAt, used, named, restoredBy}
 use Rattle.reasons.specs.Trace.{trace, Fed, trace-sum}
-use Rattle.reasons.specs.Used.{at, chosen, chosen-in, onto-in-order, rows-listed, within-of-all, usedRows, used-indep, used-decided, from-map}
+use Rattle.reasons.specs.Used.{at, chosen, chosen-in, onto-in-order, rows-listed, within-of-all, usedRows, used-indep, from-map}
 
 -- ---- a choice by bits
 -- the bits of y below k, as a mask

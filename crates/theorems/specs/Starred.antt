@@ -108,6 +108,14 @@ hears2 v = record { block = 0xff ∷ 0xff ∷ 0x04 ∷ v ∷ 0xff ∷ 0x0b ∷ 0
 abbrev table21 : List ℕ
 table21 = 2 ∷ 3 ∷ 1 ∷ 2 ∷ 2 ∷ 1 ∷ 3 ∷ 1 ∷ 2 ∷ 2 ∷ []
 
+-- two places of one byte, checks [0 1][0]
+abbrev table21b : List ℕ
+table21b = 2 ∷ 2 ∷ 1 ∷ 2 ∷ 2 ∷ 1 ∷ 3 ∷ 0 ∷ 1 ∷ 0 ∷ []
+
+-- three places of one byte, check [0 1]
+abbrev table21c : List ℕ
+table21c = 2 ∷ 3 ∷ 1 ∷ 1 ∷ 2 ∷ 2 ∷ 0 ∷ 1 ∷ []
+
 -- P2's block with 2, 4, 5 lost; as it is afterwards, none of them restored
 abbrev lost245 : List ℕ
 lost245 = 0x01 ∷ 0x02 ∷ 0xff ∷ 0x0e ∷ 0xff ∷ 0xff ∷ 0x0d ∷ []
@@ -150,7 +158,7 @@ mended t b map = let r = repairAnswer t b map in
     (r .refusal ∷ r .restored ∷ r .lost ∷ r .additions ∷ []) ∷ (r .check ∷ r .byte ∷ []) ∷ repairBlockAfter t b map ∷ repairMapAfter t b map ∷ []
 
 -- the reason for place p, with work and reason buffer of the right lengths, the latter full of 9: refusal, kind and length of the list, restored
--- and still lost, the buffer's first four numbers, the block and the map; the list is the only one that there is (theorems' list-exists)
+-- and still lost, the buffer's first four numbers, the block and the map; the list is the one that there is (`list-exists`, and reasons' `listed-one`)
 abbrev pub explained : List ℕ → List ℕ → List ℕ → ℕ → List (List ℕ)
 explained t b map p = let work : List ℕ = replicate workWords 0 in let reason : List ℕ = replicate reasonNumbers 9 in
     let list = listFor (places t) (checks t) map p in let r = whyAnswer t b map work p reason list in
@@ -290,19 +298,31 @@ starred =
     -- C-20: 12,708 steps are taken, 12,709 refused with 9
     ∷ record { given = answered (stepsPlan 12708) 1 [] (9 ∷ []) []; wanted = (0 ∷ 0 ∷ []) ∷ (0 ∷ []) ∷ [] ∷ [] }
     ∷ record { given = answered (stepsPlan 12709) 1 [] (9 ∷ []) []; wanted = (9 ∷ 0 ∷ []) ∷ (9 ∷ []) ∷ [] ∷ [] }
-    -- C-21: checks [1 2][2], lost 1 and 2: place 2 by check 1 alone, since the feeders cancel; place 1 by both
-    ∷ record { given = explained table21 (0x05 ∷ 0xff ∷ 0xff ∷ []) (0 ∷ 1 ∷ 1 ∷ []) 2; wanted = (0 ∷ 2 ∷ 1 ∷ []) ∷ (2 ∷ 0 ∷ []) ∷ (1 ∷ 0 ∷ 0 ∷ 0 ∷ []) ∷ (0x05 ∷ 0x00 ∷ 0x00 ∷ []) ∷ (0 ∷ 2 ∷ 2 ∷ []) ∷ [] }
+    ∷ []
+
+pub starred-cases : map (λ c. c .given) starred ≡ map (λ c. c .wanted) starred
+unfolding planningRefusalAt encodeRefusalAt repairRefusal mergeRefusal blamed fullRefusal verifyRefusal lowestNonzero planOfBy numbersBy alistWriteRefusalAt alistReadRefusalAt alistText alistTable numbersIn digitsWithin from
+starred-cases = refl
+
+-- C-21's, for themselves: one statement computes so much and no more
+abbrev pub starredReasons : List Case
+starredReasons =
+    -- C-21: checks [1 2][2], lost 1 and 2: place 2 by check 1 alone, place 1 by both; checks [0 1][0], lost 0 and 1: place 0 by check 1 alone, though
+    -- check 0 fed its row
+    record { given = explained table21 (0x05 ∷ 0xff ∷ 0xff ∷ []) (0 ∷ 1 ∷ 1 ∷ []) 2; wanted = (0 ∷ 2 ∷ 1 ∷ []) ∷ (2 ∷ 0 ∷ []) ∷ (1 ∷ 0 ∷ 0 ∷ 0 ∷ []) ∷ (0x05 ∷ 0x00 ∷ 0x00 ∷ []) ∷ (0 ∷ 2 ∷ 2 ∷ []) ∷ [] }
     ∷ record { given = explained table21 (0x05 ∷ 0xff ∷ 0xff ∷ []) (0 ∷ 1 ∷ 1 ∷ []) 1; wanted = (0 ∷ 2 ∷ 2 ∷ []) ∷ (2 ∷ 0 ∷ []) ∷ (0 ∷ 1 ∷ 0 ∷ 0 ∷ []) ∷ (0x05 ∷ 0x00 ∷ 0x00 ∷ []) ∷ (0 ∷ 2 ∷ 2 ∷ []) ∷ [] }
+    ∷ record { given = explained table21b (0xff ∷ 0xff ∷ []) (1 ∷ 1 ∷ []) 0; wanted = (0 ∷ 2 ∷ 1 ∷ []) ∷ (2 ∷ 0 ∷ []) ∷ (1 ∷ 0 ∷ 0 ∷ 0 ∷ []) ∷ (0x00 ∷ 0x00 ∷ []) ∷ (2 ∷ 2 ∷ []) ∷ [] }
     -- C-21: table A, lost 2, 4, 5: the set 2 4 5 for each
     ∷ record { given = explained tableA lost245 map245 2; wanted = (0 ∷ 3 ∷ 3 ∷ []) ∷ (0 ∷ 3 ∷ []) ∷ (2 ∷ 4 ∷ 5 ∷ 0 ∷ []) ∷ zero245 ∷ map245 ∷ [] }
     ∷ record { given = explained tableA lost245 map245 4; wanted = (0 ∷ 3 ∷ 3 ∷ []) ∷ (0 ∷ 3 ∷ []) ∷ (2 ∷ 4 ∷ 5 ∷ 0 ∷ []) ∷ zero245 ∷ map245 ∷ [] }
     ∷ record { given = explained tableA lost245 map245 5; wanted = (0 ∷ 3 ∷ 3 ∷ []) ∷ (0 ∷ 3 ∷ []) ∷ (2 ∷ 4 ∷ 5 ∷ 0 ∷ []) ∷ zero245 ∷ map245 ∷ [] }
-    -- C-21: a received place; 14 for a place not below n, before 8; 8 leaves the reason buffer
+    -- C-21: a received place; 14 for a place not below n, before 8; 8 leaves the reason buffer, and zeros at a lost place
     ∷ record { given = explained tableA lost245 map245 0; wanted = (0 ∷ 1 ∷ 0 ∷ []) ∷ (0 ∷ 3 ∷ []) ∷ (0 ∷ 0 ∷ 0 ∷ 0 ∷ []) ∷ zero245 ∷ map245 ∷ [] }
     ∷ record { given = explained tableA wrong0 none0 7; wanted = (14 ∷ 0 ∷ 0 ∷ []) ∷ (0 ∷ 0 ∷ []) ∷ (9 ∷ 9 ∷ 9 ∷ 9 ∷ []) ∷ wrong0 ∷ none0 ∷ [] }
+    ∷ record { given = explained table21c (0x01 ∷ 0x02 ∷ 0xff ∷ []) (0 ∷ 0 ∷ 1 ∷ []) 2; wanted = (8 ∷ 0 ∷ 0 ∷ []) ∷ (0 ∷ 0 ∷ []) ∷ (9 ∷ 9 ∷ 9 ∷ 9 ∷ []) ∷ (0x01 ∷ 0x02 ∷ 0x00 ∷ []) ∷ (0 ∷ 0 ∷ 1 ∷ []) ∷ [] }
     ∷ record { given = explained tableA wrong0 none0 6; wanted = (8 ∷ 0 ∷ 0 ∷ []) ∷ (0 ∷ 0 ∷ []) ∷ (9 ∷ 9 ∷ 9 ∷ 9 ∷ []) ∷ wrong0 ∷ none0 ∷ [] }
     ∷ []
 
-pub starred-cases : map (λ c. c .given) starred ≡ map (λ c. c .wanted) starred
-unfolding planningRefusalAt encodeRefusalAt repairRefusal mergeRefusal blamed fullRefusal whyRefusal verifyRefusal lowestNonzero planOfBy numbersBy alistWriteRefusalAt alistReadRefusalAt alistText alistTable numbersIn digitsWithin from solve leadsOf insert down
-starred-cases = refl
+pub starred-reasons : map (λ c. c .given) starredReasons ≡ map (λ c. c .wanted) starredReasons
+unfolding fullRefusal whyRefusal from solve leadsOf insert down
+starred-reasons = refl

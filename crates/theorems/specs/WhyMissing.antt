@@ -1,25 +1,25 @@
 -- Why is this packet missing (document 02, C-21): what the call's answer says, whatever table, block, map, place and buffers it is given.
 use mathlib.Core.Path.{_≡_, refl, sym, ap, ap₂, _∙_, subst}
-use mathlib.Core.Bool.{Bool, true, false, true≢false}
+use mathlib.Core.Bool.{true, false}
 use mathlib.Core.List.{List, [], _∷_, _++_}
-use mathlib.Core.Logic.{⊎-elim}
 use Prim.Native.Nat.{ℕ, zero, suc, _-_, _<_}
 use native.Mathlib.Omega.{arith}
 use lib.Dec.{eqb, ltb}
 use lib.ListN.{length, getD, take, replicate}
 use lib.Seq.{take-at}
 use borrow.Author.Tests.{ltb-false}
-use Rattle.decided.specs.Decided.{decided, markAfter, solvedMap}
+use Rattle.decided.specs.Decided.{decided, markAfter}
 use Rattle.erasure.specs.Restoring.{isLost}
-use Rattle.full.specs.Full.{fullRefusal, fullMapAfter}
+use Rattle.full.specs.Full.{fullMapAfter}
 use Rattle.full.specs.FullLaws.{map-accepted}
 use Rattle.lists.specs.ListLaws.{all-at, none-any}
-use Rattle.lists.specs.Lists.{has, from, All, Up}
+use Rattle.lists.specs.Lists.{has, All, Up}
 use Rattle.lists.specs.Numbers.{map-from-at}
 use Rattle.lists.specs.Tests.{byBool, eqb-true, eqb-false}
+use Rattle.reasons.specs.Least.{decided-none}
 use Rattle.reasons.specs.LeastList.{least-only}
-use Rattle.reasons.specs.ListedLaws.{listFor, listed-one, listed-some, markOf, kind-mark}
-use Rattle.reasons.specs.Reasons.{used, Restores, LeastEven, kindOf, Listed}
+use Rattle.reasons.specs.ListedLaws.{listFor, listed-one, listed-some, kindBy, kind-mark}
+use Rattle.reasons.specs.Reasons.{Restores, EvenSet, LeastEven, kindOf, Listed}
 use Rattle.reasons.specs.Restored.{list-restores, list-some, only-list}
 use Rattle.table.specs.Table.{places, checks, refusal}
 use Rattle.table.specs.TableLaws.{accepted}
@@ -35,7 +35,7 @@ kind-cases lost cs p k e f g h = byBool (isLost lost p)
     (λ t. f t (sym e ∙ rw (t, kindOf)))
 
 module _ (t b map work : List ℕ) (p : ℕ) (reason : List ℕ) where
-  -- "for the lost place the named relation and its uniqueness": any two answers to one call are the same, and so are the reason buffers
+  -- the relation for a lost place leaves no choice: any two answers to one call are the same, and so are the reason buffers
   pub why-one : (r s : Reason) (b₁ m₁ w₁ e₁ b₂ m₂ w₂ e₂ : List ℕ) → Explains t b map work p reason r b₁ m₁ w₁ e₁ → Explains t b map work p reason s b₂ m₂ w₂ e₂
       → (whyAnswerOf r ≡ whyAnswerOf s) × (e₁ ≡ e₂)
   why-one r s b₁ m₁ w₁ e₁ b₂ m₂ w₂ e₂ x y = byBool (eqb (whyRefusal t b map work p reason) 0)
@@ -81,10 +81,17 @@ module _ (t b map work : List ℕ) (p : ℕ) (reason : List ℕ) where
     list-is : take (r .length) reason′ ≡ x .list
     list-is = ap₂ take length-is (x .reason-is ∙ buffer-accepted t b map work p reason none (x .list)) ∙ take-at (x .list) (replicate (1024 - length (x .list)) 0) (length (x .list)) refl
 
-    -- "the kind agrees with full repair's map": 0 there for received, 2 for restored, 1 for lost
-    pub kind-agrees : getD map′ p 0 ≡ markOf (r .kind)
-    kind-agrees = ap (λ m. getD m p 0) (x .map-is ∙ map-ran t b map work p reason fit ∙ map-accepted t b map work (sym (refused-full t b map work p reason fit) ∙ none))
-        ∙ map-from-at (markAfter (checks t) map) 0 (places t) p (fit .below) ∙ kind-mark (checks t) map p received-zero ∙ ap markOf (sym kind-is)
+    -- the map afterwards is full repair's
+    pub map-full : map′ ≡ fullMapAfter t b map work
+    map-full = x .map-is ∙ map-ran t b map work p reason fit
+
+    -- its mark at place q
+    mark-at : (q : ℕ) → q < places t → getD map′ q 0 ≡ markAfter (checks t) map q
+    mark-at q h = ap (λ m. getD m q 0) (map-full ∙ map-accepted t b map work (sym (refused-full t b map work p reason fit) ∙ none)) ∙ map-from-at (markAfter (checks t) map) 0 (places t) q h
+
+    -- the kind is told by that map: received where it has 0, restored where it has 2, lost where it has 1
+    pub kind-agrees : r .kind ≡ kindBy (getD map′ p 0)
+    kind-agrees = kind-is ∙ kind-mark (checks t) map p received-zero ∙ ap kindBy (sym (mark-at p (fit .below)))
       where
         received-zero : isLost map p ≡ false → getD map p 0 ≡ 0
         received-zero h = let ne = eqb-false (getD map p 0) 1 h in
@@ -117,16 +124,25 @@ module _ (t b map work : List ℕ) (p : ℕ) (reason : List ℕ) where
         some (y ∷ l) ne e = omega arith
 
     -- "For a lost one it gives a set of lost places with this one in it that every check meets an even number of times; of two such sets, the one
-    -- without the highest place in which they differ": it is such a set, ascending, and no other ascending list is
+    -- without the highest place in which they differ": it is such a set, ascending, no other ascending list is, and all of its places stay lost
     pub lost-set : r .kind ≡ 3
         → Up 0 (take (r .length) reason′) × LeastEven (places t) (checks t) map p (λ q. has q (take (r .length) reason′))
         × ((L : List ℕ) → Up 0 L → LeastEven (places t) (checks t) map p (λ q. has q L) → L ≡ take (r .length) reason′)
+        × ((q : ℕ) → has q (take (r .length) reason′) ≡ true → getD map′ q 0 ≡ 1)
     lost-set k = kind-cases map (checks t) p 3 (sym kind-is ∙ k) (λ h j. absurd (omega arith)) (λ h d j. absurd (omega arith))
         (λ h d j. (
           subst (Up 0) (sym list-is) (listed .lost-up h d),
           subst (λ l. LeastEven (places t) (checks t) map p (λ q. has q l)) (sym list-is) (listed .lost-least h d),
           λ L u e. least-only (places t) (checks t) map p L (x .list) u e (listed .lost-up h d) (listed .lost-least h d) ∙ sym list-is,
+          λ q e. stays (listed .lost-least h d .evenly) q (ap (has q) (sym list-is) ∙ e),
         ))
+      where
+        -- a place of an even set is not decided
+        stays : EvenSet (places t) (checks t) map p (λ q. has q (x .list)) → (q : ℕ) → has q (x .list) ≡ true → getD map′ q 0 ≡ 1
+        stays s q e = let l = s .low q e in let h = s .within q e in
+            mark-at q l ∙ byBool (decided map (checks t) q)
+            (λ d. absurd (decided-none (places t) (checks t) low map q l h d (λ u. has u (x .list)) (record { low = s .low; within = s .within; holds = e; even = s .even })))
+            (λ d. rw (h, markAfter, d))
 
 -- there is a list for every place of every accepted table
 pub list-exists : (t : List ℕ) → refusal t ≡ 0 → (map : List ℕ) (p : ℕ) → p < places t → Listed (places t) (checks t) map p (listFor (places t) (checks t) map p)

@@ -6,7 +6,7 @@ use native.Mathlib.Omega.{arith}
 use lib.Bits.{bitXor}
 use lib.ListN.{length, getD, set, take, drop, List·getD-append}
 use Rattle.lists.specs.Lists.{from}
-use Rattle.gf2.specs.Gf2.{Short, XorGroup, rowOf, isZero, choose, path}
+use Rattle.gf2.specs.Gf2.{Short, XorGroup, rowOf, isZero, choose}
 use Rattle.gf2.specs.RowValue.{val, val-ext}
 use Rattle.table.specs.Accepted.{Accepted, check-is, check-count}
 use Rattle.table.specs.Checks.{offset}

@@ -1,14 +1,14 @@
 -- What elimination with feeders comes to: owner has, for each place, the number of the row that leads it plus 1, 0 for none; row k of feed names
 -- the rows that fed row k; ids has the numbers of the used checks, in the order of the rows.
 use mathlib.Core.Path.{_≡_}
-use mathlib.Core.List.{List, map}
+use mathlib.Core.List.{List}
 use Prim.Native.Nat.{ℕ, _+_, _-_, _<_, _≤_}
 use lib.ListN.{length, getD, take}
 use Rattle.bits.specs.Row.{row}
-use Rattle.gf2.specs.Gf2.{Bits, path}
+use Rattle.gf2.specs.Gf2.{Bits}
 use Rattle.lists.specs.Lists.{All}
 use Rattle.reasons.specs.Mirror.{mirrorAt, mirrorRow}
-use Rattle.reasons.specs.Traced.{Kept}
+use Rattle.reasons.specs.Traced.{Kept, noted}
 use Rattle.reasons.specs.Used.{chosen}
 use Rattle.rows.specs.Leads.{leads}
 use Rattle.table.specs.Table.{checks}
@@ -19,7 +19,7 @@ numberIn owner q = getD owner q 0 - 1
 
 -- the rows that are added while x goes down
 abbrev pub feeders : List ℕ → List ℕ → ℕ → ℕ → List ℕ
-feeders w owner n x = map (numberIn owner) (path (leads w owner) n x)
+feeders w owner n x = noted n (leads w owner) (numberIn owner) x
 
 -- rows lead these places
 pub record Led (owner ps : List ℕ) : Type 0 where

@@ -1,21 +1,18 @@
 -- What the call answers, from what its parts leave.
-use mathlib.Core.Path.{_≡_, refl, sym, ap, ap₂, _∙_, subst}
-use mathlib.Core.Bool.{true, false}
+use mathlib.Core.Path.{_≡_, refl, sym, ap, _∙_, subst}
 use mathlib.Core.List.{List, []}
 use mathlib.Core.Logic.{_≢_}
-use Prim.Native.Nat.{ℕ, zero, suc, _<_}
-use native.Mathlib.Omega.{arith}
+use Prim.Native.Nat.{ℕ, zero, suc}
 use borrow.Author.Tests.{ne-eqb}
 use lib.ListN.{length, replicate}
 use Rattle.erasure.specs.Restoring.{tally}
-use Rattle.full.specs.Full.{FullAnswer, FittingAll, Answers, fullAnswerAt, fullAnswerOf, fullRefusal, fullMapAfter}
+use Rattle.full.specs.Full.{Answers, fullAnswerAt, fullAnswerOf, fullRefusal, fullMapAfter}
 use Rattle.full.specs.FullLaws.{work-accepted}
 use Rattle.full.specs.declared.FullyRepaired.{FullyRepaired}
 use Rattle.reasons.specs.Reasons.{kindOf, Listed}
-use Rattle.table.specs.Accepted.{Accepted}
-use Rattle.table.specs.Table.{places, checks, workWords}
+use Rattle.table.specs.Table.{places, checks}
 use Rattle.why.specs.Telling.{Tells}
-use Rattle.why.specs.Why.{Explains, WhyAnswer, whyAnswerOf, whyAnswerAt, whyRefused, whyRefusal, whyAnswer, whyMapAfter, reasonAfter, reasonNumbers}
+use Rattle.why.specs.Why.{Explains, whyAnswerOf, whyAnswerAt, whyRefused, whyRefusal, whyAnswer, whyMapAfter, reasonAfter}
 use Rattle.why.specs.WhyLaws.{early, Fits, refused-early, refused-full, block-kept, map-kept, work-kept, block-ran, map-ran, work-ran}
 use Rattle.why.specs.declared.Kind.{Kind}
 use Rattle.why.specs.declared.Reason.{Reason}

@@ -1,11 +1,10 @@
 -- What is told of one place, from what was found.
-use mathlib.Core.Path.{_≡_, refl, sym, ap, ap₂, _∙_}
-use mathlib.Core.Bool.{Bool, true, false, cond}
+use mathlib.Core.Path.{_≡_, refl, sym, ap, _∙_}
+use mathlib.Core.Bool.{true, false, cond}
 use mathlib.Core.List.{List, [], _++_}
-use Prim.Native.Nat.{ℕ, zero, suc, _-_, _≤_}
+use Prim.Native.Nat.{ℕ, zero, suc, _-_}
 use native.Mathlib.Omega.{arith}
 use lib.ListN.{length, drop, replicate}
-use Rattle.bits.specs.Front.{Front}
 use Rattle.decided.specs.Decided.{decided}
 use Rattle.erasure.specs.Restoring.{isLost}
 use Rattle.explain.specs.Telling as found

@@ -26,10 +26,11 @@ wrongLent t b map work reason = wrongBuffers t b map work || wrongLength (length
 abbrev pub notBelow : ℕ → ℕ → Bool
 notBelow p n = not (ltb p n)
 
--- the causes before the repair, 1 to 5, 7 and 14, in their order
+-- the causes beyond the table's and before the repair, 5, 7 and 14
 abbrev pub ownCauses : List ℕ → List ℕ → List ℕ → List ℕ → ℕ → List ℕ → List (Bool × ℕ)
 ownCauses t b map work p reason = (wrongLent t b map work reason, 5) ∷ (byteOver map, 7) ∷ (notBelow p (places t), 14) ∷ []
 
+-- all before the repair, in their order
 abbrev pub earlyCauses : List ℕ → List ℕ → List ℕ → List ℕ → ℕ → List ℕ → List (Bool × ℕ)
 earlyCauses t b map work p reason = tableCauses t ++ ownCauses t b map work p reason
 

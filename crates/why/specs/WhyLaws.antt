@@ -1,9 +1,9 @@
 -- The call by cases: when it is refused, and what each buffer holds then.
-use mathlib.Core.Path.{_≡_, refl, sym, ap, ap₂, _∙_}
+use mathlib.Core.Path.{_≡_, refl, sym, ap, _∙_}
 use mathlib.Core.Bool.{Bool, true, false, cond, not, true≢false}
 use mathlib.Core.List.{List, [], _∷_, _++_}
 use mathlib.Core.Logic.{_≢_}
-use Prim.Native.Nat.{ℕ, zero, suc, _-_, _*_, _<_, _≤_}
+use Prim.Native.Nat.{ℕ, zero, suc, _-_, _*_, _<_}
 use native.Mathlib.Omega.{arith}
 use borrow.Author.Tests.{eq-eqb, ne-eqb, not-false, ltb-true, ltb-false}
 use lib.Dec.{eqb, ltb}
@@ -12,9 +12,9 @@ use Rattle.erasure.specs.Offered.{byteOver}
 use Rattle.full.specs.Full.{wrongBuffers, clashing, fullRefusal, fullBlockAfter, fullMapAfter, fullWorkAfter, FittingAll}
 use Rattle.full.specs.FullLaws.{fits, fitting-refusal, block-refused, map-refused, work-refused}
 use Rattle.lists.specs.Lists.{All, All.nil, All.cons}
-use Rattle.lists.specs.Tests.{byBool, eqb-true, eqb-self, or-false-l, or-false-r}
+use Rattle.lists.specs.Tests.{byBool, eqb-true, or-false-l, or-false-r}
 use Rattle.table.specs.FirstCause.{firstCause, wrongLength, NoneHolds}
-use Rattle.table.specs.FirstCauseLaws.{none-holds, none-refuses, first-decides, rest-decides, quiet}
+use Rattle.table.specs.FirstCauseLaws.{none-holds, none-refuses, first-decides, rest-decides}
 use Rattle.reasons.specs.Reasons.{kindOf}
 use Rattle.table.specs.Table.{places, size, checks, tableCauses, refusal, workWords}
 use Rattle.why.specs.Why.{notBelow, ownCauses, earlyCauses, whyRefusal, whyAnswerAt, whyAnswer, asFull, whyBlockAfter, whyMapAfter, whyWorkAfter, reasonAfter, reasonNumbers}

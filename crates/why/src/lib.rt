@@ -1,5 +1,4 @@
 // The receiver: why a packet is missing, the call with its refusals.
-use full::FullyRepaired;
 use table::MOST_PLACES;
 use table::WORK_WORDS;
 use table::wide;
@@ -14,7 +13,7 @@ ghost use Rattle.why.specs.Telling.{Tells};
 ghost use Rattle.why.specs.Why.{Explains, earlyCauses, whyAnswerOf, whyRefused};
 
 // the numbers of a reason buffer
-const REASON_NUMBERS: usize = 1024;
+pub const REASON_NUMBERS: usize = 1024;
 
 // What the call reports: the refusal, 0 for none; the kind of the reason, 1 received, 2 restored, 3 lost; the length of its list; full
 // repair's counts; check and byte are 0.

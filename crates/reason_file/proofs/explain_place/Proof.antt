@@ -1,6 +1,7 @@
 -- `reason_file::explain_place` is safe: the reason's list lies within its buffer.
 use borrow.Author.Needs.{needs}
 use Rattle.reason_file.proofs.Listed.{list-within, list-counts}
+use Rattle.reason_file.proofs.Refusing.{refused-some}
 use Rattle.reason_file.proofs.explain_place.Statement.{statement}
 use Rattle.reason_file.proofs.explain_place.Tie as tie
 
@@ -14,7 +15,9 @@ why-requires : tie.Need-why-requires
 why-requires c κs = search needs
 
 refuse-requires : tie.Need-refuse-requires
-refuse-requires c κs = search needs
+refuse-requires c κs =
+    let w = c .before .before .before .before .before .before .before .before .why in
+    refused-some _ _ _ _ _ _ (w .result) _ _ _ _ (w .ensures) (c .if1 .taken)
 
 same-length : tie.Need-same-length
 same-length c = search needs

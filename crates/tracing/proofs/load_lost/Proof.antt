@@ -1,13 +1,12 @@
 -- `tracing::load_lost` meets its contract: the first i places are loaded.
 use Prim.Native.Nat.{_+_, _-_, _<_, _≤_}
-use mathlib.Core.Path.{_≡_, sym, ap, _∙_}
+use mathlib.Core.Path.{_≡_, _∙_}
 use mathlib.Core.Logic.{⊎-elim}
 use native.Mathlib.Omega.{arith}
 use lib.ListN.{length, take, drop}
 use borrow.Author.Tests.{eq-eqb, ne-eqb}
 use Rattle.bits.specs.Row.{RowPut}
 use Rattle.bits.specs.RowLaws.{put-put, put-is, put-self}
-use Rattle.erasure.specs.Restoring.{isLost}
 use Rattle.reasons.specs.Mirror.{mirrorRow}
 use Rattle.tracing.proofs.Loading.{flipped, passed}
 use Rattle.tracing.proofs.load_lost.Statement.{statement}

@@ -1,8 +1,7 @@
 -- `why::why` meets its contract.
-use mathlib.Core.Path.{refl, sym, ap, _∙_}
+use mathlib.Core.Path.{sym, ap, _∙_}
 use native.Mathlib.Omega.{arith}
 use borrow.Author.Needs.{needs}
-use Rattle.table.specs.Accepted.{looked-over, words}
 use Rattle.why.specs.Why.{whyRefused}
 use Rattle.why.specs.WhyLaws.{early-fits}
 use Rattle.why.proofs.Answering.{explains-early}
