@@ -79,7 +79,7 @@ module _ (f : ℕ → ℕ) (S₀ : ℕ → Bool) where
         (λ e. next-other j e)
 
     -- one that leads a row is as the row meets the bits below
-    pub next-lead : isZero (f q) ≡ false → upTo (q + 1) q ≡ meets (upTo q) q (f q)
+    next-lead : isZero (f q) ≡ false → upTo (q + 1) q ≡ meets (upTo q) q (f q)
     unfolding solve
     next-lead z = let i : q + 1 ≡ suc q = omega arith in ap (λ k. upTo k q) i ∙ rw (eqb-self q, z)
 
@@ -125,7 +125,7 @@ module _ (n : ℕ) (S : ℕ → Bool) where
   places-miss p b f = front-is f (sym (places-more p ∙ ap (λ v. placesBelow p ++ cond v (p ∷ []) []) b ∙ append-nil (placesBelow p)))
 
 -- ---- the set with one bit
-pub one-bit : (k f : ℕ) → f < k → (q : ℕ) → inSet (set (replicate k 0) f 1) q ≡ eqb q f
+one-bit : (k f : ℕ) → f < k → (q : ℕ) → inSet (set (replicate k 0) f 1) q ≡ eqb q f
 one-bit k f h q = byBool (eqb q f)
     (λ e. ap (inSet (set (replicate k 0) f 1)) (eqb-true q f e) ∙ ap (λ x. eqb x 1) (getD-set-same (replicate k 0) f 1 0 (omega (arith, length-replicate {A = ℕ} k 0))) ∙ sym e)
     (λ e. ap (λ x. eqb x 1) (getD-set-other (replicate k 0) f q 1 0 (eqb-false q f e) ∙ getD-zeros k q) ∙ sym e)

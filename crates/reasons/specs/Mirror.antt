@@ -1,5 +1,5 @@
 -- Rows with their places mirrored, so that a row's highest bit is its lowest place: sums are mirrored sums, so the used checks are the same.
-use mathlib.Core.Path.{_≡_, refl, sym, ap, ap₂, _∙_}
+use mathlib.Core.Path.{_≡_, refl, sym, ap, _∙_}
 use mathlib.Core.Bool.{Bool, true, false≢true}
 use mathlib.Core.List.{List, [], _∷_, map}
 use Prim.Native.Nat.{ℕ, zero, suc, _-_, _^_, _<_}
@@ -52,7 +52,7 @@ mirror-short n lost {c} a = short-lt n (mirrorRow n lost c) (row-lt n (mirror-lo
 abbrev pub mirrored : ℕ → ℕ → ℕ
 mirrored n x = val XorGroup (λ p. 2 ^ mirror n p) n x
 
-pub mirrored-lin : (n : ℕ) → Lin XorGroup XorGroup (mirrored n)
+mirrored-lin : (n : ℕ) → Lin XorGroup XorGroup (mirrored n)
 mirrored-lin n = val-lin XorGroup (λ p. 2 ^ mirror n p) n
 
 mirrored-row : (n : ℕ) {c : List ℕ} → All (λ p. p < n) c → mirrored n (rowOf c) ≡ rowOf (map (mirror n) c)
@@ -66,10 +66,10 @@ mirrored-back n {c} a = mirrored-row n (mirror-low n a)
 -- ---- rows carried there and back by linear maps
 module _ {X : Type 0} (g g′ : X → ℕ) (φ ψ : ℕ → ℕ) (lin-φ : Lin XorGroup XorGroup φ) (lin-ψ : Lin XorGroup XorGroup ψ)
     (there : (x : X) → φ (g x) ≡ g′ x) (back : (x : X) → ψ (g′ x) ≡ g x) where
-  pub comb-there : (m : List Bool) (ys : List X) → φ (comb XorGroup m (map g ys)) ≡ comb XorGroup m (map g′ ys)
+  comb-there : (m : List Bool) (ys : List X) → φ (comb XorGroup m (map g ys)) ≡ comb XorGroup m (map g′ ys)
   comb-there m ys = lin-image XorGroup XorGroup lin-φ g m ys ∙ ap (comb XorGroup m) (map-same (λ x. φ (g x)) g′ (all-of there ys))
 
-  pub comb-back : (m : List Bool) (ys : List X) → ψ (comb XorGroup m (map g′ ys)) ≡ comb XorGroup m (map g ys)
+  comb-back : (m : List Bool) (ys : List X) → ψ (comb XorGroup m (map g′ ys)) ≡ comb XorGroup m (map g ys)
   comb-back m ys = lin-image XorGroup XorGroup lin-ψ g′ m ys ∙ ap (comb XorGroup m) (map-same (λ x. ψ (g′ x)) g (all-of back ys))
 
   sums-there : (ys : List X) {y y′ : ℕ} → φ y ≡ y′ → sums (map g ys) y ≡ true → sums (map g′ ys) y′ ≡ true
@@ -80,12 +80,12 @@ module _ {X : Type 0} (g g′ : X → ℕ) (φ ψ : ℕ → ℕ) (lin-φ : Lin X
   sums-back ys {y} {y′} i e = let p = sums-sound (map g′ ys) y′ e in
       sums-complete (map g ys) y (record { mask = p .mask; sums = sym (comb-back (p .mask) ys) ∙ ap ψ (p .sums) ∙ i })
 
-  pub sums-carried : (ys : List X) {y y′ : ℕ} → φ y ≡ y′ → ψ y′ ≡ y → sums (map g ys) y ≡ sums (map g′ ys) y′
+  sums-carried : (ys : List X) {y y′ : ℕ} → φ y ≡ y′ → ψ y′ ≡ y → sums (map g ys) y ≡ sums (map g′ ys) y′
   sums-carried ys {y} {y′} i j = byBool (sums (map g ys) y)
       (λ e. e ∙ sym (sums-there ys i e))
       (λ e. byBool (sums (map g′ ys) y′) (λ k. absurd (false≢true (sym e ∙ sums-back ys j k))) (λ k. e ∙ sym k))
 
-  pub choose-same : (ys xs : List X) → choose XorGroup isZero g (map g ys) xs ≡ choose XorGroup isZero g′ (map g′ ys) xs
+  choose-same : (ys xs : List X) → choose XorGroup isZero g (map g ys) xs ≡ choose XorGroup isZero g′ (map g′ ys) xs
   choose-same ys [] = refl
   choose-same ys (x ∷ xs) = byBool (sums (map g ys) (g x))
       (λ e. rw (e, choose, sym (sums-carried ys (there x) (back x)) ∙ e) (choose-same ys xs))
@@ -94,7 +94,7 @@ module _ {X : Type 0} (g g′ : X → ℕ) (φ ψ : ℕ → ℕ) (lin-φ : Lin X
 -- ---- the checks' lost rows
 module _ (n : ℕ) {cs : List (List ℕ)} (low : All (λ c. All (λ p. p < n) c) cs) (lost : List ℕ) where
   -- also where there is no check
-  pub low-at : (j : ℕ) → All (λ p. p < n) (getD cs j [])
+  low-at : (j : ℕ) → All (λ p. p < n) (getD cs j [])
   low-at j = go low j
     where
       go : {ds : List (List ℕ)} → All (λ c. All (λ p. p < n) c) ds → (j : ℕ) → All (λ p. p < n) (getD ds j [])
@@ -102,10 +102,10 @@ module _ (n : ℕ) {cs : List (List ℕ)} (low : All (λ c. All (λ p. p < n) c)
       go (cons a r) zero = a
       go (cons a r) (suc j) = go r j
 
-  pub at-there : (j : ℕ) → mirrored n (rowAt lost cs j) ≡ mirrorAt n lost cs j
+  at-there : (j : ℕ) → mirrored n (rowAt lost cs j) ≡ mirrorAt n lost cs j
   at-there j = mirrored-row n (all-filter (isLost lost) (low-at j))
 
-  pub at-back : (j : ℕ) → mirrored n (mirrorAt n lost cs j) ≡ rowAt lost cs j
+  at-back : (j : ℕ) → mirrored n (mirrorAt n lost cs j) ≡ rowAt lost cs j
   at-back j = mirrored-back n (all-filter (isLost lost) (low-at j))
 
   -- some of the used checks' rows, mirrored and back

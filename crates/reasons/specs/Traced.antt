@@ -69,7 +69,7 @@ abbrev pub noted : ℕ → (ℕ → ℕ) → (ℕ → ℕ) → ℕ → List ℕ
 noted n F num x = map num (path F n x)
 
 module _ (n : ℕ) {F row num : ℕ → ℕ} {k : ℕ} (h : Numbered F row num k) (x : ℕ) where
-  pub noted-low : All (λ i. i < k) (noted n F num x)
+  noted-low : All (λ i. i < k) (noted n F num x)
   noted-low = map-all num (all-map (λ q z. h .few q z) (path-leads F n x))
 
   -- the sum of the rows noted is what was added

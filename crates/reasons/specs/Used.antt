@@ -16,7 +16,7 @@ use Rattle.lists.specs.Tests.{byBool}
 use Rattle.reasons.specs.Reasons.{rowAt, used}
 
 -- rows that are sums of each other have the same sums
-pub sums-same : {R S : List ℕ} → Within XorGroup R S → Within XorGroup S R → (x : ℕ) → sums R x ≡ sums S x
+sums-same : {R S : List ℕ} → Within XorGroup R S → Within XorGroup S R → (x : ℕ) → sums R x ≡ sums S x
 sums-same {R} {S} rs sr x = byBool (sums R x)
     (λ e. e ∙ sym (sums-complete S x (span-within XorGroup sr (sums-sound R x e))))
     (λ e. byBool (sums S x) (λ k. sums-complete R x (span-within XorGroup rs (sums-sound S x k)) ∙ sym k) (λ k. e ∙ sym k))
@@ -57,7 +57,7 @@ module _ (g : List ℕ → ℕ) (cs : List (List ℕ)) where
   abbrev pub chosen : List ℕ
   chosen = choose XorGroup isZero at [] (from 0 (length cs))
 
-  pub chosen-out : Within XorGroup (map at chosen) (map g cs)
+  chosen-out : Within XorGroup (map at chosen) (map g cs)
   chosen-out = subst (Within XorGroup (map at chosen)) (rows-listed g cs) (within-of-all at
       (all-map (λ j p. span-within XorGroup (onto-in-order at chosen) p) (choose-spans XorGroup isZero at isZero-sound refl [] (from 0 (length cs)))))
 

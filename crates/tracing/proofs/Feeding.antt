@@ -6,7 +6,8 @@ use Prim.Native.Nat.{ℕ, suc, _+_, _-_, _^_, _<_, _≤_}
 use native.Mathlib.Omega.{arith}
 use lib.Bits.{bitXor, xor-zero-r}
 use lib.ListN.{length, getD, set, take}
-use Rattle.lists.specs.Buffers.{part-snoc, part-length, getD-part}
+use lib.Seq.{getD-take, length-take-le}
+use Rattle.lists.specs.Buffers.{part-snoc}
 use Rattle.lists.specs.ListLaws.{all-at}
 use Rattle.lists.specs.Lists.{from}
 use Rattle.lists.specs.Numbers.{from-snoc}
@@ -29,18 +30,11 @@ pub fed : (owner noted : List ℕ) (i o : ℕ) → i < length noted → o ≡ ge
 fed owner noted i o h e a b = put-is (put-put a b) (ap₂ (λ v u. bitXor v (2 ^ (u - 1))) (a .here) e ∙ sym (ap rowOf (ap (map (numberIn owner)) (take-more noted i h) ∙ map-append (numberIn owner) (take i noted) (getD noted i 0 ∷ []))
     ∙ sumOver-append XorGroup (λ (q : ℕ). 2 ^ q) (map (numberIn owner) (take i noted)) (numberIn owner (getD noted i 0) ∷ []) ∙ ap (bitXor (rowOf (map (numberIn owner) (take i noted)))) (xor-zero-r (2 ^ numberIn owner (getD noted i 0)))))
 
--- one of the first k
-pub taken-at : (l : List ℕ) (k i : ℕ) → i < k → getD (take k l) i 0 ≡ getD l i 0
-taken-at l k i h = let e : 0 + i ≡ i = omega arith in getD-part l 0 k i h ∙ ap (λ j. getD l j 0) e
-
-pub taken-length : (l : List ℕ) (k : ℕ) → k ≤ length l → length (take k l) ≡ k
-taken-length l k h = part-length l 0 k (omega arith)
-
 -- the place noted next leads a row
 pub led-at : (owner noted : List ℕ) (count i : ℕ) → count ≤ length noted → i < count → Led owner (take count noted)
     → (getD noted i 0 < length owner) × (0 < getD owner (getD noted i 0) 0) × (getD owner (getD noted i 0) 0 ≤ 1024)
-led-at owner noted count i room h l = subst (λ q. (q < length owner) × (0 < getD owner q 0) × (getD owner q 0 ≤ 1024)) (taken-at noted count i h)
-    (all-at 0 (l .each) i (omega (arith, taken-length noted count room)))
+led-at owner noted count i room h l = subst (λ q. (q < length owner) × (0 < getD owner q 0) × (getD owner q 0 ≤ 1024)) (getD-take count noted i 0 h)
+    (all-at 0 (l .each) i (omega (arith, length-take-le count noted room)))
 
 -- ---- the list
 -- a bit more in the mask

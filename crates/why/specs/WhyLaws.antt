@@ -88,7 +88,7 @@ module _ (t b map work : List ℕ) (p : ℕ) (reason : List ℕ) where
   unfolding whyRefusal
   accepted-fits h = early-fits (none-refuses (earlyCauses t b map work p reason) refl ((clashing t b map, 8) ∷ []) h .0)
 
-  pub not-eight : eqb early 8 ≡ false
+  not-eight : eqb early 8 ≡ false
   not-eight = other-number 8 refl {cs = earlyCauses t b map work p reason} (cons refl (cons refl (cons refl (cons refl (cons refl (cons refl (cons refl nil)))))))
 
   -- none of 1 to 7 and 14 refuses: full repair's

@@ -4,11 +4,12 @@ use mathlib.Core.Logic.{⊎-elim}
 use mathlib.Core.Path.{_≡_, refl, sym, ap, _∙_, subst}
 use native.Mathlib.Omega.{arith}
 use lib.ListN.{length, set, take, length-set}
+use lib.Seq.{getD-take, length-take-le}
 use Rattle.bits.specs.Front.{Front}
 use Rattle.bits.specs.Row.{row}
 use Rattle.reasons.specs.Reasons.{named}
 use Rattle.reasons.specs.Traced.{bitsBelow}
-use Rattle.tracing.proofs.Feeding.{listed-start, taken-at, taken-length, listed-hit, listed-miss}
+use Rattle.tracing.proofs.Feeding.{listed-start, listed-hit, listed-miss}
 use Rattle.tracing.proofs.write_checks.Statement.{statement}
 use Rattle.tracing.proofs.write_checks.Tie as tie
 
@@ -52,8 +53,8 @@ loop-again c =
     let r = c .before .before .before .before .before .before .before .pre .2 in
     let room = c .before .before .before .before .before .before .before .pre .3 in
     let h = c .before .before .loop-test .taken in
-    let long = taken-length (a .ids .now) (a .k) r in
-    let at = taken-at (a .ids .now) (a .k) (l .i) h in
+    let long = length-take-le (a .k) (a .ids .now) r in
+    let at = getD-take (a .k) (a .ids .now) (l .i) 0 h in
     let d = l .inv .1 in
     ⊎-elim
     (λ u. (
