@@ -1,33 +1,10 @@
--- The loop over two packets: the rest decides.
-use mathlib.Core.Path.{_≡_, refl, sym, ap, _∙_}
-use mathlib.Core.Bool.{Bool, true, false, _&&_}
+-- Two packets compared as parts that end at at + s.
+use mathlib.Core.Path.{_≡_, ap}
 use mathlib.Core.List.{List}
-use mathlib.Core.Logic.{_≢_}
-use Prim.Native.Nat.{ℕ, _+_, _-_, _<_, _≤_}
+use Prim.Native.Nat.{ℕ, _+_, _-_}
 use native.Mathlib.Omega.{arith}
-use borrow.Author.Tests.{eq-eqb, ne-eqb}
-use lib.ListN.{length, getD, take, drop, drop-of-length-le}
+use lib.ListN.{take, drop}
 use Rattle.lists.specs.Lists.{sameList}
-use Rattle.lists.specs.Tests.{and-false}
-use Rattle.erasure.specs.LostLaws.{drop-next}
 
-pub same-hit : (x y : List ℕ) (i : ℕ) → i < length x → i < length y → getD x i 0 ≡ getD y i 0 → sameList (drop i x) (drop i y) ≡ sameList (drop (i + 1) x) (drop (i + 1) y)
-same-hit x y i h k e = rw (drop-next x i h, drop-next y i k, eq-eqb (getD x i 0) (getD y i 0) e)
-
-pub same-miss : (x y : List ℕ) (i : ℕ) → i < length x → i < length y → getD x i 0 ≢ getD y i 0 → sameList (drop i x) (drop i y) ≡ false
-same-miss x y i h k e = rw (drop-next x i h, drop-next y i k, ne-eqb (getD x i 0) (getD y i 0) e)
-
-pub same-end : (x y : List ℕ) (i : ℕ) → length x ≤ i → length x ≡ length y → sameList (drop i x) (drop i y) ≡ true
-same-end x y i h e = rw (drop-of-length-le x h, drop-of-length-le y {i = i} (omega arith))
-
--- what is left of a test: one that failed, and all passed
-pub missed : (a b c d : Bool) → b ≡ false → c ≡ false → (a && b) ≡ (c && d)
-missed a b c d e f = and-false a b e ∙ sym (ap (λ x. x && d) f)
-
-pub ended : (a b : Bool) → b ≡ true → (a && b) ≡ a
-ended true b e = e
-ended false b e = refl
-
--- two packets as parts that end at at + s
 pub parts-same : (b₁ b₂ : List ℕ) (at s : ℕ) → sameList (take s (drop at b₁)) (take s (drop at b₂)) ≡ sameList (take (at + s - at) (drop at b₁)) (take (at + s - at) (drop at b₂))
 parts-same b₁ b₂ at s = let e : s ≡ at + s - at = omega arith in ap (λ k. sameList (take k (drop at b₁)) (take k (drop at b₂))) e

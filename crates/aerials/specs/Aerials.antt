@@ -5,17 +5,10 @@ use mathlib.Core.List.{List, map as each}
 use Prim.Native.Nat.{ℕ}
 use lib.Dec.{eqb}
 use lib.ListN.{getD, replicate}
+use Rattle.erasure.specs.Offered.{Held}
 use Rattle.lists.specs.Lists.{sameList, from}
 use Rattle.table.specs.PacketCall.{partAt}
 use Rattle.table.specs.Packets.{joined}
-
--- a block and its map
-pub record Held : Type 0 where
-  pub block : List ℕ
-  pub map : List ℕ
-
-abbrev pub held : List ℕ → List ℕ → Held
-held block map = record { block = block; map = map }
 
 -- "A place is agreed, heard by one, heard by none, or in clash"; the first two have the packet that was heard
 pub data Heard : Type 0 where
@@ -62,9 +55,6 @@ module _ (s : ℕ) (one two : Held) where
   abbrev pub kinds : ℕ → List ℕ
   kinds n = each (λ p. kindOf (heardAt p)) (from 0 n)
 
-  -- the merged packets, and the block and map
-  abbrev pub mergedPackets : ℕ → List (List ℕ)
-  mergedPackets n = each (λ p. packetOf s (heardAt p)) (from 0 n)
-
+  -- the merged block and map
   abbrev pub merged : ℕ → Held
-  merged n = record { block = joined (mergedPackets n); map = each (λ p. markOf (heardAt p)) (from 0 n) }
+  merged n = record { block = joined (each (λ p. packetOf s (heardAt p)) (from 0 n)); map = each (λ p. markOf (heardAt p)) (from 0 n) }

@@ -1,4 +1,3 @@
 pub mod Aerials
 pub mod HeardLaws
 pub mod MergedLaws
-pub mod Merging

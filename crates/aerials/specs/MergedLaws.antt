@@ -7,28 +7,18 @@ use Prim.Native.Nat.{ℕ, _+_, _*_, _<_, _≤_}
 use native.Mathlib.Omega.{arith}
 use borrow.Author.Tests.{le-ltb}
 use lib.Dec.{eqb, ltb}
-use lib.ListN.{length, getD, length-map, List·getD-eq-default}
-use Rattle.erasure.specs.Offered.{byteOver}
+use lib.ListN.{length, getD, List·getD-eq-default}
+use Rattle.erasure.specs.Offered.{Held, byteOver}
+use Rattle.erasure.specs.PlaceByPlace.{part-sized, block-length, block-part}
 use Rattle.erasure.specs.Restoring.{tally}
-use Rattle.erasure.specs.OutcomeLaws.{part-joined}
-use Rattle.lists.specs.ListLaws.{all-map, map-all, map-same, any-none, filter-none}
+use Rattle.lists.specs.ListLaws.{all-map, map-all, any-none, filter-none}
 use Rattle.lists.specs.Lists.{from}
-use Rattle.lists.specs.Numbers.{from-all, from-length, map-from-at}
+use Rattle.lists.specs.Numbers.{from-all, from-length, map-from-at, each-length, each-same}
 use Rattle.lists.specs.Tests.{eqb-true, byBool}
-use Rattle.table.specs.BufferLaws.{place-fits}
-use Rattle.lists.specs.Buffers.{part-length}
 use Rattle.table.specs.PacketCall.{partAt}
-use Rattle.table.specs.PacketLaws.{joined-length}
-use Rattle.table.specs.Packets.{Packets, joined}
-use Rattle.aerials.specs.Aerials.{Held, Heard, agreed, single, silent, clash, packetOf, markOf, kindOf, heardAt, kinds, mergedPackets, merged}
+use Rattle.table.specs.Packets.{joined}
+use Rattle.aerials.specs.Aerials.{Heard, agreed, single, silent, clash, packetOf, markOf, kindOf, heardAt, kinds, merged}
 use Rattle.aerials.specs.HeardLaws.{mark-most, mark-kind, packet-sized, exchanged, heard-alike}
-
--- ---- over numbers in order
-each-length : {A : Type 0} (f : ℕ → A) (n : ℕ) → length (each f (from 0 n)) ≡ n
-each-length f n = length-map (from 0 n) f ∙ from-length 0 n
-
-each-same : {A : Type 0} (f g : ℕ → A) (n : ℕ) → ((p : ℕ) → p < n → f p ≡ g p) → each f (from 0 n) ≡ each g (from 0 n)
-each-same f g n same = map-same f g (all-map (λ p h. let u = h .1 in same p (omega arith)) (from-all 0 n))
 
 -- each place is of one kind
 kinds-add : (f : ℕ → Heard) (l : List ℕ)
@@ -56,9 +46,6 @@ lost-add f (x ∷ l) = go (f x) (lost-add f l)
     go (single y) e = omega arith
     go silent e = omega arith
     go clash e = omega arith
-
-pub part-sized : (n s : ℕ) (b : List ℕ) → length b ≡ n * s → (p : ℕ) → p < n → length (partAt s p b) ≡ s
-part-sized n s b l p h = part-length b (p * s) s (let k = place-fits p n s h in omega arith)
 
 module _ (n s : ℕ) (one two : Held) where
   -- ---- counts
@@ -95,17 +82,15 @@ module _ (n s : ℕ) (one two : Held) where
 
   -- ---- the block
   module _ (long1 : length (one .block) ≡ n * s) (long2 : length (two .block) ≡ n * s) where
-    pub merged-sized : Packets s (mergedPackets s one two n)
-    merged-sized = map-all (λ p. packetOf s (heardAt s one two p)) (all-map (λ p h. let u : p < n = (let k = h .1 in omega arith) in
-        packet-sized (getD (one .map) p 0) (getD (two .map) p 0) (partAt s p (one .block)) (partAt s p (two .block)) s (part-sized n s (one .block) long1 p u) (part-sized n s (two .block) long2 p u)) (from-all 0 n))
+    sized : (p : ℕ) → p < n → length (packetOf s (heardAt s one two p)) ≡ s
+    sized p h = packet-sized (getD (one .map) p 0) (getD (two .map) p 0) (partAt s p (one .block)) (partAt s p (two .block)) s (part-sized n s (one .block) long1 p h) (part-sized n s (two .block) long2 p h)
 
     pub merged-length : length (merged s one two n .block) ≡ n * s
-    merged-length = joined-length s merged-sized ∙ ap (λ k. k * s) (each-length (λ p. packetOf s (heardAt s one two p)) n)
+    merged-length = block-length n s (λ p. packetOf s (heardAt s one two p)) sized
 
     -- the packet at a place
     pub merged-part : (p : ℕ) → p < n → partAt s p (merged s one two n .block) ≡ packetOf s (heardAt s one two p)
-    merged-part p h = part-joined s n (mergedPackets s one two n) (each-length (λ q. packetOf s (heardAt s one two q)) n) merged-sized p h
-        ∙ map-from-at (λ q. packetOf s (heardAt s one two q)) [] n p h
+    merged-part = block-part n s (λ p. packetOf s (heardAt s one two p)) sized
 
 -- ---- what doesn't count
 -- which of the listeners is the first

@@ -6,8 +6,9 @@ ghost use Prim.Native.Nat.{_+_, _*_, _≤_};
 ghost use lib.Dec.{ltb};
 ghost use lib.ListN.{length, take, drop};
 ghost use Rattle.lists.specs.Lists.{sameList, written};
-ghost use Rattle.aerials.specs.Aerials.{held, heard, packetOf, kindOf, kinds, merged};
-ghost use Rattle.aerials.specs.Merging.{Sized};
+ghost use Rattle.erasure.specs.Offered.{held};
+ghost use Rattle.aerials.specs.Aerials.{heard, packetOf, kindOf, kinds, merged};
+ghost use Rattle.packets.specs.Filling.{Sized};
 
 // The kinds of a place; those from SILENT on are lost.
 pub const AGREED: u8 = 0;

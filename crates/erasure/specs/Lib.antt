@@ -8,6 +8,7 @@ pub mod OfferedLaws
 pub mod OldBytes
 pub mod OldRepair
 pub mod OutcomeLaws
+pub mod PlaceByPlace
 pub mod Restoring
 pub mod RestoringLaws
 pub mod Stopping

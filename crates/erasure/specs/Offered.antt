@@ -13,6 +13,14 @@ use Rattle.table.specs.FirstCause.{wrongLength}
 use Rattle.table.specs.PacketCall.{partAt}
 use Rattle.table.specs.Table.{places, size, refusal}
 
+-- a block and its map
+pub record Held : Type 0 where
+  pub block : List ℕ
+  pub map : List ℕ
+
+abbrev pub held : List ℕ → List ℕ → Held
+held block map = record { block = block; map = map }
+
 -- 5: block or map of wrong length
 abbrev pub wrongLengths : List ℕ → List ℕ → List ℕ → Bool
 wrongLengths t b map = wrongLength (length b) (places t * size t) || wrongLength (length map) (places t)

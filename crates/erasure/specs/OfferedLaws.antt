@@ -5,7 +5,7 @@ use mathlib.Core.List.{List, [], _∷_}
 use mathlib.Core.Option.{Option, none}
 use Prim.Native.Nat.{ℕ, _*_, _<_, _≤_}
 use native.Mathlib.Omega.{arith}
-use borrow.Author.Tests.{ltb-false, not-false}
+use borrow.Author.Tests.{eq-eqb, ltb-false, not-false}
 use lib.Dec.{eqb, ltb}
 use lib.ListN.{length, getD}
 use Rattle.erasure.specs.Offered.{wrongLengths, byteOver, handedOn, Fitting, Agree}
@@ -21,6 +21,9 @@ use Rattle.table.specs.Table.{places, size, checks, refusal}
 use Rattle.table.specs.TableLaws.{accepted}
 
 -- ---- no cause up to 7
+pub lengths-right : (t b map : List ℕ) → length b ≡ places t * size t → length map ≡ places t → wrongLengths t b map ≡ false
+lengths-right t b map lb lm = rw (eq-eqb (length b) (places t * size t) lb, eq-eqb (length map) (places t) lm)
+
 pub lengths-fit : (t b map : List ℕ) → wrongLengths t b map ≡ false → (length b ≡ places t * size t) × (length map ≡ places t)
 lengths-fit t b map w = (
   eqb-true (length b) (places t * size t) (not-false (eqb (length b) (places t * size t)) (or-false-l (wrongLength (length b) (places t * size t)) _ w)),

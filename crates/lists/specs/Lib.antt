@@ -1,5 +1,6 @@
 pub mod Ascending
 pub mod Buffers
+pub mod Comparing
 pub mod ListLaws
 pub mod Lists
 pub mod Numbers

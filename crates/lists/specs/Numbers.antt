@@ -7,9 +7,9 @@ use Prim.Native.Nat.{ℕ, zero, suc, _+_, _-_, _<_, _≤_}
 use native.Mathlib.Numerals.{add-one}
 use native.Mathlib.Omega.{arith}
 use lib.Dec.{eqb}
-use lib.ListN.{length, getD}
+use lib.ListN.{length, getD, length-map}
 use Rattle.lists.specs.Lists.{All, All.nil, All.cons, anyOf, below, from, filter, has, rev}
-use Rattle.lists.specs.ListLaws.{all-map, all-in, any-none, none-any, has-filter, has-kept}
+use Rattle.lists.specs.ListLaws.{all-map, all-in, map-same, any-none, none-any, has-filter, has-kept}
 use Rattle.lists.specs.Tests.{byBool, eqb-false, eqb-lt, or-r}
 
 pub from-length : (i c : ℕ) → length (from i c) ≡ c
@@ -82,6 +82,12 @@ map-from-at {A} f d c j h = go 0 c j h ∙ ap f {x = 0 + j} {y = j} (omega arith
     go i zero j h = absurd (omega arith)
     go i (suc c) zero h = ap f {x = i} {y = i + 0} (omega arith)
     go i (suc c) (suc j) h = go (suc i) c j (omega arith) ∙ ap f {x = suc i + j} {y = i + suc j} (omega arith)
+
+pub each-length : {A : Type 0} (f : ℕ → A) (n : ℕ) → length (map f (from 0 n)) ≡ n
+each-length f n = length-map (from 0 n) f ∙ from-length 0 n
+
+pub each-same : {A : Type 0} (f g : ℕ → A) (n : ℕ) → ((p : ℕ) → p < n → f p ≡ g p) → map f (from 0 n) ≡ map g (from 0 n)
+each-same f g n same = map-same f g (all-map (λ p h. let u = h .1 in same p (omega arith)) (from-all 0 n))
 
 -- none below n passes
 pub any-from : (f : ℕ → Bool) (n : ℕ) → (anyOf f (from 0 n) ≡ false) ↔ ((p : ℕ) → p < n → f p ≡ false)

@@ -1,24 +1,45 @@
-// Marks of lost places and of checks: whether a mark is over 1, how many places are lost, zero bytes at each, and whether a check is to be summed.
+// Marks of lost places and of checks: lengths of a block and its map, whether a mark is over 1, how many places are lost, zero bytes at each, and whether a check is to be summed.
 ghost use mathlib.Core.Path.{_≡_};
-ghost use mathlib.Core.Bool.{true, false};
+ghost use mathlib.Core.Bool.{true, false, _||_};
 ghost use Prim.Native.Nat.{_*_, _≤_};
+ghost use lib.Dec.{ltb};
 ghost use lib.ListN.{length};
+ghost use Rattle.lists.specs.Lists.{anyOf};
+ghost use Rattle.table.specs.FirstCause.{wrongLength};
 ghost use Rattle.table.specs.Packets.{packets, joined};
 ghost use Rattle.erasure.specs.Offered.{byteOver};
 ghost use Rattle.erasure.specs.Restoring.{tally, zeroLost};
 
-// a map byte over 1
-pub fn over_one(map: &[u8]) -> bool
-    ensures { λ r. ⌜ r ≡ byteOver (now (map .entry)) ⌝ }
+// a block and map that aren't of n places of s bytes
+pub fn wrong_lengths(block: &[u8], map: &[u8], n: usize, s: usize) -> bool
+    requires { ⌜ n * s ≤ 1048576 ⌝ }
+    ensures { λ r. ⌜ r ≡ (wrongLength (length (now (block .entry))) (n * s) || wrongLength (length (now (map .entry))) n) ⌝ }
+{
+    if block.len() != n * s {
+        return true;
+    }
+    map.len() != n
+}
+
+// a map byte over most
+pub fn over(map: &[u8], most: u8) -> bool
+    ensures { λ r. ⌜ r ≡ anyOf (ltb most) (now (map .entry)) ⌝ }
 {
     let mut p = 0;
     while p < map.len() {
-        if map[p] > 1 {
+        if map[p] > most {
             return true;
         }
         p += 1;
     }
     false
+}
+
+// a map byte over 1
+pub fn over_one(map: &[u8]) -> bool
+    ensures { λ r. ⌜ r ≡ byteOver (now (map .entry)) ⌝ }
+{
+    over(map, 1)
 }
 
 // how many map bytes are v

@@ -8,10 +8,10 @@ use native.Mathlib.Omega.{arith}
 use borrow.Author.Tests.{ne-eqb}
 use lib.Dec.{eqb, ltb}
 use lib.ListN.{length}
-use Rattle.aerials.specs.Aerials.{Held, kinds, merged}
+use Rattle.aerials.specs.Aerials.{kinds, merged}
 use Rattle.aerials.specs.MergedLaws.{marks-of-kinds}
-use Rattle.aerials.specs.Merging.{Sized}
-use Rattle.erasure.specs.Offered.{wrongLengths, byteOver}
+use Rattle.packets.specs.Filling.{Sized}
+use Rattle.erasure.specs.Offered.{Held, wrongLengths, byteOver}
 use Rattle.erasure.specs.OfferedLaws.{bytes-all, none-handed}
 use Rattle.erasure.specs.OutcomeLaws.{tally-two}
 use Rattle.erasure.specs.Restoring.{Counts, tally, agreeing, countsIf, blockIf, mapIf}

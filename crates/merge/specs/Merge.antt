@@ -7,8 +7,8 @@ use mathlib.Core.Option.{Option}
 use Prim.Native.Nat.{ℕ, zero, suc, _*_}
 use lib.Dec.{eqb}
 use lib.ListN.{length}
-use Rattle.aerials.specs.Aerials.{Held, kinds, merged}
-use Rattle.erasure.specs.Offered.{wrongLengths, byteOver, handedOn, Fitting}
+use Rattle.aerials.specs.Aerials.{kinds, merged}
+use Rattle.erasure.specs.Offered.{Held, wrongLengths, byteOver, handedOn, Fitting}
 use Rattle.erasure.specs.Restoring.{State, tally, outcome, contradicting, agreeing}
 use Rattle.faults.specs.Faults.{Fault, checkOf, byteOf}
 use Rattle.merge.specs.declared.Merged.{Merged}

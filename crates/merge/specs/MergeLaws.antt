@@ -5,14 +5,14 @@ use mathlib.Core.List.{List, [], _∷_, _++_}
 use mathlib.Core.Logic.{_≢_}
 use mathlib.Core.Option.{Option}
 use Prim.Native.Nat.{ℕ, zero, suc, _*_}
-use borrow.Author.Tests.{eq-eqb, not-true, not-false}
+use borrow.Author.Tests.{not-true, not-false}
 use lib.Dec.{eqb}
 use lib.ListN.{length, getD}
-use Rattle.aerials.specs.Aerials.{Held, heardAt, kinds}
+use Rattle.aerials.specs.Aerials.{heardAt, kinds}
 use Rattle.aerials.specs.HeardLaws.{lost-zero}
 use Rattle.aerials.specs.MergedLaws.{marks-length, marks-low, mark-at, merged-length, merged-part}
-use Rattle.erasure.specs.Offered.{wrongLengths, byteOver, handedOn, Fitting}
-use Rattle.erasure.specs.OfferedLaws.{lengths-fit, offer-fits}
+use Rattle.erasure.specs.Offered.{Held, wrongLengths, byteOver, handedOn, Fitting}
+use Rattle.erasure.specs.OfferedLaws.{lengths-right, lengths-fit, offer-fits}
 use Rattle.erasure.specs.OldRepair.{cleared-kept, cleared-zero}
 use Rattle.erasure.specs.OutcomeLaws.{start-length, start-sized}
 use Rattle.erasure.specs.Restoring.{State, agreeing, blockIf, isLost}
@@ -25,10 +25,6 @@ use Rattle.table.specs.FirstCauseLaws.{none-holds, none-refuses, first-decides,
 use Rattle.table.specs.PacketLaws.{joined-length, same-packets}
 use Rattle.table.specs.Packets.{joined}
 use Rattle.table.specs.Table.{places, size, tableCauses, refusal}
-
--- block and map of the right lengths
-lengths-right : (t b map : List ℕ) → length b ≡ places t * size t → length map ≡ places t → wrongLengths t b map ≡ false
-lengths-right t b map lb lm = rw (eq-eqb (length b) (places t * size t) lb, eq-eqb (length map) (places t) lm)
 
 module _ (t : List ℕ) (one two out : Held) where
   -- nothing contradicts

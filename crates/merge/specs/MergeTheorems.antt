@@ -9,12 +9,12 @@ use native.Mathlib.Omega.{arith}
 use borrow.Author.Tests.{ne-eqb}
 use lib.Dec.{eqb}
 use lib.ListN.{length, getD, replicate}
-use Rattle.aerials.specs.Aerials.{Held, packetOf, markOf, heardAt, kinds}
+use Rattle.aerials.specs.Aerials.{packetOf, markOf, heardAt, kinds}
 use Rattle.aerials.specs.HeardLaws.{lost-zero, no-clash, merged-word, lost-both}
 use Rattle.aerials.specs.MergedLaws.{SameHeard, four-counts, lost-counts, no-clashes, mark-at, mark-beyond, merged-part, merged-exchanged, merged-alike}
 use Rattle.erasure.specs.Largest.{stays-lost, largest-within}
 use Rattle.erasure.specs.LostLaws.{not-lost, is-lost}
-use Rattle.erasure.specs.Offered.{wrongLengths, byteOver, Fitting, Agree, handedOn}
+use Rattle.erasure.specs.Offered.{Held, wrongLengths, byteOver, Fitting, Agree, handedOn}
 use Rattle.erasure.specs.OfferedLaws.{bytes-all, byte-at, agree-there, sized, low, none-handed}
 use Rattle.erasure.specs.OldRepair.{RestoredBy, old-repair, word-agrees, word-values}
 use Rattle.erasure.specs.OutcomeLaws.{tally-restored}

@@ -5,13 +5,11 @@ use aerials::SILENT;
 use aerials::SINGLE;
 use table::wide;
 ghost use mathlib.Core.Path.{_≡_};
-ghost use mathlib.Core.Bool.{_||_};
-ghost use Prim.Native.Nat.{_*_, _≤_};
+ghost use Prim.Native.Nat.{_≤_};
 ghost use lib.ListN.{length};
 ghost use Rattle.table.specs.Accepted.{Accepted};
-ghost use Rattle.table.specs.FirstCause.{wrongLength};
 ghost use Rattle.erasure.specs.Restoring.{tally};
-ghost use Rattle.aerials.specs.Aerials.{held};
+ghost use Rattle.erasure.specs.Offered.{held};
 ghost use Rattle.merge.specs.Merge.{Answers, FittingThree, mergeAnswerOf, mergedWith, refusedWith};
 
 // What merging reports: the refusal, 0 for none; how many places are agreed, heard by one, heard by
@@ -35,17 +33,6 @@ pub struct Kinds {
     pub single: u32,
     pub silent: u32,
     pub clash: u32,
-}
-
-// a block and map that aren't of n places of s bytes
-fn wrong_lengths(block: &[u8], map: &[u8], n: usize, s: usize) -> bool
-    requires { ⌜ n * s ≤ 1048576 ⌝ }
-    ensures { λ r. ⌜ r ≡ (wrongLength (length (now (block .entry))) (n * s) || wrongLength (length (now (map .entry))) n) ⌝ }
-{
-    if block.len() != n * s {
-        return true;
-    }
-    map.len() != n
 }
 
 // the kinds in a map of them, counted
@@ -151,13 +138,13 @@ pub fn merge(
     }
     let n = wide(t[1]);
     let s = wide(t[2]);
-    if wrong_lengths(block1, map1, n, s) {
+    if marks::wrong_lengths(block1, map1, n, s) {
         return refused(5, 0, 0);
     }
-    if wrong_lengths(block2, map2, n, s) {
+    if marks::wrong_lengths(block2, map2, n, s) {
         return refused(5, 0, 0);
     }
-    if wrong_lengths(block3, map3, n, s) {
+    if marks::wrong_lengths(block3, map3, n, s) {
         return refused(5, 0, 0);
     }
     if marks::over_one(map1) {

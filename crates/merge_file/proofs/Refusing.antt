@@ -7,7 +7,7 @@ use Prim.Native.Nat.{ℕ}
 use borrow.Author.Tests.{ne-eqb}
 use Rattle.lists.specs.Lists.{has}
 use Rattle.table.specs.FirstCauseLaws.{refused-by}
-use Rattle.aerials.specs.Aerials.{Held}
+use Rattle.erasure.specs.Offered.{Held}
 use Rattle.merge.specs.Merge.{mergeCauses, mergeRefusal, MergeAnswer, mergeAnswerOf, mergeAnswer}
 use Rattle.merge.specs.MergeLaws.{refusal-told}
 use Rattle.merge.specs.declared.Merged.{Merged}

@@ -3,7 +3,7 @@ use mathlib.Core.Bool.{Bool, true, false}
 use Prim.Native.Nat.{ℕ}
 use Rattle.full.specs.Full.{FullAnswer}
 use Rattle.merge.specs.Merge.{MergeAnswer}
-use Rattle.repair.specs.Repair.{RepairAnswer}
+use Rattle.report.specs.Report.{RepairAnswer}
 use Rattle.receiver.specs.declared.FullRepair.{FullRepair}
 use Rattle.receiver.specs.declared.Merge.{Merge}
 use Rattle.receiver.specs.declared.Reason.{Reason}

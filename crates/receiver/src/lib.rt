@@ -7,7 +7,7 @@ ghost use Rattle.verify.specs.Verify.{verifyAnswer};
 ghost use Rattle.repair.specs.Repair.{repairAnswer, repairBlockAfter, repairMapAfter};
 ghost use Rattle.full.specs.Full.{fullAnswer, fullBlockAfter, fullMapAfter, fullWorkAfter};
 ghost use Rattle.faults.specs.Faults.{checkOf, byteOf};
-ghost use Rattle.aerials.specs.Aerials.{held};
+ghost use Rattle.erasure.specs.Offered.{held};
 ghost use Rattle.merge.specs.Merge.{mergeAnswer, mergeAfter};
 ghost use Rattle.why.specs.Why.{Explains};
 ghost use Rattle.receiver.specs.Answers.{oneIf, repaired, fullyRepaired, merged, reasoned};

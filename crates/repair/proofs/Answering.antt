@@ -28,9 +28,10 @@ use Rattle.restore.specs.Mending.{countsOf, Mends}
 use Rattle.restore.specs.MendsLaws.{agrees-told, check-told, byte-told}
 use Rattle.restore.specs.declared.Mended.{Mended}
 use Rattle.repair.specs.Parts.{Without}
-use Rattle.repair.specs.Repair.{believed, marked, repairRefusal, repairAnswerOf, acceptedWith, refusedWith, Answers}
+use Rattle.repair.specs.Repair.{believed, marked, repairRefusal, Answers}
 use Rattle.repair.specs.RepairLaws.{agreed-refusal, blamed-refusal, contradicted-refusal, table-refused, block-short, map-short, byte-over, block-accepted, block-contradicted, block-refused, map-accepted, map-refused}
-use Rattle.repair.specs.declared.Repaired.{Repaired}
+use Rattle.report.specs.Report.{repairAnswerOf, acceptedWith, refusedWith}
+use Rattle.report.specs.declared.Repaired.{Repaired}
 
 -- ---- what the core tells and leaves
 module _ (t b l : List ℕ) (f : Fitting t b l) (d : Mended) (b₂ l₂ : List ℕ) (done : Mends t b l d b₂ l₂) where

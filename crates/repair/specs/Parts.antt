@@ -5,8 +5,8 @@ use Prim.Native.Nat.{ℕ}
 use lib.ListN.{set}
 use Rattle.blame.specs.Blame.{lostToo}
 use Rattle.erasure.specs.Restoring.{tally, outcome}
-use Rattle.repair.specs.Repair.{repairAnswerOf, acceptedWith}
-use Rattle.repair.specs.declared.Repaired.{Repaired}
+use Rattle.report.specs.Report.{repairAnswerOf, acceptedWith}
+use Rattle.report.specs.declared.Repaired.{Repaired}
 use Rattle.table.specs.Packets.{joined}
 
 pub record Without (t b map : List ℕ) (p : ℕ) (r : Repaired) (b′ map′ : List ℕ) : Type 0 where

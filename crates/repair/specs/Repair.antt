@@ -11,7 +11,8 @@ use Rattle.blame.specs.Blame.{lostToo, blamed, nobody}
 use Rattle.erasure.specs.Offered.{wrongLengths, byteOver, handedOn}
 use Rattle.erasure.specs.Restoring.{State, zeroLost, tally, outcome, contradicting, agreeing}
 use Rattle.faults.specs.Faults.{Fault, checkOf, byteOf}
-use Rattle.repair.specs.declared.Repaired.{Repaired}
+use Rattle.report.specs.Report.{RepairAnswer, acceptedWith, refusedWith, repairAnswerOf}
+use Rattle.report.specs.declared.Repaired.{Repaired}
 use Rattle.table.specs.FirstCause.{firstCause}
 use Rattle.table.specs.Packets.{packets, joined}
 use Rattle.table.specs.Table.{places, size, tableCauses, refusal}
@@ -42,23 +43,6 @@ repairCauses t b map = tableCauses t ++ ((wrongLengths t b map, 5) ∷ (byteOver
 unfoldable pub repairRefusal : List ℕ → List ℕ → List ℕ → ℕ
 repairRefusal t b map = firstCause (repairCauses t b map)
 
--- what is reported: counts 0 on refusal; the check that fails and its byte, both 0 but for refusal 8
-pub record RepairAnswer : Type 0 where
-  pub refusal : ℕ
-  pub restored : ℕ
-  pub lost : ℕ
-  pub additions : ℕ
-  pub check : ℕ
-  pub byte : ℕ
-
--- accepted: the counts
-abbrev pub acceptedWith : ℕ → ℕ → ℕ → RepairAnswer
-acceptedWith restored lost additions = record { refusal = 0; restored = restored; lost = lost; additions = additions; check = 0; byte = 0 }
-
--- a refusal: counts 0
-abbrev pub refusedWith : ℕ → ℕ → ℕ → RepairAnswer
-refusedWith r check byte = record { refusal = r; restored = 0; lost = 0; additions = 0; check = check; byte = byte }
-
 -- by the refusal's number, 0 for none, what restoring comes to, in which the blamed place is restored, and what is handed on
 abbrev pub repairAnswerAt : ℕ → State → Option Fault → RepairAnswer
 repairAnswerAt zero m f = acceptedWith (tally 2 (m .map)) (tally 1 (m .map)) (m .adds)
@@ -80,10 +64,6 @@ repairBlockAfter t b map =
 -- the map afterwards: restored places are marked 2, the blamed one 3; as it was on refusal
 abbrev pub repairMapAfter : List ℕ → List ℕ → List ℕ → List ℕ
 repairMapAfter t b map = elim (eqb (repairRefusal t b map) 0) [ true ↦ marked (blamed t b map) (repairOutcome t b map .map) | false ↦ map ]
-
--- the papers' numbers of an answer
-abbrev pub repairAnswerOf : Repaired → RepairAnswer
-repairAnswerOf r = record { refusal = r .refusal; restored = r .restored; lost = r .lost; additions = r .additions; check = r .check; byte = r .byte }
 
 -- what the call answers, and what it leaves in block and map
 pub record Answers (t b map : List ℕ) (r : Repaired) (b′ map′ : List ℕ) : Type 0 where

@@ -28,7 +28,8 @@ use Rattle.faults.specs.Faults.{Fault, noFault, FirstFault}
 use Rattle.lists.specs.ListLaws.{all-map, all-of, filter-same}
 use Rattle.lists.specs.Lists.{All}
 use Rattle.lists.specs.Tests.{eqb-true, eqb-false, byBool, byOpt}
-use Rattle.repair.specs.Repair.{believed, marked, repairOutcome, repairRefusal, RepairAnswer, acceptedWith, refusedWith, repairAnswerAt, repairAnswer, repairBlockAfter, repairMapAfter}
+use Rattle.report.specs.Report.{RepairAnswer, acceptedWith, refusedWith}
+use Rattle.repair.specs.Repair.{believed, marked, repairOutcome, repairRefusal, repairAnswerAt, repairAnswer, repairBlockAfter, repairMapAfter}
 use Rattle.repair.specs.RepairLaws.{agreed-refusal, blamed-refusal, contradicted-refusal, accepted-fits, contradicted-fits, block-accepted, block-contradicted, map-accepted, map-refused}
 use Rattle.table.specs.Codewords.{IsCodeword}
 use Rattle.table.specs.PacketCall.{partAt}

@@ -1,5 +1,8 @@
 // The receiver: repair, the call with its refusals; where one packet is bad, repair without it.
 use blame::Suspected;
+use report::Repaired;
+use report::accepted;
+use report::refused;
 use table::wide;
 ghost use mathlib.Core.Path.{_≡_};
 ghost use mathlib.Core.Bool.{true};
@@ -8,47 +11,8 @@ ghost use Rattle.table.specs.Accepted.{Accepted};
 ghost use Rattle.blame.specs.Blame.{lostToo};
 ghost use Rattle.erasure.specs.Offered.{Fitting};
 ghost use Rattle.erasure.specs.Restoring.{agreeing};
-ghost use Rattle.repair.specs.Repair.{Answers, repairAnswerOf, acceptedWith, refusedWith};
+ghost use Rattle.repair.specs.Repair.{Answers};
 ghost use Rattle.repair.specs.Parts.{Without};
-
-// What repair reports: the refusal, 0 for none, the counts, and with refusal 8 the lowest check that
-// fails after restoring and the lowest byte of its sum that isn't zero.
-pub struct Repaired {
-    pub refusal: u32,
-    pub restored: u32,
-    pub lost: u32,
-    pub additions: u32,
-    pub check: u32,
-    pub byte: u32,
-}
-
-// a refusal, counts 0, with a check and its byte
-fn refused(refusal: u32, check: u32, byte: u32) -> Repaired
-    ensures { λ r. ⌜ repairAnswerOf r ≡ refusedWith refusal check byte ⌝ }
-{
-    Repaired {
-        refusal: refusal,
-        restored: 0,
-        lost: 0,
-        additions: 0,
-        check: check,
-        byte: byte,
-    }
-}
-
-// accepted, with its counts
-fn accepted(restored: u32, lost: u32, additions: u32) -> Repaired
-    ensures { λ r. ⌜ repairAnswerOf r ≡ acceptedWith restored lost additions ⌝ }
-{
-    Repaired {
-        refusal: 0,
-        restored: restored,
-        lost: lost,
-        additions: additions,
-        check: 0,
-        byte: 0,
-    }
-}
 
 // the repair with place p marked lost too, by which nothing contradicts; p is marked 3
 fn repair_without(

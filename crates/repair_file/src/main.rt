@@ -1,7 +1,7 @@
 // repair_file TABLE BLOCK MAP: restores what it can of the lost packets, and writes block and map
 // back. Where the received packets contradict, and no place is blamed for it, the block goes back
 // too, zero at its lost places.
-use repair::Repaired;
+use report::Repaired;
 use text::Read;
 ghost use mathlib.Core.Path.{_≡_};
 ghost use Prim.Native.Nat.{ℕ, _≤_, _<_};

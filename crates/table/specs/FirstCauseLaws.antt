@@ -58,7 +58,7 @@ quiet nil = refl
 quiet (cons f n) = rw f (quiet n)
 
 -- what is answered is 0 or a cause's number
-one-of : (cs : List (Bool × ℕ)) → has (firstCause cs) (0 ∷ causeNumbers cs) ≡ true
+pub one-of : (cs : List (Bool × ℕ)) → has (firstCause cs) (0 ∷ causeNumbers cs) ≡ true
 one-of [] = refl
 one-of (c ∷ cs) = byBool (c .0)
     (λ t. rw t (rw (eqb-self (c .1)) (or-r (eqb (c .1) 0) true refl)))

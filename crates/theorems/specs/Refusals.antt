@@ -17,12 +17,11 @@ use Rattle.planner.specs.Planning.{planningCauses, planningRefusalAt, planningA
 use Rattle.encoder.specs.Encoding.{encodeCauses, encodeRefusalAt, encodeAnswer, encodeAnswerAt, encodeRefusal}
 use Rattle.repair.specs.Repair.{repairCauses, repairOutcome, repairRefusal, repairAnswer, repairAnswerAt}
 use Rattle.full.specs.Full.{fullCauses, fullRefusal, fullAnswer, fullAnswerAt, fullMapAfter}
-use Rattle.aerials.specs.Aerials.{Held}
 use Rattle.merge.specs.Merge.{mergeCauses, mergeRefusal, mergeAnswer}
 use Rattle.merge.specs.MergeLaws.{refusal-told}
 use Rattle.why.specs.Why.{whyCauses, whyRefusal, whyAnswer}
 use Rattle.why.specs.WhyLaws.{refusal-told as why-told}
-use Rattle.erasure.specs.Offered.{handedOn}
+use Rattle.erasure.specs.Offered.{Held, handedOn}
 use Rattle.erasure.specs.Restoring.{State, contradicting}
 use Rattle.faults.specs.Faults.{Fault}
 use Rattle.verify.specs.Verify.{verifyCauses, verifyRefusal, verifyAnswer, verifyAnswerAt}

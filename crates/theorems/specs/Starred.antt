@@ -5,7 +5,7 @@ use mathlib.Core.Bool.{cond}
 use mathlib.Core.List.{List, [], _∷_, _++_, map}
 use Prim.Native.Nat.{ℕ, _+_, _-_, _*_}
 use lib.ListN.{length, take, replicate}
-use Rattle.aerials.specs.Aerials.{Held}
+use Rattle.erasure.specs.Offered.{Held}
 use Rattle.blame.specs.Blame.{blamed}
 use Rattle.erasure.specs.Restoring.{agreeing, blockIf, mapIf}
 use Rattle.faults.specs.Faults.{checkOf, byteOf}

@@ -7,8 +7,7 @@ use mathlib.Core.Logic.{_≢_}
 use Prim.Native.Nat.{ℕ, _*_, _<_}
 use lib.Dec.{eqb}
 use lib.ListN.{length, getD}
-use Rattle.aerials.specs.Aerials.{Held}
-use Rattle.erasure.specs.Offered.{Fitting, Agree}
+use Rattle.erasure.specs.Offered.{Held, Fitting, Agree}
 use Rattle.erasure.specs.Restoring.{outcome, mapIf, isLost}
 use Rattle.lists.specs.Tests.{byBool, eqb-true}
 use Rattle.merge.specs.Merge.{mergeAfter, FittingThree}

@@ -6,7 +6,7 @@ use Prim.Native.Nat.{_-_, _≤_}
 use native.Mathlib.Omega.{arith}
 use lib.ListN.{length, drop}
 use Rattle.lists.specs.Lists.{sameList}
-use Rattle.aerials.proofs.Comparing.{same-hit, same-miss, same-end, missed, ended}
+use Rattle.lists.specs.Comparing.{same-hit, same-miss, same-end, missed, ended}
 use Rattle.aerials.proofs.same.Statement.{statement}
 use Rattle.aerials.proofs.same.Tie as tie
 

@@ -3,7 +3,7 @@ use mathlib.Core.Path.{refl}
 use native.Mathlib.Omega.{arith}
 use borrow.Author.Needs.{needs}
 use Rattle.table.specs.Accepted.{looked-over, words, block-small}
-use Rattle.aerials.specs.Aerials.{held}
+use Rattle.erasure.specs.Offered.{held}
 use Rattle.merge.proofs.Answering.{answer-table, answer-first, answer-second, answer-third, answer-byte-first, answer-byte-second, fitting}
 use Rattle.merge.proofs.merge.Statement.{statement}
 use Rattle.merge.proofs.merge.Tie as tie

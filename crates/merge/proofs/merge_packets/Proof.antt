@@ -3,7 +3,7 @@ use mathlib.Core.Path.{_∙_}
 use native.Mathlib.Omega.{arith}
 use borrow.Author.Needs.{needs}
 use Rattle.table.specs.TableLaws.{accepted}
-use Rattle.aerials.specs.Aerials.{held}
+use Rattle.erasure.specs.Offered.{held}
 use Rattle.merge.proofs.Answering.{answer-merged, answer-contradicted, lent, block-third, marks-third, kinds-all, counted}
 use Rattle.merge.proofs.merge_packets.Statement.{statement}
 use Rattle.merge.proofs.merge_packets.Tie as tie

@@ -1,6 +1,6 @@
 -- `merge_file::merge_into` is safe: what is refused has its words.
 use borrow.Author.Needs.{needs}
-use Rattle.aerials.specs.Aerials.{held}
+use Rattle.erasure.specs.Offered.{held}
 use Rattle.merge_file.proofs.Refusing.{refused-before}
 use Rattle.merge_file.proofs.merge_into.Statement.{statement}
 use Rattle.merge_file.proofs.merge_into.Tie as tie

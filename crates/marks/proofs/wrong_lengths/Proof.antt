@@ -1,8 +1,8 @@
--- `merge::wrong_lengths` meets its contract.
+-- `marks::wrong_lengths` meets its contract.
 use borrow.Author.Needs.{needs}
 use borrow.Author.Tests.{eq-eqb, ne-eqb}
-use Rattle.merge.proofs.wrong_lengths.Statement.{statement}
-use Rattle.merge.proofs.wrong_lengths.Tie as tie
+use Rattle.marks.proofs.wrong_lengths.Statement.{statement}
+use Rattle.marks.proofs.wrong_lengths.Tie as tie
 
 mul-if1 : tie.Need-mul-if1
 mul-if1 c = search needs

@@ -1,0 +1,3 @@
+pub mod EnteredLaws
+pub mod Entering
+pub mod EntryLaws

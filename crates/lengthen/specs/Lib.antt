@@ -1,0 +1,5 @@
+pub mod AsIfFresh
+pub mod Carrying
+pub mod Lengthen
+pub mod LengthenLaws
+pub mod LengthenTheorems
