@@ -108,7 +108,7 @@ module _ (old new : List ℕ) (carried arrivals : Held) where
   contradicted-refusal f e = fitting-refusal f ∙ rw e
 
   -- 8 is no other cause's number
-  not-eight : firstCause (offerCauses old new carried arrivals) ≢ 8
+  pub not-eight : firstCause (offerCauses old new carried arrivals) ≢ 8
   not-eight e = false≢true (ap (λ k. has k (0 ∷ causeNumbers (offerCauses old new carried arrivals))) (sym e) ∙ one-of (offerCauses old new carried arrivals))
 
   -- an accepted call, and what was tested
