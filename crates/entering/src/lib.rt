@@ -24,14 +24,7 @@ fn carried(map: &[u8], n: usize, p: usize) -> u8
 }
 
 // The place whose packets stand at at: an arrival goes into the block where the place is lost. Its mark is returned.
-fn enter(
-    carried: u8,
-    arrived: u8,
-    block: &mut [u8],
-    arrivals: &[u8],
-    at: usize,
-    s: usize,
-) -> u8
+fn enter(carried: u8, arrived: u8, block: &mut [u8], arrivals: &[u8], at: usize, s: usize) -> u8
     requires { ⌜ (at + s ≤ length (now block))
         × (at + s ≤ length (now arrivals)) ⌝ }
     ensures mark { λ r. ⌜ r ≡ markOf (entry carried arrived (take s (drop at (now (block .entry)))) (take s (drop at (now (arrivals .entry))))) ⌝ }

@@ -10,14 +10,7 @@ ghost use Rattle.lengthen.specs.LengthenLaws.{LengthenFitting};
 ghost use Rattle.table.specs.FirstCause.{firstCause};
 
 // the first cause but 8 that holds, 0 for none
-fn look(
-    old: &[u16],
-    new: &[u16],
-    block: &[u8],
-    map: &[u8],
-    arrivals: &[u8],
-    arrived: &[u8],
-) -> u32
+fn look(old: &[u16], new: &[u16], block: &[u8], map: &[u8], arrivals: &[u8], arrived: &[u8]) -> u32
     ensures { λ r. ⌜
         r
         ≡ firstCause (offerCauses (now (old .entry)) (now (new .entry))

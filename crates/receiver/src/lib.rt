@@ -1,4 +1,4 @@
-// The receiver's library for C: the packet call, verification, repair, full repair, merging, and the reason for one place.
+// The receiver's library for C: the packet call, verification, repair, full repair, merging, a longer table, and the reason for one place.
 ghost use mathlib.Core.Path.{_≡_};
 ghost use Prim.Native.Nat.{_≤_};
 ghost use lib.ListN.{length};
@@ -9,6 +9,7 @@ ghost use Rattle.full.specs.Full.{fullAnswer, fullBlockAfter, fullMapAfter, ful
 ghost use Rattle.faults.specs.Faults.{checkOf, byteOf};
 ghost use Rattle.erasure.specs.Offered.{held};
 ghost use Rattle.merge.specs.Merge.{mergeAnswer, mergeAfter};
+ghost use Rattle.lengthen.specs.Lengthen.{lengthenAnswer, lengthenAfter};
 ghost use Rattle.why.specs.Why.{Explains};
 ghost use Rattle.receiver.specs.Answers.{oneIf, repaired, fullyRepaired, merged, reasoned};
 use verify::Verified;
@@ -214,6 +215,45 @@ pub extern "C" fn bs_merge(
         additions: m.additions,
         check: m.check,
         byte: m.byte,
+    }
+}
+
+#[no_mangle]
+pub extern "C" fn bs_lengthen(
+    old: &[u16],
+    new: &[u16],
+    block: &mut [u8],
+    map: &mut [u8],
+    arrivals: &[u8],
+    arrived: &[u8],
+) -> Repair
+    ensures report { λ r. ⌜
+        repaired r
+        ≡ lengthenAnswer (now (old .entry)) (now (new .entry))
+        (held (now (block .entry)) (now (map .entry)))
+        (held (now (arrivals .entry)) (now (arrived .entry)))
+        ⌝ }
+    ensures block { λ _. ⌜
+        now (block .exit)
+        ≡ lengthenAfter (now (old .entry)) (now (new .entry))
+        (held (now (block .entry)) (now (map .entry)))
+        (held (now (arrivals .entry)) (now (arrived .entry))) .block
+        ⌝ }
+    ensures map { λ _. ⌜
+        now (map .exit)
+        ≡ lengthenAfter (now (old .entry)) (now (new .entry))
+        (held (now (block .entry)) (now (map .entry)))
+        (held (now (arrivals .entry)) (now (arrived .entry))) .map
+        ⌝ }
+{
+    let l = lengthen::lengthen(old, new, block, map, arrivals, arrived);
+    Repair {
+        refusal: l.refusal,
+        restored: l.restored,
+        lost: l.lost,
+        additions: l.additions,
+        check: l.check,
+        byte: l.byte,
     }
 }
 
