@@ -904,46 +904,44 @@ fn contradiction_cases(run: &mut Run) {
     run.fixed("longer, a wrong arrival not seen", result);
 }
 
-/// Check and byte at any depth, by a carried packet and by one that arrives.
-fn depth_cases(run: &mut Run) {
-    // Check 1 restores place 1, then check 0 place 0: check 2 fails.
+/// Check 1 restores place 1, then check 0 place 0: check 2 fails, by a byte of place 2 that
+/// is carried or arrives.
+fn deep(s: usize, depth: usize, mark: u8) -> Result<(), String> {
     let checks = [vec![0, 1], vec![1, 2, 3], vec![0]];
+    let [old, new] =
+        [(3, &checks[..1]), (4, &checks[..])].map(|(n, c)| model::table_words(n, s, c));
+    let block = zeros_but(4, s, &[(2, depth, 1)]);
+    let arrivals = Held { block, map: vec![1, 1, 0, 0] };
+    let carried = Held { map: vec![1, 1, mark, 255], ..arrivals.clone() };
+    let (answer, after) = over_anything(&mut Rng::new(22, 0), [&old, &new], &carried, &arrivals)?;
+    same("answer", &answer, &contradicts(2, depth as u32))?;
+    let map = vec![1, 1, if mark == 1 { 0 } else { mark }, 0];
+    same_held("8", &after, &Held { map, ..arrivals })
+}
+
+/// Whole packets arrive at 6 and 7, the copy of 2. All others come back.
+fn whole_packets(s: usize) -> Result<(), String> {
+    let (table, sent, off) = a_off(s, &[(2, s - 1, 0x80), (6, 0, 1)]);
+    let new = with(&table, 8, &[&[2, 7]]);
+    let sent = [&sent[..], packet_of(&sent, s, 2)].concat();
+    let carried = Held { block: [&off[..], &vec![7; s]].concat(), map: marks("00101119") };
+    let mut arrivals = Held { block: vec![0xee; 8 * s], map: marks("11111100") };
+    arrivals.block[6 * s..].copy_from_slice(&sent[6 * s..]);
+    let tables: Tables = [&table, &new];
+    let (answer, after) = over_anything(&mut Rng::new(22, 0), tables, &carried, &arrivals)?;
+    same("answer", &answer, &ok(3, 0, 7))?;
+    same_held("after", &after, &Held { block: sent, map: marks("00202200") })
+}
+
+fn size_cases(run: &mut Run) {
     for (s, depth) in [(1, 0), (2, 1), (63, 62), (64, 63), (65, 64), (100, 70), (1024, 1023)] {
-        let tables = [model::table_words(3, s, &checks[..1]), model::table_words(4, s, &checks)];
-        let block = zeros_but(4, s, &[(2, depth, 1)]);
-        let expected = Held { block: block.clone(), map: vec![1, 1, 0, 0] };
-        for (name, at) in [("carried", &[1, 1, 0, 255]), ("arrives", &[1, 1, 1, 255])] {
-            let carried = Held { block: vec![0xee; 4 * s], map: at.to_vec() };
-            let carried = match at[2] {
-                0 => Held { block: block.clone(), ..carried },
-                _ => carried,
-            };
-            let arrivals = Held { block: block.clone(), map: vec![1, 1, 0, 0] };
-            let mut rng = Rng::new(22, s as u64);
-            let result = over_anything(&mut rng, [&tables[0], &tables[1]], &carried, &arrivals)
-                .and_then(|(answer, after)| {
-                    same("answer", &answer, &contradicts(2, depth as u32))?;
-                    same_held("8", &after, &expected)
-                });
-            run.fixed(&format!("longer, 8, size {s}, byte {depth} {name}"), result);
+        for mark in [0, 1, 2] {
+            let name = format!("longer, 8, size {s}, byte {depth}, mark {mark}");
+            run.fixed(&name, deep(s, depth, mark));
         }
     }
-    // Whole packets arrive and come back.
     for s in [1, 2, 63, 64, 65, 1024] {
-        let (table, sent, off) = a_off(s, &[(2, s - 1, 0x80), (6, 0, 1)]);
-        let new = with(&table, 8, &[&[2, 7]]);
-        let sent = [&sent[..], packet_of(&sent, s, 2)].concat();
-        let carried =
-            Held { block: [&off[..], &vec![7; s]].concat(), map: vec![0, 0, 1, 0, 1, 1, 1, 9] };
-        let mut arrivals = Held { block: vec![0xee; 8 * s], map: map_of(8, &[0, 1, 2, 3, 4, 5]) };
-        arrivals.block[6 * s..].copy_from_slice(&sent[6 * s..]);
-        let result = over_anything(&mut Rng::new(22, 0), [&table, &new], &carried, &arrivals)
-            .and_then(|(answer, after)| {
-                same("answer", &answer, &ok(3, 0, 7))?;
-                same("map", &after.map, &vec![0, 0, 2, 0, 2, 2, 0, 0])?;
-                equal("block", &after.block, &sent)
-            });
-        run.fixed(&format!("longer, size {s}"), result);
+        run.fixed(&format!("longer, size {s}"), whole_packets(s));
     }
 }
 
@@ -1013,14 +1011,11 @@ fn unlike_cases(run: &mut Run) {
     ];
     for (name, checks) in others {
         unlike(name, &old, &table(9, 2, checks));
-        // As many places as before where that is right.
+        // With as many places as before, where they are enough.
         if checks.iter().all(|check| check.iter().all(|p| *p < 7)) {
             unlike(&format!("{name}, as many places"), &old, &table(7, 2, checks));
-            unlike(
-                &format!("{name}, a check more"),
-                &old,
-                &table(8, 2, &[checks, &[&[0, 7]]].concat()),
-            );
+            let more = table(8, 2, &[checks, &[&[0, 7]]].concat());
+            unlike(&format!("{name}, a check more"), &old, &more);
         }
     }
     unlike("a place less", &old, &table(6, 2, checks));
@@ -1357,8 +1352,7 @@ fn reach_cases(run: &mut Run) {
     beyond("place n", 7, &[vec![0, 7]], 4);
 }
 
-/// Every carried map of 0, 1 and 2 with every map of arrivals, by sets. What isn't known
-/// rightly is wrong by some bits.
+/// Every carried map of 0, 1 and 2 with every map of arrivals, by sets.
 fn every_map(tables: [&Table; 2], carried: &[u8], arrivals: &[u8]) -> Result<(), String> {
     let [old, t] = tables;
     let mut rng = Rng::new(22, 0);
@@ -1456,7 +1450,7 @@ pub fn fixed_cases(run: &mut Run) {
     new_place_cases(run);
     few_cases(run);
     contradiction_cases(run);
-    depth_cases(run);
+    size_cases(run);
     unlike_cases(run);
     order_cases(run);
     length_cases(run);
