@@ -952,10 +952,21 @@ fn refused(tables: Tables, carried: &Held, arrivals: &Held, refusal: u32) -> Res
     same_held("refused", &after, carried)
 }
 
-/// Buffers for a table, full of one mark each.
+/// A block of which place 0 is zero, if packets have two bytes, and others end with 1.
+fn some_bytes(len: usize) -> Vec<u8> {
+    (0..len).map(|i| (i > 1 && i % 2 == 1) as u8).collect()
+}
+
+/// Such blocks with maps of one mark each. Lengths of block and map, then of the arrivals'.
+fn held_of([block, map, came, arrived]: [usize; 4], marks: [u8; 2]) -> [Held; 2] {
+    let held = |block, map, mark| Held { block: some_bytes(block), map: vec![mark; map] };
+    [held(block, map, marks[0]), held(came, arrived, marks[1])]
+}
+
+/// The same with a table's lengths.
 fn full_of(table: &[u16], marks: [u8; 2]) -> [Held; 2] {
     let (n, s) = (table[1] as usize, table[2] as usize);
-    marks.map(|mark| Held { block: vec![1; n * s], map: vec![mark; n] })
+    held_of([n * s, n, n * s, n], marks)
 }
 
 /// Marks of one kind in the carried map and in the arrivals'.
@@ -983,8 +994,10 @@ fn unlike_cases(run: &mut Run) {
     let mut unlike = |name: &str, old: &[u16], new: &[u16]| {
         run.fixed(&format!("longer, 15, {name}"), unlike([old, new]));
     };
-    let others: [(&str, &[&[usize]]); 24] = [
-        ("another first place", &[&[0, 2], &[2, 3, 4], &[], &[1, 5]]),
+    let others: [(&str, &[&[usize]]); 26] = [
+        ("another place at first", &[&[0, 2], &[2, 3, 4], &[], &[1, 5]]),
+        ("another lowest place", &[&[0, 1], &[1, 3, 4], &[], &[1, 5]]),
+        ("another lowest place at the end", &[&[0, 1], &[2, 3, 4], &[], &[0, 5]]),
         ("another place at the end", &[&[0, 1], &[2, 3, 4], &[], &[1, 6]]),
         ("another place in the middle", &[&[0, 1], &[2, 3, 5], &[], &[1, 5]]),
         ("a new place for an old one", &[&[0, 1], &[2, 3, 7], &[], &[1, 5]]),
@@ -1049,13 +1062,6 @@ fn unlike_cases(run: &mut Run) {
     }
 }
 
-/// Blocks of ones with maps of one mark each. Lengths of block and map, then of the
-/// arrivals'.
-fn held_ones([block, map, came, arrived]: [usize; 4], marks: [u8; 2]) -> [Held; 2] {
-    let held = |block, map, mark| Held { block: vec![1; block], map: vec![mark; map] };
-    [held(block, map, marks[0]), held(came, arrived, marks[1])]
-}
-
 /// The new table's lengths in these cases, then the old one's, then others.
 const LENGTHS: [[usize; 4]; 14] = [
     [8, 4, 8, 4],
@@ -1080,7 +1086,7 @@ fn in_order(tables: Tables, [first, second]: [u32; 2]) -> Result<(), String> {
     let cases = LENGTHS.iter().flat_map(|lengths| marks_of_both().map(move |m| (lengths, m)));
     // Bare buffers: a few.
     for (lengths, marks) in cases.step_by(if bare() { 7 } else { 1 }) {
-        let [carried, arrivals] = held_ones(*lengths, marks);
+        let [carried, arrivals] = held_of(*lengths, marks);
         let five = if *lengths == LENGTHS[0] { 0 } else { 5 };
         let by_marks = [16 * (marks[0] > 2) as u32, 7 * (marks[1] > 1) as u32];
         let causes = [first, second % 15, five, second].into_iter().chain(by_marks);
@@ -1125,10 +1131,10 @@ fn order_cases(run: &mut Run) {
             run.fixed(&format!("longer, order, tables {i} and {j}"), result);
         }
     }
-    let held = held_ones(LENGTHS[0], [0, 0]);
+    let held = held_of(LENGTHS[0], [0, 0]);
     let result = lengthen(&mut Rng::new(22, 0), [old, new], &held[0], &held[1]);
     let result = result.and_then(|(answer, after)| {
-        same("answer", &answer, &contradicts(0, 0))?;
+        same("answer", &answer, &contradicts(1, 1))?;
         same("map", &after.map, &vec![0; 4])
     });
     run.fixed("longer, order, 8", result);
@@ -1141,7 +1147,7 @@ fn length_cases(run: &mut Run) {
     let right = [10, 5, 10, 5];
     let mut five = |tables: Tables, lengths: [usize; 4], refusal: u32| {
         for marks in [[0, 0], [1, 1], [2, 0], [3, 2]] {
-            let [carried, arrivals] = held_ones(lengths, marks);
+            let [carried, arrivals] = held_of(lengths, marks);
             let result = refused(tables, &carried, &arrivals, refusal);
             run.fixed(&format!("longer, {refusal}, lengths {lengths:?}, marks {marks:?}"), result);
         }
