@@ -1,8 +1,10 @@
 //! The receiver's library against the model: repair, full repair, verification,
-//! packet. Cases of merging are in merge.rs, those of reasons in why.rs.
+//! packet. Cases of merging are in merge.rs, those of reasons in why.rs, those of a longer
+//! table in lengthen.rs.
 
 mod gen;
 mod harness;
+mod lengthen;
 mod merge;
 mod model;
 mod why;
@@ -820,7 +822,7 @@ fn brute_full_case(rng: &mut Rng) -> Result<(), String> {
 }
 
 fn random_case(rng: &mut Rng, number: u64) -> Result<(), String> {
-    match number % 36 {
+    match number % 42 {
         0..=6 => repair_case(rng),
         7..=9 => verify_case(rng),
         10..=12 => damaged_case(rng),
@@ -835,7 +837,8 @@ fn random_case(rng: &mut Rng, number: u64) -> Result<(), String> {
         22 | 23 => blame_case(rng),
         24 => brute_blame_case(rng),
         25..=29 => merge::random_case(rng),
-        _ => why::random_case(rng),
+        30..=35 => why::random_case(rng),
+        _ => lengthen::random_case(rng),
     }
 }
 
@@ -1884,7 +1887,7 @@ fn full_refusal_cases(run: &mut Run) {
 }
 
 fn main() {
-    let mut run = Run::from_arguments(11952);
+    let mut run = Run::from_arguments(13944);
     fixed_cases(&mut run);
     depth_cases(&mut run);
     told_cases(&mut run);
@@ -1901,7 +1904,9 @@ fn main() {
     full_refusal_cases(&mut run);
     merge::fixed_cases(&mut run);
     why::fixed_cases(&mut run);
+    lengthen::fixed_cases(&mut run);
     run.random(random_case);
     run.met(&why::ALL_MET);
+    run.met(&lengthen::ALL_MET);
     run.end()
 }

@@ -30,15 +30,15 @@ extern "C" {
 
 /// A block with its map: a listener's, or the third.
 #[derive(Clone, Debug, PartialEq)]
-struct Held {
-    block: Vec<u8>,
-    map: Vec<u8>,
+pub struct Held {
+    pub block: Vec<u8>,
+    pub map: Vec<u8>,
 }
 
 // ----------------------------------------------------- one call, both ways
 
 /// The library's answer, and the third block and map; it wrote nowhere else.
-fn merge_alone(
+pub fn merge_alone(
     rng: &mut Rng,
     table: &[u16],
     first: &Held,
@@ -132,7 +132,7 @@ fn counts_of(answer: &Merged) -> [u32; 4] {
 }
 
 /// What the answer says of the repair.
-fn repair_of(answer: &Merged) -> Repaired {
+pub fn repair_of(answer: &Merged) -> Repaired {
     let Merged { refusal, restored, lost, additions, check, byte, .. } = *answer;
     Repaired { refusal, restored, lost, additions, check, byte }
 }
@@ -311,7 +311,7 @@ fn contradicted(check: u32, byte: u32) -> Merged {
 // ------------------------------------------------------------ random cases
 
 /// A listener to a block, with old bytes at lost places.
-fn rained(rng: &mut Rng, s: usize, block: &[u8], map: Vec<u8>) -> Held {
+pub fn rained(rng: &mut Rng, s: usize, block: &[u8], map: Vec<u8>) -> Held {
     let mut block = block.to_vec();
     age(rng, &mut block, s, &map);
     Held { block, map }
@@ -336,7 +336,7 @@ fn rain_case(rng: &mut Rng) -> Result<(), String> {
 }
 
 /// Some packets wrong.
-fn wrong(rng: &mut Rng, s: usize, block: &[u8], many: &[usize]) -> Vec<u8> {
+pub fn wrong(rng: &mut Rng, s: usize, block: &[u8], many: &[usize]) -> Vec<u8> {
     let mut block = block.to_vec();
     for _ in 0..rng.pick(many) {
         let place = rng.below(block.len() / s);
