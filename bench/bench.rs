@@ -1,6 +1,6 @@
 //! Benchmarks of the libraries' calls, as ratios within one run. Built with
 //! --cfg uplink (plan, encode), --cfg receiver (repair, full repair, why, merge,
-//! verify), --cfg tables (make, read, write), or some of them.
+//! lengthen, verify), --cfg tables (make, read, write), or some of them.
 //!
 //! A round is one call of each kind in turn: the library's, the pure
 //! exclusive-or of as many additions on hot packets, the same additions at
@@ -71,24 +71,26 @@ fn hot_additions(additions: usize, s: usize) -> f64 {
     micros(start)
 }
 
+/// The time of one call, with the packets in the caches or without.
+fn timed<C: Call + ?Sized>(call: &mut C, run: fn(&mut C), warm: bool) -> f64 {
+    call.reset();
+    if !warm {
+        call.packets().into_iter().for_each(flush);
+    }
+    let start = Instant::now();
+    run(call);
+    micros(start)
+}
+
 /// Rounds for so long, each call with the packets in the caches or without.
 fn measure(call: &mut dyn Call, s: usize, warm: bool, long: Duration) -> Figures {
     let additions = call.additions();
-    let timed = |call: &mut dyn Call, run: fn(&mut dyn Call)| {
-        call.reset();
-        if !warm {
-            call.packets().into_iter().for_each(flush);
-        }
-        let start = Instant::now();
-        run(call);
-        micros(start)
-    };
     let rounds = rounds(long, || {
         [
-            timed(call, |call| call.library()),
+            timed(call, |call| call.library(), warm),
             hot_additions(additions, s),
-            timed(call, |call| call.real()),
-            timed(call, |call| call.plain()),
+            timed(call, |call| call.real(), warm),
+            timed(call, |call| call.plain(), warm),
         ]
     });
     let to = |kind: usize| Ratio::of(rounds.iter().map(|times| times[0] / times[kind]));
@@ -231,16 +233,8 @@ fn measure_merge(call: &mut calls::Merge, s: usize, warm: bool, long: Duration) 
         calls::Merge::copy_and_repair,
         calls::Merge::compare_and_copy,
     ];
-    let timed = |call: &mut calls::Merge, run: fn(&mut calls::Merge)| {
-        if !warm {
-            call.packets().into_iter().for_each(flush);
-        }
-        let start = Instant::now();
-        run(call);
-        micros(start)
-    };
     let rounds = rounds(long, || {
-        let [library, plain, repair, memory] = kinds.map(|run| timed(call, run));
+        let [library, plain, repair, memory] = kinds.map(|run| timed(call, run, warm));
         [library, plain, repair, memory, hot_additions(additions, s)]
     });
     let to = |kind: usize| Ratio::of(rounds.iter().map(|times| times[0] / times[kind]));
@@ -278,6 +272,64 @@ fn merges(
     }
 }
 
+// ---------------------------------------------------------- a longer table
+
+/// How many of a hundred places are lost under the first half of the checks, and
+/// how many don't arrive under all of them. The staircase has new places; the
+/// regular table has only new checks.
+const LENGTHENS: [(&str, usize, usize); 2] = [("longer, few", 20, 70), ("longer, many", 45, 45)];
+
+/// Microseconds, how many places are restored, and the ratios to plain Rust, to
+/// entering and the library's repair by the new table, and to the pure
+/// exclusive-or on hot packets.
+#[cfg(receiver)]
+struct Lengthening {
+    time: f64,
+    restored: u32,
+    to_plain: Ratio,
+    to_repair: Ratio,
+    to_hot: Ratio,
+}
+
+#[cfg(receiver)]
+fn measure_lengthen(
+    call: &mut calls::Lengthen,
+    s: usize,
+    warm: bool,
+    long: Duration,
+) -> Lengthening {
+    let additions = call.additions();
+    let kinds: [fn(&mut calls::Lengthen); 3] =
+        [calls::Lengthen::library, calls::Lengthen::plain, calls::Lengthen::enter_and_repair];
+    let rounds = rounds(long, || {
+        let [library, plain, repair] = kinds.map(|run| timed(call, run, warm));
+        [library, plain, repair, hot_additions(additions, s)]
+    });
+    let to = |kind: usize| Ratio::of(rounds.iter().map(|times| times[0] / times[kind]));
+    Lengthening {
+        time: Ratio::of(rounds.iter().map(|times| times[0])).median,
+        restored: call.restored(),
+        to_plain: to(1),
+        to_repair: to(2),
+        to_hot: to(3),
+    }
+}
+
+/// Going on under a longer table, on one table at one size.
+#[cfg(receiver)]
+fn lengthens(report: &mut Report, kind: &str, name: &str, s: usize, lent: impl Fn() -> Lent) {
+    for (call, share, missing) in LENGTHENS {
+        let mut with = calls::Lengthen::new(lent(), share, missing);
+        let warm = measure_lengthen(&mut with, s, true, millis(800));
+        report.lengthen_row(name, call, "warm", s, &warm);
+        for (to, mark, ratio) in marks_of_lengthen(&warm) {
+            report.marks.push(mark_line(call, kind, s, to, mark, ratio));
+        }
+        let cold = measure_lengthen(&mut with, s, false, millis(300));
+        report.lengthen_row(name, call, "cold", s, &cold);
+    }
+}
+
 // --------------------------------------------------------------- the reason
 
 /// The mark that full repair leaves at the place that is asked for. Half of the
@@ -298,16 +350,7 @@ struct Explaining {
 fn measure_why(call: &mut calls::Why, warm: bool, long: Duration) -> Explaining {
     let kinds: [fn(&mut calls::Why); 3] =
         [calls::Why::library, calls::Why::plain, calls::Why::full_repair];
-    let timed = |call: &mut calls::Why, run: fn(&mut calls::Why)| {
-        call.reset();
-        if !warm {
-            flush(call.packets());
-        }
-        let start = Instant::now();
-        run(call);
-        micros(start)
-    };
-    let rounds = rounds(long, || kinds.map(|run| timed(call, run)));
+    let rounds = rounds(long, || kinds.map(|run| timed(call, run, warm)));
     let to = |kind: usize| Ratio::of(rounds.iter().map(|times| times[0] / times[kind]));
     Explaining {
         time: Ratio::of(rounds.iter().map(|times| times[0])).median,
@@ -374,6 +417,13 @@ fn marks_of_merge(call: &str, s: usize, of: &Merging) -> Vec<(&'static str, f64,
     }
 }
 
+/// What the ratios of going on under a longer table are to, the most that they may
+/// be, and the ratios.
+#[cfg(receiver)]
+fn marks_of_lengthen(of: &Lengthening) -> [(&'static str, f64, Ratio); 2] {
+    [("plain Rust", 0.9, of.to_plain), ("enter, repair", 1.4, of.to_repair)]
+}
+
 /// What the ratios of a reason are to, the most that they may be, and the ratios.
 #[cfg(receiver)]
 fn marks_of_why(of: &Explaining) -> [(&'static str, f64, Ratio); 2] {
@@ -408,6 +458,7 @@ struct Report {
     figures: Vec<String>,
     contradictions: Vec<String>,
     merges: Vec<String>,
+    lengthens: Vec<String>,
     whys: Vec<String>,
     marks: Vec<String>,
 }
@@ -437,6 +488,12 @@ impl Report {
         let line = format!("{table:<18} {call:<12} {block:<5} {s:>5} {time:>8.1}");
         let ratios = format!("{to_plain:<22} {to_repair:<22} {to_memory:<27} {to_hot}");
         self.merges.push(format!("{line}  {ratios}"));
+    }
+    #[cfg(receiver)]
+    fn lengthen_row(&mut self, table: &str, call: &str, block: &str, s: usize, of: &Lengthening) {
+        let Lengthening { time, restored, to_plain, to_repair, to_hot } = of;
+        let line = format!("{table:<18} {call:<12} {block:<5} {s:>5} {time:>8.1} {restored:>8}");
+        self.lengthens.push(format!("{line}  {to_plain:<22} {to_repair:<22} {to_hot}"));
     }
     #[cfg(receiver)]
     fn why_row(&mut self, table: &str, call: &str, block: &str, s: usize, of: &Explaining) {
@@ -475,6 +532,19 @@ impl Report {
             "to pure xor"
         );
         self.merges.iter().for_each(|line| println!("{line}"));
+        println!(
+            "\n{:<18} {:<12} {:<5} {:>5} {:>8} {:>8}  {:<22} {:<22} {}",
+            "table",
+            "call",
+            "block",
+            "s",
+            "us",
+            "restored",
+            "to plain Rust",
+            "to enter, repair",
+            "to pure xor"
+        );
+        self.lengthens.iter().for_each(|line| println!("{line}"));
         println!(
             "\n{:<18} {:<12} {:<5} {:>5} {:>8} {:>7}  {:<22} {}",
             "table", "call", "block", "s", "us", "listed", "to plain Rust", "to full repair"
@@ -530,6 +600,7 @@ fn main() {
                 let lent = || Lent::new(&with_size(&table, s), &planned);
                 merges(&mut report, kind, &name, s, marked, lent);
                 if marked {
+                    lengthens(&mut report, kind, &name, s, lent);
                     whys(&mut report, kind, &name, s, lent);
                 }
             }

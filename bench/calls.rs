@@ -10,7 +10,7 @@
 pub use uplink::{Encode, Plan};
 
 #[cfg(receiver)]
-pub use receiver::{FullRepair, Merge, Repair, Verify, Why, Wrong};
+pub use receiver::{FullRepair, Lengthen, Merge, Repair, Verify, Why, Wrong};
 
 #[cfg(tables)]
 pub use tables::{AlistRead, AlistWrite, Staircase};
@@ -235,6 +235,20 @@ mod receiver {
             reason: *mut u16,
             reason_len: usize,
         ) -> model::Reason;
+        fn bs_lengthen(
+            old_table: *const u16,
+            old_table_len: usize,
+            new_table: *const u16,
+            new_table_len: usize,
+            block: *mut u8,
+            block_len: usize,
+            map: *mut u8,
+            map_len: usize,
+            arrivals: *const u8,
+            arrivals_len: usize,
+            arrivals_map: *const u8,
+            arrivals_map_len: usize,
+        ) -> model::Repaired;
         fn bs_verify(
             table: *const u16,
             table_len: usize,
@@ -581,15 +595,34 @@ mod receiver {
             }
             call
         }
-        /// Those of the repair.
-        pub fn additions(&self) -> usize {
-            self.additions
-        }
         /// Whether both heard everything, and the same.
         pub fn all_agreed(&self) -> bool {
             self.answer.agreed as usize == self.map.len()
         }
-        pub fn library(&mut self) {
+        /// The library's repair of the merged block and map, both copied first.
+        pub fn copy_and_repair(&mut self) {
+            self.lent.slots[..self.sent.len()].copy_from_slice(&self.sent);
+            self.map.copy_from_slice(&self.merged);
+            let answer = repair(&mut self.lent, &mut self.map);
+            let model::Repaired { refusal, restored, lost, .. } = answer;
+            assert_eq!((refusal, restored, lost), (0, self.answer.restored, self.answer.lost));
+        }
+        /// The least that merging does where both heard everything: the blocks
+        /// compared, and one of them copied.
+        pub fn compare_and_copy(&mut self) {
+            let [(one, _), (other, _)] = black_box(&self.heard);
+            black_box(one == other);
+            self.lent.slots[..one.len()].copy_from_slice(one);
+            black_box(&mut self.lent.slots);
+        }
+    }
+
+    impl Call for Merge {
+        /// Those of the repair.
+        fn additions(&self) -> usize {
+            self.additions
+        }
+        fn library(&mut self) {
             let bytes = self.lent.bytes();
             let Lent { table, slots, .. } = &mut self.lent;
             let [(block1, map1), (block2, map2)] = &self.heard;
@@ -614,37 +647,25 @@ mod receiver {
             };
             assert_eq!(answer, self.answer);
         }
-        pub fn plain(&mut self) {
+        fn plain(&mut self) {
             let bytes = self.lent.bytes();
             let Lent { table, slots, .. } = &mut self.lent;
             let heard = slices(black_box(&self.heard));
             let answer = plain::merge(black_box(table), heard, &mut slots[..bytes], &mut self.map);
             assert_eq!(answer, self.answer);
         }
-        /// The library's repair of the merged block and map, both copied first.
-        pub fn copy_and_repair(&mut self) {
-            self.lent.slots[..self.sent.len()].copy_from_slice(&self.sent);
-            self.map.copy_from_slice(&self.merged);
-            let answer = repair(&mut self.lent, &mut self.map);
-            let model::Repaired { refusal, restored, lost, .. } = answer;
-            assert_eq!((refusal, restored, lost), (0, self.answer.restored, self.answer.lost));
-        }
-        /// The least that merging does where both heard everything: the blocks
-        /// compared, and one of them copied.
-        pub fn compare_and_copy(&mut self) {
-            let [(one, _), (other, _)] = black_box(&self.heard);
-            black_box(one == other);
-            self.lent.slots[..one.len()].copy_from_slice(one);
-            black_box(&mut self.lent.slots);
-        }
-        pub fn packets(&self) -> [&[u8]; 4] {
+        fn packets(&self) -> Vec<&[u8]> {
             let [(one, _), (other, _)] = &self.heard;
-            [one, other, &self.sent, &self.lent.slots]
+            vec![one, other, &self.sent, &self.lent.slots]
         }
     }
 
     fn slices(heard: &[(Vec<u8>, Vec<u8>); 2]) -> [plain::Heard<'_>; 2] {
-        heard.each_ref().map(|(block, map)| (&block[..], &map[..]))
+        heard.each_ref().map(slice)
+    }
+
+    fn slice((block, map): &(Vec<u8>, Vec<u8>)) -> plain::Heard<'_> {
+        (block, map)
     }
 
     /// The block with other bytes at lost places.
@@ -662,6 +683,125 @@ mod receiver {
         let both = (0..map1.len()).filter(|p| (map1[*p], map2[*p]) == (0, 0));
         for p in both.step_by(4) {
             block2[(p + 1) * s - 1] ^= 1;
+        }
+    }
+
+    /// A block repaired by the first half of the checks, then gone on with by all
+    /// of them.
+    pub struct Lengthen {
+        /// The new table, and the block.
+        lent: Lent,
+        old: Vec<u16>,
+        map: Vec<u8>,
+        /// The map as carried over, and block and map of the arrivals.
+        carried: Vec<u8>,
+        came: (Vec<u8>, Vec<u8>),
+        answer: model::Repaired,
+        additions: usize,
+    }
+
+    impl Lengthen {
+        /// So many of a hundred places are lost in the first rain, and so many
+        /// don't arrive in the second; other bytes stand there, and at new
+        /// places. The library leaves what plain Rust leaves, and repair after
+        /// entering too. Packets carried over stay as they are, and others are
+        /// written, so that the block can be used again.
+        pub fn new(mut lent: Lent, share: usize, missing: usize) -> Self {
+            let (s, bytes) = (lent.s, lent.bytes());
+            let sent = lent.slots[..bytes].to_vec();
+            let half = &lent.checks[..lent.checks.len() / 2];
+            let old_n = 1 + half.iter().flatten().max().unwrap();
+            let old = model::table_words(old_n, s, half);
+
+            let mut carried = map_in_rain(&lent, share, 2);
+            carried[old_n..].fill(1);
+            let mut block = with_other_bytes(&sent, s, &carried);
+            carried[old_n..].fill(7);
+            let (old_block, old_map) = (&mut block[..old_n * s], &mut carried[..old_n]);
+            assert_eq!(plain::repair(&old, old_block, old_map).refusal, 0);
+            let missing = map_in_rain(&lent, missing, 3);
+            let came = (with_other_bytes(&sent, s, &missing), missing);
+
+            let (mut map, mut entered) = (carried.clone(), carried.clone());
+            plain::enter(s, old_n, slice(&came), &mut block.clone(), &mut entered);
+            let (_, last) = course(&lent.checks, entered.clone());
+            let slots = &mut lent.slots[..bytes];
+            slots.copy_from_slice(&block);
+            let answer = plain::lengthen(&old, &lent.table, slots, &mut map, slice(&came));
+            assert_eq!((answer.refusal, answer.restored > 0), (0, true));
+
+            let (after, repaired) = (map.clone(), slots.to_vec());
+            let marks = after.iter().zip(&entered);
+            let as_received = marks.map(|(mark, was)| if *was == 2 { 0 } else { *mark }).collect();
+            let additions = answer.additions as usize + additions_of(&last);
+            let mut call = Lengthen { lent, old, map, carried, came, answer, additions };
+            let both: [(fn(&mut Self), Vec<u8>); 2] =
+                [(Self::library, after), (Self::enter_and_repair, as_received)];
+            for (by, after) in both {
+                call.reset();
+                call.lent.slots[..bytes].copy_from_slice(&block);
+                by(&mut call);
+                assert!(call.map == after && call.lent.slots[..bytes] == repaired, "another block");
+            }
+            call
+        }
+        /// Without the call: arrivals entered, restored places taken for received
+        /// ones, and the library's repair by the new table.
+        pub fn enter_and_repair(&mut self) {
+            let bytes = self.lent.bytes();
+            let (s, old_n) = (self.lent.s, self.old[1] as usize);
+            let block = &mut self.lent.slots[..bytes];
+            plain::enter(s, old_n, slice(&self.came), block, &mut self.map);
+            self.map.iter_mut().for_each(|mark| *mark &= 1);
+            assert_eq!(repair(&mut self.lent, &mut self.map), self.answer);
+        }
+        /// Places restored.
+        pub fn restored(&self) -> u32 {
+            self.answer.restored
+        }
+    }
+
+    impl Call for Lengthen {
+        /// Those of the repair.
+        fn additions(&self) -> usize {
+            self.additions
+        }
+        fn reset(&mut self) {
+            self.map.copy_from_slice(&self.carried);
+        }
+        fn library(&mut self) {
+            let bytes = self.lent.bytes();
+            let Lent { table, slots, .. } = &mut self.lent;
+            let (old, (arrivals, arrivals_map)) = (&self.old, &self.came);
+            let (block, map) = (&mut slots[..bytes], &mut self.map);
+            let answer = unsafe {
+                bs_lengthen(
+                    old.as_ptr(),
+                    old.len(),
+                    table.as_ptr(),
+                    table.len(),
+                    block.as_mut_ptr(),
+                    block.len(),
+                    map.as_mut_ptr(),
+                    map.len(),
+                    arrivals.as_ptr(),
+                    arrivals.len(),
+                    arrivals_map.as_ptr(),
+                    arrivals_map.len(),
+                )
+            };
+            assert_eq!(answer, self.answer);
+        }
+        fn plain(&mut self) {
+            let bytes = self.lent.bytes();
+            let Lent { table, slots, .. } = &mut self.lent;
+            let (old, came) = (black_box(&self.old), slice(black_box(&self.came)));
+            let block = &mut slots[..bytes];
+            let answer = plain::lengthen(old, black_box(table), block, &mut self.map, came);
+            assert_eq!(answer, self.answer);
+        }
+        fn packets(&self) -> Vec<&[u8]> {
+            vec![&self.came.0, &self.lent.slots[..self.lent.bytes()]]
         }
     }
 
@@ -830,11 +970,29 @@ mod receiver {
             self.answer = self.by_plain();
             self.answer.length
         }
-        /// Before each call; not measured.
-        pub fn reset(&mut self) {
+        fn by_plain(&mut self) -> model::Reason {
+            let bytes = self.lent.bytes();
+            let Lent { table, slots, .. } = &mut self.lent;
+            let (block, map) = (&mut slots[..bytes], &mut self.map);
+            let place = black_box(self.place);
+            plain::why(black_box(table), block, map, &mut self.work, place, &mut self.reason)
+        }
+        pub fn full_repair(&mut self) {
+            let answer = full_repair(&mut self.lent, &mut self.map, &mut self.work);
+            let counts = (self.answer.restored, self.answer.lost);
+            assert_eq!((answer.refusal, (answer.restored, answer.lost)), (0, counts));
+        }
+        /// Numbers in the list.
+        pub fn length(&self) -> u32 {
+            self.answer.length
+        }
+    }
+
+    impl Call for Why {
+        fn reset(&mut self) {
             self.map.copy_from_slice(&self.received);
         }
-        pub fn library(&mut self) {
+        fn library(&mut self) {
             let bytes = self.lent.bytes();
             let Lent { table, slots, .. } = &mut self.lent;
             let block = &mut slots[..bytes];
@@ -855,28 +1013,12 @@ mod receiver {
             };
             assert_eq!(answer, self.answer);
         }
-        fn by_plain(&mut self) -> model::Reason {
-            let bytes = self.lent.bytes();
-            let Lent { table, slots, .. } = &mut self.lent;
-            let (block, map) = (&mut slots[..bytes], &mut self.map);
-            let place = black_box(self.place);
-            plain::why(black_box(table), block, map, &mut self.work, place, &mut self.reason)
-        }
-        pub fn plain(&mut self) {
+        fn plain(&mut self) {
             let answer = self.by_plain();
             assert_eq!(answer, self.answer);
         }
-        pub fn full_repair(&mut self) {
-            let answer = full_repair(&mut self.lent, &mut self.map, &mut self.work);
-            let counts = (self.answer.restored, self.answer.lost);
-            assert_eq!((answer.refusal, (answer.restored, answer.lost)), (0, counts));
-        }
-        /// Numbers in the list.
-        pub fn length(&self) -> u32 {
-            self.answer.length
-        }
-        pub fn packets(&self) -> &[u8] {
-            &self.lent.slots[..self.lent.bytes()]
+        fn packets(&self) -> Vec<&[u8]> {
+            vec![&self.lent.slots[..self.lent.bytes()]]
         }
     }
 }

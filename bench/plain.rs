@@ -1,5 +1,6 @@
-//! Repair, merging, full repair, the reason for a missing packet, verification,
-//! encoding, the staircase maker and alist texts in plain Rust, for comparison.
+//! Repair, merging, a longer table, full repair, the reason for a missing packet,
+//! verification, encoding, the staircase maker and alist texts in plain Rust, for
+//! comparison.
 
 use crate::model::{Encoded, FullyRepaired, Made, Merged, Reason, Repaired, Verified};
 use crate::model::{MAX_CHECKS, MAX_GAP, MAX_ONES, MAX_PLACES, MAX_SIZE, MAX_STEPS, MAX_WEIGHT};
@@ -143,8 +144,8 @@ fn zero_lost(block: &mut [u8], s: usize, map: &[u8]) {
     }
 }
 
-/// Peeling by the map alone; what is to be done with a check's packets at its
-/// turn is given.
+/// Peeling by the map alone, in which 1 is lost and all else known; what is to be
+/// done with a check's packets at its turn is given.
 #[inline]
 fn peel_by(t: &Checks, map: &[u8], mut restore: impl FnMut(&[u16], usize)) -> Peeled {
     // For each check the count of lost places; for each place its checks.
@@ -163,7 +164,7 @@ fn peel_by(t: &Checks, map: &[u8], mut restore: impl FnMut(&[u16], usize)) -> Pe
             let at = &mut fill[*p as usize];
             of_place[*at as usize] = c as u16;
             *at += 1;
-            unknown[c] += map[*p as usize];
+            unknown[c] += (map[*p as usize] == 1) as u8;
         }
     }
 
@@ -313,7 +314,7 @@ pub fn repair(table: &[u16], block: &mut [u8], map: &mut [u8]) -> Repaired {
 
 // ----------------------------------------------------------------- merging
 
-/// A listener's block and map.
+/// A block that was heard, and its map.
 pub type Heard<'a> = (&'a [u8], &'a [u8]);
 
 /// Agreed and single packets go into the block; the map says that all others are
@@ -358,6 +359,65 @@ pub fn merge(table: &[u16], heard: [Heard; 2], block: &mut [u8], map: &mut [u8])
     }
     let Repaired { refusal, restored, lost, additions, check, byte } = accepted(&peeled, map);
     Merged { refusal, agreed, single, silent, clash, restored, lost, additions, check, byte }
+}
+
+// ---------------------------------------------------------- a longer table
+
+/// Whether the checks of the one table are the first of the other.
+fn lengthens(old: &Checks, new: &Checks) -> bool {
+    let (starts, ones) = (0..=old.m, old.places.len());
+    old.s == new.s
+        && old.n <= new.n
+        && old.m <= new.m
+        && old.starts[starts.clone()] == new.starts[starts]
+        && *old.places == new.places[..ones]
+}
+
+/// Places from the old n on are lost. Then arrivals at lost places go into the
+/// block, and count as received.
+pub fn enter(s: usize, old_n: usize, came: Heard, block: &mut [u8], map: &mut [u8]) {
+    let (arrivals, arrivals_map) = came;
+    map[old_n..].fill(1);
+    let came = arrivals.chunks_exact(s).zip(arrivals_map);
+    for ((to, mark), (packet, lost)) in block.chunks_exact_mut(s).zip(map).zip(came) {
+        if (*mark, *lost) == (1, 0) {
+            to.copy_from_slice(packet);
+            *mark = 0;
+        }
+    }
+}
+
+/// Arrivals entered, then repair by the longer table, in which no place is blamed.
+pub fn lengthen(
+    old: &[u16],
+    new: &[u16],
+    block: &mut [u8],
+    map: &mut [u8],
+    came: Heard,
+) -> Repaired {
+    let (old, t) = match look_over(old).and_then(|old| Ok((old, look_over(new)?))) {
+        Ok(tables) => tables,
+        Err(cause) => return Repaired::refused(cause),
+    };
+    let fit = |block: &[u8], map: &[u8]| block.len() == t.n * t.s && map.len() == t.n;
+    if !fit(block, map) || !fit(came.0, came.1) {
+        return Repaired::refused(5);
+    }
+    if !lengthens(&old, &t) {
+        return Repaired::refused(15);
+    }
+    if map[..old.n].iter().any(|b| *b > 2) {
+        return Repaired::refused(16);
+    }
+    if came.1.iter().any(|b| *b > 1) {
+        return Repaired::refused(7);
+    }
+    enter(t.s, old.n, came, block, map);
+    let peeled = peel(&t, block, map);
+    match failing(&t, block, &peeled) {
+        Some(at) => contradicted(&t, block, map, at),
+        None => accepted(&peeled, map),
+    }
 }
 
 // ------------------------------------------------------------- full repair

@@ -1,7 +1,8 @@
 /* Repairs a block that lost three packets, then verifies it. Then repairs one
  * where no check has a single lost place. Then one with a wrong packet, and one
  * with two. Then finds where two packets differ that should be equal. Then merges
- * what two receivers heard. Then tells why places are restored, lost or received. */
+ * what two receivers heard. Then tells why places are restored, lost or received.
+ * Then goes on under a longer table in the middle of a pass. */
 
 #include <stdio.h>
 #include <string.h>
@@ -278,9 +279,121 @@ static int ask_why(void)
     return 0;
 }
 
+/* The table with two checks more, and a new place in each. */
+static const uint16_t longer[] = {
+    2, 9, 1,
+    5, 4, 4, 4, 3, 3,
+    18, 0, 2, 4, 6, 1, 2, 5, 6, 3, 4, 5, 6, 1, 4, 7, 0, 2, 8,
+};
+/* The same, but the new checks come first. */
+static const uint16_t mixed[] = {
+    2, 9, 1,
+    5, 3, 3, 4, 4, 4,
+    18, 1, 4, 7, 0, 2, 8, 0, 2, 4, 6, 1, 2, 5, 6, 3, 4, 5, 6,
+};
+static const size_t longer_len = sizeof longer / sizeof longer[0];
+static const uint8_t sent_longer[9] = {0x01, 0x02, 0x04, 0x0e, 0x08, 0x0b, 0x0d, 0x0a, 0x05};
+
+/* A pass up to its middle, in buffers with room for the new places. */
+typedef struct {
+    uint8_t block[9];
+    uint8_t map[9];
+} pass;
+
+/* Places 0, 1, 3 and 4 didn't arrive. Place 1 is restored; then checks 0 and 2
+ * have two lost places each. What stands at places 7 and 8 never counts. */
+static bs_repaired first_half(pass *half)
+{
+    static const pass came = {
+        {0, 0, 0x04, 0, 0, 0x0b, 0x0d, 0xee, 0xee},
+        {1, 1, 0, 1, 1, 0, 0, 0xee, 0xee},
+    };
+    *half = came;
+    return bs_repair(table, table_len, half->block, 7, half->map, 7);
+}
+
+/* Goes on under a table of as many numbers as the longer one. */
+static bs_repaired go_on(pass *half, const uint16_t *with, const uint8_t *arrivals,
+                         const uint8_t *arrivals_map)
+{
+    return bs_lengthen(table, table_len, with, longer_len, half->block, 9, half->map, 9,
+                       arrivals, 9, arrivals_map, 9);
+}
+
+static int lengthen_the_table(void)
+{
+    pass half;
+    bs_repaired repaired = first_half(&half);
+    if (repaired.refusal != 0 || repaired.restored != 1 || repaired.lost != 3) {
+        printf("receiver.c: the first half: refusal %u, restored %u\n",
+               (unsigned)repaired.refusal, (unsigned)repaired.restored);
+        return 1;
+    }
+    printf("receiver.c: half a pass: %u restored, %u lost\n",
+           (unsigned)repaired.restored, (unsigned)repaired.lost);
+
+    /* Place 7 arrives, and gives back place 4, from which the others follow. Place
+     * 1 arrives too, but is known: it is ignored, and stays marked as restored. */
+    static const uint8_t arrivals[9] = {0, 0x02, 0, 0, 0, 0, 0, 0x0a, 0};
+    static const uint8_t arrivals_map[9] = {1, 0, 1, 1, 1, 1, 1, 0, 1};
+    static const uint8_t marks[9] = {2, 2, 0, 2, 2, 0, 0, 0, 2};
+    repaired = go_on(&half, longer, arrivals, arrivals_map);
+    if (repaired.refusal != 0 || repaired.lost != 0 ||
+        memcmp(half.block, sent_longer, 9) != 0 || memcmp(half.map, marks, 9) != 0) {
+        printf("receiver.c: lengthening failed, refusal %u, lost %u\n",
+               (unsigned)repaired.refusal, (unsigned)repaired.lost);
+        return 1;
+    }
+    printf("receiver.c: longer table: %u restored, %u lost, %u additions; packet 8 is %02x\n",
+           (unsigned)repaired.restored, (unsigned)repaired.lost,
+           (unsigned)repaired.additions, (unsigned)half.block[8]);
+    return 0;
+}
+
+static int refuse_an_arrival(void)
+{
+    /* Places 7 and 8 arrive, but one bit of place 7 is wrong. No place is blamed.
+     * Both stay in the block, and the map says so. */
+    static const uint8_t arrivals[9] = {0, 0, 0, 0, 0, 0, 0, 0x8a, 0x05};
+    static const uint8_t arrivals_map[9] = {1, 1, 1, 1, 1, 1, 1, 0, 0};
+    static const pass entered = {
+        {0, 0x02, 0x04, 0, 0, 0x0b, 0x0d, 0x8a, 0x05},
+        {1, 2, 0, 1, 1, 0, 0, 0, 0},
+    };
+    pass half;
+    first_half(&half);
+    bs_repaired repaired = go_on(&half, longer, arrivals, arrivals_map);
+    if (repaired.refusal != 8 || memcmp(&half, &entered, sizeof half) != 0) {
+        printf("receiver.c: a wrong arrival: refusal %u\n", (unsigned)repaired.refusal);
+        return 1;
+    }
+    printf("receiver.c: an arrival contradicts: check %u fails at byte %u\n",
+           (unsigned)repaired.check, (unsigned)repaired.byte);
+    return 0;
+}
+
+static int refuse_another_table(void)
+{
+    /* The checks are those of the longer table, but the old ones aren't first. */
+    static const uint8_t arrivals[9] = {0};
+    static const uint8_t arrivals_map[9] = {1, 1, 1, 1, 1, 1, 1, 1, 1};
+    pass half, before;
+    first_half(&half);
+    before = half;
+    bs_repaired repaired = go_on(&half, mixed, arrivals, arrivals_map);
+    if (repaired.refusal != 15 || memcmp(&half, &before, sizeof half) != 0) {
+        printf("receiver.c: another table: refusal %u\n", (unsigned)repaired.refusal);
+        return 1;
+    }
+    printf("receiver.c: a table with the new checks first is refused with %u\n",
+           (unsigned)repaired.refusal);
+    return 0;
+}
+
 int main(void)
 {
     return repair_and_verify() != 0 || repair_fully() != 0 || blame_a_place() != 0
         || refuse_two_wrong() != 0 || find_the_byte() != 0 || merge_two() != 0
-        || ask_why() != 0;
+        || ask_why() != 0 || lengthen_the_table() != 0 || refuse_an_arrival() != 0
+        || refuse_another_table() != 0;
 }

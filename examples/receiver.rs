@@ -2,7 +2,7 @@
 //! where no check has a single lost place. Then one with a wrong packet, and one
 //! with two. Then finds where two packets differ that should be equal. Then
 //! merges what two receivers heard. Then tells why places are restored, lost or
-//! received.
+//! received. Then goes on under a longer table in the middle of a pass.
 
 #[repr(C)]
 struct Repaired {
@@ -113,6 +113,20 @@ extern "C" {
         reason: *mut u16,
         reason_len: usize,
     ) -> Reason;
+    fn bs_lengthen(
+        old_table: *const u16,
+        old_table_len: usize,
+        new_table: *const u16,
+        new_table_len: usize,
+        block: *mut u8,
+        block_len: usize,
+        map: *mut u8,
+        map_len: usize,
+        arrivals: *const u8,
+        arrivals_len: usize,
+        arrivals_map: *const u8,
+        arrivals_map_len: usize,
+    ) -> Repaired;
     fn bs_verify(table: *const u16, table_len: usize, block: *const u8, block_len: usize)
         -> Verified;
     fn bs_packet(n: usize, s: usize, place: usize, block: *const u8, block_len: usize) -> Part;
@@ -124,6 +138,17 @@ enum Unrepaired {
     Refused(u32),
     /// Refusal 8: the lowest check that fails, and the lowest byte where it does.
     Contradicts { check: u32, byte: u32 },
+}
+
+impl Repaired {
+    /// The numbers of restored and still lost places and of additions.
+    fn outcome(self) -> Result<(u32, u32, u32), Unrepaired> {
+        match self.refusal {
+            0 => Ok((self.restored, self.lost, self.additions)),
+            8 => Err(Unrepaired::Contradicts { check: self.check, byte: self.byte }),
+            refusal => Err(Unrepaired::Refused(refusal)),
+        }
+    }
 }
 
 /// Restores lost packets; the numbers of restored and still lost places and
@@ -144,11 +169,7 @@ fn repair(
             map.len(),
         )
     };
-    match r.refusal {
-        0 => Ok((r.restored, r.lost, r.additions)),
-        8 => Err(Unrepaired::Contradicts { check: r.check, byte: r.byte }),
-        refusal => Err(Unrepaired::Refused(refusal)),
-    }
+    r.outcome()
 }
 
 /// Restores every lost packet that the received ones decide; the numbers of
@@ -177,6 +198,14 @@ fn full_repair(table: &[u16], block: &mut [u8], map: &mut [u8]) -> Result<(u32, 
 struct Heard {
     block: [u8; 7],
     map: [u8; 7],
+}
+
+/// A pass up to its middle, in buffers with room for two new places; or what has
+/// arrived since.
+#[derive(Clone, Copy, Debug, PartialEq)]
+struct Pass {
+    block: [u8; 9],
+    map: [u8; 9],
 }
 
 /// Merges what two receivers heard into one block and map, and restores what
@@ -242,6 +271,33 @@ fn why(table: &[u16], block: &mut [u8], map: &mut [u8], place: usize) -> Result<
         (0, _) => Ok(Why::Lost(reason)),
         (refusal, _) => Err(refusal),
     }
+}
+
+/// Enters what has arrived and goes on under a longer table; the numbers of this
+/// call alone. A map with a 3 is refused: set it back to 1 first.
+fn lengthen(
+    old: &[u16],
+    new: &[u16],
+    half: &mut Pass,
+    arrivals: &Pass,
+) -> Result<(u32, u32, u32), Unrepaired> {
+    let r = unsafe {
+        bs_lengthen(
+            old.as_ptr(),
+            old.len(),
+            new.as_ptr(),
+            new.len(),
+            half.block.as_mut_ptr(),
+            half.block.len(),
+            half.map.as_mut_ptr(),
+            half.map.len(),
+            arrivals.block.as_ptr(),
+            arrivals.block.len(),
+            arrivals.map.as_ptr(),
+            arrivals.map.len(),
+        )
+    };
+    r.outcome()
 }
 
 /// None for a codeword, else the lowest check that fails and the lowest byte
@@ -426,6 +482,82 @@ fn ask_why() {
     }
 }
 
+/// The table with two checks more, and a new place in each.
+const LONGER: [u16; 28] = [
+    2, 9, 1, 5, 4, 4, 4, 3, 3, 18, 0, 2, 4, 6, 1, 2, 5, 6, 3, 4, 5, 6, 1, 4, 7, 0, 2, 8,
+];
+/// The same, but the new checks come first.
+const MIXED: [u16; 28] = [
+    2, 9, 1, 5, 3, 3, 4, 4, 4, 18, 1, 4, 7, 0, 2, 8, 0, 2, 4, 6, 1, 2, 5, 6, 3, 4, 5, 6,
+];
+const SENT_LONGER: [u8; 9] = [0x01, 0x02, 0x04, 0x0e, 0x08, 0x0b, 0x0d, 0x0a, 0x05];
+
+/// Places 0, 1, 3 and 4 didn't arrive. Place 1 is restored; then checks 0 and 2
+/// have two lost places each. What stands at places 7 and 8 never counts.
+fn first_half() -> Pass {
+    let mut half = Pass {
+        block: [0, 0, 0x04, 0, 0, 0x0b, 0x0d, 0xee, 0xee],
+        map: [1, 1, 0, 1, 1, 0, 0, 0xee, 0xee],
+    };
+    let repaired = repair(&TABLE, &mut half.block[..7], &mut half.map[..7]);
+    if repaired != Ok((1, 3, 3)) {
+        wrong(format!("{repaired:?}, {half:02x?}"));
+    }
+    half
+}
+
+fn lengthen_the_table() {
+    let mut half = first_half();
+    println!("receiver.rs: half a pass: 1 restored, 3 lost");
+
+    // Place 7 arrives, and gives back place 4, from which the others follow. Place
+    // 1 arrives too, but is known: it is ignored, and stays marked as restored.
+    let arrivals = Pass {
+        block: [0, 0x02, 0, 0, 0, 0, 0, 0x0a, 0],
+        map: [1, 0, 1, 1, 1, 1, 1, 0, 1],
+    };
+    let repaired = lengthen(&TABLE, &LONGER, &mut half, &arrivals);
+    let all = Pass { block: SENT_LONGER, map: [2, 2, 0, 2, 2, 0, 0, 0, 2] };
+    if repaired != Ok((4, 0, 10)) || half != all {
+        wrong(format!("{repaired:?}, {half:02x?}"));
+    }
+    println!(
+        "receiver.rs: longer table: 4 restored, 0 lost, 10 additions; packet 8 is {:02x}",
+        half.block[8]
+    );
+}
+
+fn refuse_an_arrival() {
+    // Places 7 and 8 arrive, but one bit of place 7 is wrong. No place is blamed.
+    // Both stay in the block, and the map says so.
+    let arrivals = Pass {
+        block: [0, 0, 0, 0, 0, 0, 0, 0x8a, 0x05],
+        map: [1, 1, 1, 1, 1, 1, 1, 0, 0],
+    };
+    let entered = Pass {
+        block: [0, 0x02, 0x04, 0, 0, 0x0b, 0x0d, 0x8a, 0x05],
+        map: [1, 2, 0, 1, 1, 0, 0, 0, 0],
+    };
+    let mut half = first_half();
+    let repaired = lengthen(&TABLE, &LONGER, &mut half, &arrivals);
+    if repaired != Err(Unrepaired::Contradicts { check: 4, byte: 0 }) || half != entered {
+        wrong(format!("{repaired:?}, {half:02x?}"));
+    }
+    println!("receiver.rs: an arrival contradicts: check 4 fails at byte 0");
+}
+
+fn refuse_another_table() {
+    // The checks are those of the longer table, but the old ones aren't first.
+    let none = Pass { block: [0; 9], map: [1; 9] };
+    let before = first_half();
+    let mut half = before;
+    let repaired = lengthen(&TABLE, &MIXED, &mut half, &none);
+    if repaired != Err(Unrepaired::Refused(15)) || half != before {
+        wrong(format!("{repaired:?}, {half:02x?}"));
+    }
+    println!("receiver.rs: a table with the new checks first is refused with 15");
+}
+
 fn main() {
     repair_and_verify();
     repair_fully();
@@ -434,4 +566,7 @@ fn main() {
     find_the_byte();
     merge_two();
     ask_why();
+    lengthen_the_table();
+    refuse_an_arrival();
+    refuse_another_table();
 }

@@ -1,5 +1,5 @@
-/* Receiver: repair, full repair, the reason for a missing packet, merging and
- * verification of sparse-check blocks.
+/* Receiver: repair, full repair, the reason for a missing packet, merging, going
+ * on under a longer table, and verification of sparse-check blocks.
  *
  * A block is n packets of s bytes, at places 0 to n - 1. A check is a set of
  * places; the block is a codeword if the packets of each check sum to zero
@@ -16,8 +16,8 @@
  * where its length is 0.
  *
  * refusal is 0 if the call was accepted. A refused call gives 0 in all other
- * fields, but for check and byte with 8 of bs_repair and bs_merge, and, where
- * nothing else is said, leaves its buffers as they were:
+ * fields, but for check and byte with 8 of bs_repair, bs_merge and bs_lengthen,
+ * and, where nothing else is said, leaves its buffers as they were:
  *
  *      1  a table of fewer than 5 words
  *      2  first word not 2, or n, s or m beyond its limits
@@ -25,16 +25,22 @@
  *         not the sum of the weights, or a table of wrong length
  *      4  a place not below n, or not ascending in its check
  *      5  a buffer of wrong length
- *      7  a byte of the lost map over 1; of bs_merge, in either listener's map
+ *      7  a byte of the lost map over 1; of bs_merge, in either listener's map;
+ *         of bs_lengthen, in the arrivals' map
  *      8  of bs_repair: the received packets contradict each other, and not
  *         exactly one place can be blamed for it; of bs_merge: the merged
- *         packets contradict each other; of bs_full_repair and bs_why: no
- *         codeword agrees with them
+ *         packets contradict each other; of bs_lengthen: those carried over and
+ *         entered do; of bs_full_repair and bs_why: no codeword agrees with them
  *     10  a place not below n in bs_packet
  *     14  a place not below n in bs_why
+ *     15  of bs_lengthen: the new table hasn't the old checks first and
+ *         unchanged, or has fewer places, or another s
+ *     16  of bs_lengthen: a byte of the map carried over is over 2 at an old
+ *         place
  *
  * Of several causes the one with the lowest number is given; but 14 comes
- * before 8.
+ * before 8, 15 and 16 come before 7, and with two tables 1 to 4 of the old one
+ * come before those of the new one.
  *
  * bs_why needs about 110 KiB of stack.
  *
@@ -133,7 +139,7 @@ typedef struct {
  * A map that a repair has marked is refused with 7, by both calls: to go on
  * with more packets, set the 2s back to 1, or to 0 to take restored packets
  * for received ones. Set a 3 back to 1: the place is lost, as the repair that
- * marked it took it. */
+ * marked it took it. bs_lengthen takes the 2s as they are. */
 bs_fully_repaired bs_full_repair(const uint16_t *table, size_t table_len,
                                  uint8_t *block, size_t block_len,
                                  uint8_t *map, size_t map_len,
@@ -233,6 +239,62 @@ bs_merged bs_merge(const uint16_t *table, size_t table_len,
                    const uint8_t *map2, size_t map2_len,
                    uint8_t *block3, size_t block3_len,
                    uint8_t *map3, size_t map3_len);
+
+/* Goes on with a block in the middle of a pass, under a longer table. new_table
+ * has the checks of old_table first, in their order and unchanged; new ones come
+ * after them. It has the same s and at least as many places: the new places come
+ * after the old ones, which are those below the old n. Every table is a
+ * lengthening of itself, and a lengthening of a lengthening is one of the first
+ * table. So a block can be gone on with again and again, also where only packets
+ * have come and the table is still the same. Tables of bs_staircase with
+ * different packet counts aren't lengthenings of each other.
+ *
+ * n and s are the new table's from here on. block has n * s bytes and map n
+ * bytes. To carry over, put block and map as the repair left them at the start
+ * of buffers of these lengths. What they hold at new places never counts: these
+ * start as lost. At old places map has 0 received, 1 lost, 2 restored; bytes
+ * that lie at lost places don't count. A place that bs_repair has marked 3 must
+ * be set back by whoever carries on, to 1, as its packet is in doubt: then an
+ * arrival there is taken. With a 3 the call is refused with 16.
+ *
+ * arrivals has n * s bytes and arrivals_map n bytes: 0 at a place whose packet
+ * has come since, 1 at any other, where bytes of arrivals don't count. They are
+ * only read. An arrival at a lost place is entered: its packet goes into block,
+ * and its mark becomes 0. An arrival at a known place, marked 0 or 2, is
+ * ignored, even if the packets differ: mark and packet stay. Then lost places
+ * are restored as bs_repair restores them, by the new table's checks; but where
+ * packets contradict no place is blamed.
+ *
+ * Accepted: map bytes of restored places become 2, and their packets are in
+ * block. Places still lost have mark 1 and hold zero bytes, new ones too. All
+ * other marks and packets are as carried over or entered. The counts are this
+ * call's alone: restored and lost add up to the places that are lost when the
+ * arrivals have been entered.
+ *
+ * If the block carried over, and which of its places are lost, are as bs_repair
+ * leaves them under the old table where it blames no place, and if all packets
+ * received, before and since, agree with one codeword of the new table, then
+ * the call isn't refused with 8; and block, and which places are lost, are as
+ * bs_repair leaves them under the new table from all packets received so far.
+ * Marks 0 and 2 can differ from its: a place restored before its packet came
+ * stays 2.
+ *
+ * Refusals: 1 to 4 of the old table, 1 to 4 of the new one, 5, 15, 16, 7 and 8,
+ * the first of these in this order. 5 is judged of each of the four buffers, by
+ * the new table; 16 looks at old places only, 7 at all n places. After 8 map
+ * stays as entered: 0 at the arrivals that were entered, 1 at all other places
+ * that were lost and at all other new ones, and known places keep their 0 or 2.
+ * block holds the packets entered beside those carried over, and zero bytes at
+ * its lost places. All counts are 0, and check and byte are as for bs_repair, by
+ * the new table's checks. So block and map are then of the new table's places,
+ * and can be gone on with under it; an arrival is taken back by setting its mark
+ * to 1. After any other refusal block and map are as they were. */
+bs_repaired bs_lengthen(const uint16_t *old_table, size_t old_table_len,
+                        const uint16_t *new_table, size_t new_table_len,
+                        uint8_t *block, size_t block_len,
+                        uint8_t *map, size_t map_len,
+                        const uint8_t *arrivals, size_t arrivals_len,
+                        const uint8_t *arrivals_map, size_t arrivals_map_len);
 
 typedef struct {
     uint32_t refusal;
