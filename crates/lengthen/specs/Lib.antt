@@ -3,3 +3,4 @@ pub mod Carrying
 pub mod Lengthen
 pub mod LengthenLaws
 pub mod LengthenTheorems
+pub mod Twice

@@ -1,0 +1,227 @@
+-- Lengthening twice is lengthening once: of calls, where all packets received are one codeword's. And there always are "all packets received so far".
+use mathlib.Core.Path.{_≡_, refl, sym, ap, _∙_, subst}
+use mathlib.Core.Bool.{true}
+use mathlib.Core.List.{List}
+use mathlib.Core.Logic.{_≢_, _⊎_, ⊎-elim, inl, inr}
+use Prim.Native.Nat.{ℕ, zero, suc, _*_, _<_, _≤_}
+use native.Mathlib.Omega.{arith}
+use borrow.Author.Tests.{le-ltb}
+use lib.Dec.{eqb, ltb}
+use lib.ListN.{length, getD}
+use lib.Seq.{ext-getD}
+use Rattle.entering.specs.EnteredLaws.{marks-length, mark-at, entered-length, entered-part}
+use Rattle.entering.specs.Entering.{Entry, entry, markOf, packetOf, carriedMark, entryAt, entered}
+use Rattle.entering.specs.EntryLaws.{carried-old, carried-new, by-cases}
+use Rattle.erasure.specs.Offered.{Held, Fitting, Agree}
+use Rattle.erasure.specs.OfferedLaws.{bytes-all, byte-at, agree-there}
+use Rattle.erasure.specs.OldBytes.{old-bytes}
+use Rattle.erasure.specs.PlaceByPlace.{part-sized}
+use Rattle.erasure.specs.Restoring.{AgreeThere, outcome, isLost, State}
+use Rattle.lengthen.specs.AsIfFresh.{AsIfFresh, as-if-fresh, carried-again, all-right}
+use Rattle.lengthen.specs.Carrying.{Carried, SoFar, firstOf, first-part, first-codeword}
+use Rattle.lengthen.specs.Lengthen.{lengthenAfter}
+use Rattle.lengthen.specs.LengthenLaws.{LengthenFitting}
+use Rattle.lists.specs.ListLaws.{all-map, any-none, map-all}
+use Rattle.lists.specs.Lists.{from}
+use Rattle.lists.specs.Numbers.{from-all}
+use Rattle.lists.specs.Tests.{byBool, side}
+use Rattle.longer.specs.Longer.{lengthens, Lengthens}
+use Rattle.longer.specs.LongerLaws.{lengthens-facts}
+use Rattle.table.specs.Codewords.{IsCodeword}
+use Rattle.table.specs.PacketCall.{partAt}
+use Rattle.table.specs.Packets.{joined}
+use Rattle.table.specs.Table.{places, size, refusal}
+
+-- ---- all packets received so far: the arrivals entered into what was received at first
+abbrev pub soFar : List ℕ → List ℕ → Held → Held → Held
+soFar old new first arrivals = entered (size new) (places old) first arrivals (places new)
+
+module _ (old new : List ℕ) (first arrivals : Held) (w : List ℕ) (good : refusal new ≡ 0) (longer : lengthens old new ≡ true) (offered : Fitting old (first .block) (first .map))
+    (wide : length (arrivals .block) ≡ places new * size new)
+    (right : Agree old (first .block) (first .map) w) (arrive : Agree new (arrivals .block) (arrivals .map) w) where
+  l : Lengthens old new
+  l = lengthens-facts old new longer
+
+  -- what place p comes to
+  abbrev mark₀ : ℕ → ℕ
+  mark₀ p = carriedMark (places old) (first .map) p
+
+  abbrev at : ℕ → Entry
+  at p = entryAt (size new) (places old) first arrivals p
+
+  low : (p : ℕ) → mark₀ p ≤ 1
+  low p = ⊎-elim
+      (λ h. let m = byte-at (bytes-all (first .map) (offered .map-bytes)) p in let e = carried-old (places old) (first .map) p h in omega arith)
+      (λ h. let e = carried-new (places old) (first .map) p h in omega arith)
+      (side p (places old))
+
+  -- a place that isn't lost was received at first
+  received : (p : ℕ) → mark₀ p ≢ 1 → (p < places old) × (getD (first .map) p 0 ≡ 0)
+  received p n = ⊎-elim
+      (λ h. let m = low p in let e = carried-old (places old) (first .map) p h in (h, omega arith))
+      (λ h. absurd (n (carried-new (places old) (first .map) p h)))
+      (side p (places old))
+
+  long : (p : ℕ) → p < places new → mark₀ p ≢ 1 → length (partAt (size new) p (first .block)) ≡ size new
+  long p h n = subst (λ s. length (partAt s p (first .block)) ≡ s) (l .same-size) (part-sized (places old) (size old) (first .block) (offered .block) p (received p n .0))
+
+  right-new : (p : ℕ) → p < places old → getD (first .map) p 0 ≡ 0 → partAt (size new) p (first .block) ≡ partAt (size new) p w
+  right-new p h e = subst (λ s. partAt s p (first .block) ≡ partAt s p w) (l .same-size) (right p h e)
+
+  mark-is : (p : ℕ) → p < places new → getD (soFar old new first arrivals .map) p 0 ≡ markOf (at p)
+  mark-is = mark-at (size new) (places old) (places new) first arrivals
+
+  part-is : (p : ℕ) → p < places new → partAt (size new) p (soFar old new first arrivals .block) ≡ packetOf (size new) (at p)
+  part-is = entered-part (size new) (places old) (places new) first arrivals long wide
+
+  cases : (p : ℕ) (P : Entry → Type 0) → (mark₀ p ≢ 1 → P (Entry.known (mark₀ p) (partAt (size new) p (first .block)))) → (mark₀ p ≡ 1 → getD (arrivals .map) p 0 ≡ 0 → P (Entry.arrived (partAt (size new) p (arrivals .block))))
+      → (mark₀ p ≡ 1 → getD (arrivals .map) p 0 ≢ 0 → P Entry.missing) → P (at p)
+  cases p P = by-cases (mark₀ p) (getD (arrivals .map) p 0) (partAt (size new) p (first .block)) (partAt (size new) p (arrivals .block)) P
+
+  -- a place that was received, at first or since, has mark 0 and the word's packet
+  has-word : (p : ℕ) → p < places new → (mark₀ p ≡ 0) ⊎ (getD (arrivals .map) p 0 ≡ 0)
+      → (getD (soFar old new first arrivals .map) p 0 ≡ 0) × (partAt (size new) p (soFar old new first arrivals .block) ≡ partAt (size new) p w)
+  has-word p h got =
+      let r = cases p (λ e. (mark₀ p ≡ 0) ⊎ (getD (arrivals .map) p 0 ≡ 0) → (markOf e ≡ 0) × (packetOf (size new) e ≡ partAt (size new) p w))
+      (λ n g. let m = low p in let z = received p n in (omega arith, right-new p (z .0) (z .1)))
+      (λ e a g. (omega arith, arrive p h a))
+      (λ e n g. absurd (⊎-elim (λ z. omega arith) (λ z. n z) g)) got in
+      (mark-is p h ∙ r .0, part-is p h ∙ r .1)
+
+  pub so-far-is : SoFar old new first arrivals (soFar old new first arrivals)
+  so-far-is = record {
+    fits = record {
+      table = good;
+      block = entered-length (size new) (places old) (places new) first arrivals long wide;
+      map-length = marks-length (size new) (places old) (places new) first arrivals;
+      map-bytes = any-none (ltb 1) (map-all (λ p. markOf (at p)) (all-map (λ p h. le-ltb 1 (markOf (at p))
+          (cases p (λ e. markOf e ≤ 1) (λ n. low p) (λ e a. omega arith) (λ e n. omega arith))) (from-all 0 (places new))));
+    };
+    from-first = λ p h e.
+        let inside : p < places new = omega (arith, l .more-places) in
+        let r = has-word p inside (inl (carried-old (places old) (first .map) p h ∙ e)) in (r .0, r .1 ∙ sym (right-new p h e));
+    from-arrivals = λ p h e. let r = has-word p h (inr e) in (r .0, r .1 ∙ sym (arrive p h e));
+    no-other = λ p h e. cases p (λ x. markOf x ≡ 0 → ((p < places old) × (getD (first .map) p 0 ≡ 0)) ⊎ (getD (arrivals .map) p 0 ≡ 0))
+        (λ n z. inl (received p n)) (λ y a z. inr a) (λ y n z. absurd (omega arith)) (sym (mark-is p h) ∙ e);
+  }
+
+-- ---- lengthening twice
+-- block and map grown to a longer table: the same marks and packets at the old places
+pub record Grown (old : List ℕ) (short long : Held) : Type 0 where
+  pub marks : (p : ℕ) → p < places old → getD (long .map) p 0 ≡ getD (short .map) p 0
+  pub packets : (p : ℕ) → p < places old → partAt (size old) p (long .block) ≡ partAt (size old) p (short .block)
+
+pub grown-carried : (old : List ℕ) (short long first : Held) → Carried old short first → Grown old short long → Carried old long first
+grown-carried old short long first was grown = record {
+  lost = λ p h. ap (λ x. eqb x 1) (grown .marks p h) ∙ was .lost p h;
+  packet = λ p h e. grown .packets p h ∙ was .packet p h (sym (ap (λ x. eqb x 1) (grown .marks p h)) ∙ e);
+}
+
+-- two calls and one leave the same block, and the same places lost
+pub record SameEnd (one two : Held) : Type 0 where
+  pub block : one .block ≡ two .block
+  pub lost : (p : ℕ) → isLost (one .map) p ≡ isLost (two .map) p
+
+-- two marks of 0 and 1
+same-mark : (a b : ℕ) → a ≤ 1 → b ≤ 1 → (a ≡ 0 → b ≡ 0) → (b ≡ 0 → a ≡ 0) → a ≡ b
+same-mark zero b h k f g = sym (f refl)
+same-mark (suc a) zero h k f g = g refl
+same-mark (suc a) (suc b) h k f g = omega arith
+
+-- old to mid with the first arrivals, grown, and mid to new with the second; or old to new with both at once
+module _ (old mid new : List ℕ) (first : Held) (w : List ℕ) (word : IsCodeword new w) (offered : Fitting old (first .block) (first .map)) (right : Agree old (first .block) (first .map) w)
+    (carried arrivals₁ : Held) (f : LengthenFitting old mid carried arrivals₁) (was₁ : Carried old carried first) (arrive₁ : Agree mid (arrivals₁ .block) (arrivals₁ .map) w)
+    (grown arrivals₂ : Held) (g : LengthenFitting mid new grown arrivals₂) (grows : Grown mid (lengthenAfter old mid carried arrivals₁) grown) (arrive₂ : Agree new (arrivals₂ .block) (arrivals₂ .map) w)
+    (once both : Held) (h : LengthenFitting old new once both) (was₂ : Carried old once first) (together : SoFar mid new arrivals₁ arrivals₂ both) where
+  l₁ : Lengthens old mid
+  l₁ = lengthens-facts old mid (f .longer)
+
+  l₂ : Lengthens mid new
+  l₂ = lengthens-facts mid new (g .longer)
+
+  -- ---- the first call, by the word's first packets
+  mid-word : IsCodeword mid (firstOf mid w)
+  mid-word = first-codeword mid new w (f .new-table) l₂ word
+
+  right-mid : Agree old (first .block) (first .map) (firstOf mid w)
+  right-mid p i e = right p i e ∙ sym (subst (λ s. partAt s p (firstOf mid w) ≡ partAt s p w) (sym (l₁ .same-size)) (first-part mid w p (omega (arith, l₁ .more-places))))
+
+  arrive-mid : Agree mid (arrivals₁ .block) (arrivals₁ .map) (firstOf mid w)
+  arrive-mid p i e = arrive₁ p i e ∙ sym (first-part mid w p i)
+
+  abbrev all₁ : Held
+  all₁ = soFar old mid first arrivals₁
+
+  so-far₁ : SoFar old mid first arrivals₁ all₁
+  so-far₁ = so-far-is old mid first arrivals₁ (firstOf mid w) (f .new-table) (f .longer) offered (f .arrivals-length) right-mid arrive-mid
+
+  carried-mid : Carried mid grown all₁
+  carried-mid = grown-carried mid (lengthenAfter old mid carried arrivals₁) grown all₁ (carried-again old mid carried arrivals₁ first (firstOf mid w) f mid-word offered right-mid was₁ arrive-mid all₁ so-far₁) grows
+
+  -- ---- the second
+  right₂ : Agree mid (all₁ .block) (all₁ .map) w
+  right₂ p i e = all-right old mid carried arrivals₁ first (firstOf mid w) f mid-word offered right-mid was₁ arrive-mid all₁ so-far₁ p i e ∙ first-part mid w p i
+
+  abbrev all₂ : Held
+  all₂ = soFar mid new all₁ arrivals₂
+
+  so-far₂ : SoFar mid new all₁ arrivals₂ all₂
+  so-far₂ = so-far-is mid new all₁ arrivals₂ w (g .new-table) (g .longer) (so-far₁ .fits) (g .arrivals-length) right₂ arrive₂
+
+  twice : AsIfFresh mid new grown arrivals₂ all₂
+  twice = as-if-fresh mid new grown arrivals₂ all₁ w g word (so-far₁ .fits) right₂ carried-mid arrive₂ all₂ so-far₂
+
+  -- ---- one call
+  arrive-both : Agree new (both .block) (both .map) w
+  arrive-both p i e = ⊎-elim
+      (λ r. together .from-first p (r .0) (r .1) .1 ∙ subst (λ s. partAt s p (arrivals₁ .block) ≡ partAt s p w) (l₂ .same-size) (arrive₁ p (r .0) (r .1)))
+      (λ r. together .from-arrivals p i r .1 ∙ arrive₂ p i r)
+      (together .no-other p i e)
+
+  abbrev all₃ : Held
+  all₃ = soFar old new first both
+
+  so-far₃ : SoFar old new first both all₃
+  so-far₃ = so-far-is old new first both w (g .new-table) (h .longer) offered (h .arrivals-length) right arrive-both
+
+  at-once : AsIfFresh old new once both all₃
+  at-once = as-if-fresh old new once both first w h word offered right was₂ arrive-both all₃ so-far₃
+
+  -- ---- the same was received
+  then-once : (p : ℕ) → p < places new → getD (all₂ .map) p 0 ≡ 0 → getD (all₃ .map) p 0 ≡ 0
+  then-once p i e = ⊎-elim
+      (λ r. ⊎-elim
+      (λ q. so-far₃ .from-first p (q .0) (q .1) .0)
+      (λ q. so-far₃ .from-arrivals p i (together .from-first p (r .0) q .0) .0)
+      (so-far₁ .no-other p (r .0) (r .1)))
+      (λ r. so-far₃ .from-arrivals p i (together .from-arrivals p i r .0) .0)
+      (so-far₂ .no-other p i e)
+
+  then-twice : (p : ℕ) → p < places new → getD (all₃ .map) p 0 ≡ 0 → getD (all₂ .map) p 0 ≡ 0
+  then-twice p i e = ⊎-elim
+      (λ r. let inside : p < places mid = let k = r .0 in omega (arith, l₁ .more-places) in so-far₂ .from-first p inside (so-far₁ .from-first p (r .0) (r .1) .0) .0)
+      (λ r. ⊎-elim
+      (λ q. so-far₂ .from-first p (q .0) (so-far₁ .from-arrivals p (q .0) (q .1) .0) .0)
+      (λ q. so-far₂ .from-arrivals p i q .0)
+      (together .no-other p i r))
+      (so-far₃ .no-other p i e)
+
+  same-map : all₂ .map ≡ all₃ .map
+  same-map = ext-getD 0 (all₂ .map) (all₃ .map) (so-far₂ .fits .map-length ∙ sym (so-far₃ .fits .map-length))
+      (λ p k. let i : p < places new = subst (λ j. p < j) (so-far₂ .fits .map-length) k in
+      same-mark _ _ (byte-at (bytes-all (all₂ .map) (so-far₂ .fits .map-bytes)) p) (byte-at (bytes-all (all₃ .map) (so-far₃ .fits .map-bytes)) p) (then-once p i) (then-twice p i))
+
+  same-packets-there : AgreeThere new (all₂ .block) (all₃ .map) (all₃ .block)
+  same-packets-there p i e =
+      agree-there new (all₂ .block) (all₂ .map) (so-far₂ .fits) w (all-right mid new grown arrivals₂ all₁ w g word (so-far₁ .fits) right₂ carried-mid arrive₂ all₂ so-far₂) p i (ap (λ m. isLost m p) same-map ∙ e)
+      ∙ sym (agree-there new (all₃ .block) (all₃ .map) (so-far₃ .fits) w (all-right old new once both first w h word offered right was₂ arrive-both all₃ so-far₃) p i e)
+
+  same-outcome : outcome new (all₂ .block) (all₂ .map) ≡ outcome new (all₃ .block) (all₃ .map)
+  same-outcome = ap (outcome new (all₂ .block)) same-map ∙ old-bytes new (all₂ .block) (all₃ .block) (all₃ .map) same-packets-there
+
+  -- so the end is the same
+  pub twice-once : SameEnd (lengthenAfter mid new grown arrivals₂) (lengthenAfter old new once both)
+  twice-once = record {
+    block = twice .block ∙ ap (λ (m : State). joined (m .block)) same-outcome ∙ sym (at-once .block);
+    lost = λ p. twice .lost p ∙ ap (λ (m : State). isLost (m .map) p) same-outcome ∙ sym (at-once .lost p);
+  }
