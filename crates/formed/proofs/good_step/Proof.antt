@@ -1,11 +1,11 @@
--- `plan::good_step` meets its contract: by the kind of the step.
+-- `formed::good_step` meets its contract: by the kind of the step.
 use mathlib.Core.Path.{_∙_}
 use native.Mathlib.Omega.{arith}
 use Rattle.plan.specs.LookOver.{isMarked}
-use Rattle.plan.proofs.Passing.{add-outside, add-itself, add-good}
+use Rattle.formed.proofs.Passing.{add-outside, add-itself, add-good}
 use borrow.Author.Needs.{needs}
-use Rattle.plan.proofs.good_step.Statement.{statement}
-use Rattle.plan.proofs.good_step.Tie as tie
+use Rattle.formed.proofs.good_step.Statement.{statement}
+use Rattle.formed.proofs.good_step.Tie as tie
 
 enum-known-x : tie.Need-enum-known-x
 enum-known-x c = search needs

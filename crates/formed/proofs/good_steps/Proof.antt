@@ -1,4 +1,4 @@
--- `plan::good_steps` meets its contract: what is left of the numbers decides.
+-- `formed::good_steps` meets its contract: what is left of the numbers decides.
 use mathlib.Core.Path.{_≡_, refl, sym, ap, _∙_}
 use mathlib.Core.Bool.{Bool}
 use Prim.Native.Nat.{ℕ, _-_, _≤_}
@@ -7,11 +7,11 @@ use borrow.Author.Tests.{not-true, not-false}
 use lib.ListN.{length, drop}
 use lib.Seq.{drop-length}
 use Rattle.lists.specs.Lists.{allPass}
 use Rattle.plan.specs.LookOver.{isMarked, goodStepBy}
 use Rattle.plan.specs.Step.{unpack}
-use Rattle.plan.proofs.Passing.{pass-stops, pass-on}
-use Rattle.plan.proofs.good_steps.Statement.{statement}
-use Rattle.plan.proofs.good_steps.Tie as tie
+use Rattle.formed.proofs.Passing.{pass-stops, pass-on}
+use Rattle.formed.proofs.good_steps.Statement.{statement}
+use Rattle.formed.proofs.good_steps.Tie as tie
 
 abbrev Inv-loop : tie.InvT-loop
 Inv-loop k marks w at i₀ i =

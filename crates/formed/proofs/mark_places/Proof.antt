@@ -1,4 +1,4 @@
--- `plan::mark_places` meets its contract: what is left of the places decides, and those passed are marked.
+-- `formed::mark_places` meets its contract: what is left of the places decides, and those passed are marked.
 use mathlib.Core.Path.{_≡_, refl, sym, ap, _∙_, subst}
 use mathlib.Core.Bool.{false≢true}
 use mathlib.Core.List.{List}
@@ -7,12 +7,12 @@ use native.Mathlib.Omega.{arith}
 use lib.ListN.{length, take, drop, length-set}
 use lib.Seq.{take-length, drop-length}
 use Rattle.table.specs.Table.{rising}
 use Rattle.plan.specs.Layout.{infoCount, infoIn}
 use Rattle.plan.specs.LayoutLaws.{info-long}
 use Rattle.plan.specs.LookOver.{Marks}
-use Rattle.plan.proofs.Marking.{place-below, place-above, place-on, mark-more}
-use Rattle.plan.proofs.mark_places.Statement.{statement}
-use Rattle.plan.proofs.mark_places.Tie as tie
+use Rattle.formed.proofs.Marking.{place-below, place-above, place-on, mark-more}
+use Rattle.formed.proofs.mark_places.Statement.{statement}
+use Rattle.formed.proofs.mark_places.Tie as tie
 
 abbrev Inv-loop : tie.InvT-loop
 Inv-loop w n marks₀ count low₀ i₀ marks low i =

@@ -1,11 +1,11 @@
--- `plan::good_number` meets its contract: by what the number is decoded to.
+-- `formed::good_number` meets its contract: by what the number is decoded to.
 use mathlib.Core.Path.{sym, _∙_}
 use Rattle.plan.specs.LookOver.{isMarked}
 use Rattle.plan.specs.Step.{unpack}
-use Rattle.plan.proofs.Passing.{good-decoded, good-invalid}
+use Rattle.formed.proofs.Passing.{good-decoded, good-invalid}
 use borrow.Author.Needs.{needs}
-use Rattle.plan.proofs.good_number.Statement.{statement}
-use Rattle.plan.proofs.good_number.Tie as tie
+use Rattle.formed.proofs.good_number.Statement.{statement}
+use Rattle.formed.proofs.good_number.Tie as tie
 
 unpack-requires : tie.Need-unpack-requires
 unpack-requires c κs = search needs

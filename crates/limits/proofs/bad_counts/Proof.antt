@@ -1,11 +1,11 @@
--- `plan::bad_counts` meets its contract: the tests in order.
+-- `limits::bad_counts` meets its contract: the tests in order.
 use mathlib.Core.Path.{sym, _∙_}
 use native.Mathlib.Omega.{arith}
 use Rattle.plan.specs.LayoutLaws.{in-limits}
-use Rattle.plan.proofs.Counts.{counts-short, counts-first, counts-limits, counts-last}
+use Rattle.limits.proofs.Counts.{counts-short, counts-first, counts-limits, counts-last}
 use borrow.Author.Needs.{needs}
-use Rattle.plan.proofs.bad_counts.Statement.{statement}
-use Rattle.plan.proofs.bad_counts.Tie as tie
+use Rattle.limits.proofs.bad_counts.Statement.{statement}
+use Rattle.limits.proofs.bad_counts.Tie as tie
 
 returns : tie.Need-returns
 returns c = counts-short (c .before .before .args .w .now) (omega arith)

@@ -1,15 +1,15 @@
--- `plan::bad_limits` meets its contract: the tests in order.
+-- `limits::bad_limits` meets its contract: the tests in order.
 use mathlib.Core.Path.{_≡_, sym, ap, _∙_}
 use mathlib.Core.Bool.{false}
 use mathlib.Core.Logic.{⊎-elim}
 use native.Mathlib.Omega.{arith}
 use borrow.Author.Tests.{ltb-true, ltb-false}
 use Rattle.table.specs.Table.{mostPlaces, outside}
 use Rattle.plan.specs.Layout.{planPlaces}
-use Rattle.plan.proofs.Counts.{limits-places, limits-gap, limits-aside, limits-kept, limits-checks, limits-last}
+use Rattle.limits.proofs.Counts.{limits-places, limits-gap, limits-aside, limits-kept, limits-checks, limits-last}
 use borrow.Author.Needs.{needs}
-use Rattle.plan.proofs.bad_limits.Statement.{statement}
-use Rattle.plan.proofs.bad_limits.Tie as tie
+use Rattle.limits.proofs.bad_limits.Statement.{statement}
+use Rattle.limits.proofs.bad_limits.Tie as tie
 
 places-requires : tie.Need-places-requires
 places-requires c κs = search needs

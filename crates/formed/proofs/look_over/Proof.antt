@@ -1,4 +1,4 @@
--- `plan::look_over` meets its contract: the counts, the information places, the steps.
+-- `formed::look_over` meets its contract: the counts, the information places, the steps.
 use mathlib.Core.Path.{_≡_, sym, ap, _∙_}
 use mathlib.Core.Bool.{true, false}
 use Prim.Native.Nat.{ℕ, _≤_}
@@ -6,14 +6,14 @@ use native.Mathlib.Omega.{arith}
 use borrow.Author.Tests.{not-true, not-false}
 use lib.ListN.{length-replicate, length}
 use Rattle.table.specs.Table.{rising}
 use Rattle.plan.specs.Layout.{infoIn, slots, badCounts}
 use Rattle.plan.specs.LayoutLaws.{counted}
 use Rattle.plan.specs.LookOver.{mostSlots}
-use Rattle.plan.proofs.Marking.{marks-none}
-use Rattle.plan.proofs.Passing.{refuse-counts, refuse-places, refuse-steps, refuse-none, same-steps}
+use Rattle.formed.proofs.Marking.{marks-none}
+use Rattle.formed.proofs.Passing.{refuse-counts, refuse-places, refuse-steps, refuse-none, same-steps}
 use borrow.Author.Needs.{needs}
-use Rattle.plan.proofs.look_over.Statement.{statement}
-use Rattle.plan.proofs.look_over.Tie as tie
+use Rattle.formed.proofs.look_over.Statement.{statement}
+use Rattle.formed.proofs.look_over.Tie as tie
 
 bad-counts-requires : tie.Need-bad-counts-requires
 bad-counts-requires c κs = search needs

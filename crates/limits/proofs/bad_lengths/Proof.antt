@@ -1,4 +1,4 @@
--- `plan::bad_lengths` meets its contract: the tests in order.
+-- `limits::bad_lengths` meets its contract: the tests in order.
 use mathlib.Core.Path.{ap₂, _∙_}
 use mathlib.Core.Bool.{not}
 use Prim.Native.Nat.{ℕ, _+_}
@@ -6,10 +6,10 @@ use native.Mathlib.Omega.{arith}
 use borrow.Author.Tests.{lt-ltb}
 use lib.Dec.{eqb}
 use lib.ListN.{length}
-use Rattle.plan.proofs.Counts.{lengths-info, lengths-short, lengths-steps, lengths-last}
+use Rattle.limits.proofs.Counts.{lengths-info, lengths-short, lengths-steps, lengths-last}
 use borrow.Author.Needs.{needs}
-use Rattle.plan.proofs.bad_lengths.Statement.{statement}
-use Rattle.plan.proofs.bad_lengths.Tie as tie
+use Rattle.limits.proofs.bad_lengths.Statement.{statement}
+use Rattle.limits.proofs.bad_lengths.Tie as tie
 
 info-count-requires : tie.Need-info-count-requires
 info-count-requires c κs = search needs

@@ -1,9 +1,9 @@
--- `plan::may_write` meets its contract: a slot outside, or its mark.
+-- `formed::may_write` meets its contract: a slot outside, or its mark.
 use Rattle.plan.specs.LookOver.{isMarked}
-use Rattle.plan.proofs.Passing.{writable-outside, writable-inside}
+use Rattle.formed.proofs.Passing.{writable-outside, writable-inside}
 use borrow.Author.Needs.{needs}
-use Rattle.plan.proofs.may_write.Statement.{statement}
-use Rattle.plan.proofs.may_write.Tie as tie
+use Rattle.formed.proofs.may_write.Statement.{statement}
+use Rattle.formed.proofs.may_write.Tie as tie
 
 returns : tie.Need-returns
 returns c = writable-outside _ (isMarked (c .before .args .marks .now)) _ (c .if1 .taken)
