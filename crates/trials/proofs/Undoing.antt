@@ -17,9 +17,9 @@ use Rattle.table.specs.Table.{places, size, checks}
 use Rattle.erasure.specs.OutcomeLaws.{zeroLost-sized, start-length, start-sized, outcome-length, outcome-sized}
 use Rattle.erasure.specs.Restoring.{zeroLost, outcome, agreeing, blockIf, mapIf, isLost}
 use Rattle.erasure.specs.Values.{received-kept, zeroLost-length, zeroLost-kept, zeroLost-zero}
-use Rattle.blame.specs.Blame.{lostToo, suspect}
-use Rattle.blame.specs.Trying.{Cleared}
-use Rattle.blame.proofs.Narrowing.{cleared-packets}
+use Rattle.suspects.specs.Blame.{lostToo, suspect}
+use Rattle.trials.specs.Cleared.{Cleared}
+use Rattle.trials.specs.ClearedLaws.{cleared-packets}
 
 -- ---- what a trial says
 pub both : (a v : Bool) → v ≡ true → a ≡ (a && v)

@@ -1,4 +1,4 @@
--- `blame::try_place` meets its contract.
+-- `trials::try_place` meets its contract.
 use Prim.Native.Nat.{_+_, _*_, _≤_}
 use mathlib.Core.Path.{refl, _∙_}
 use native.Mathlib.Omega.{arith}
@@ -10,10 +10,10 @@ use Rattle.table.specs.BufferLaws.{place-fits}
 use Rattle.restore.specs.SavedLaws.{part-room, part-saved, saved-room, put-back}
 use Rattle.erasure.specs.Restoring.{agreeing}
 use Rattle.restore.specs.MendsLaws.{agrees-told}
-use Rattle.blame.specs.Blame.{lostToo}
-use Rattle.blame.proofs.Undoing.{not-received, received-says, block-back}
-use Rattle.blame.proofs.try_place.Statement.{statement}
-use Rattle.blame.proofs.try_place.Tie as tie
+use Rattle.suspects.specs.Blame.{lostToo}
+use Rattle.trials.proofs.Undoing.{not-received, received-says, block-back}
+use Rattle.trials.proofs.try_place.Statement.{statement}
+use Rattle.trials.proofs.try_place.Tie as tie
 
 slice-read-if1 : tie.Need-slice-read-if1
 slice-read-if1 c = search needs

@@ -1,11 +1,11 @@
--- `blame::speaks` meets its contract.
+-- `trials::speaks` meets its contract.
 use mathlib.Core.Path.{sym}
 use mathlib.Core.Bool.{not}
 use lib.Dec.{eqb}
 use Rattle.lists.specs.Tests.{and-false}
-use Rattle.blame.proofs.Undoing.{both}
-use Rattle.blame.proofs.speaks.Statement.{statement}
-use Rattle.blame.proofs.speaks.Tie as tie
+use Rattle.trials.proofs.Undoing.{both}
+use Rattle.trials.proofs.speaks.Statement.{statement}
+use Rattle.trials.proofs.speaks.Tie as tie
 
 returns : tie.Need-returns
 returns c = both (not (eqb (c .before .args .mark) 1)) _ (c .if1 .taken)

@@ -11,8 +11,8 @@ use Rattle.lists.specs.Tests.{byBool}
 use Rattle.table.specs.AnySize.{places-at}
 use Rattle.table.specs.Packets.{bytesAt}
 use Rattle.table.specs.Table.{places, size, atSize, refusal}
-use Rattle.blame.specs.Blame.{lostToo, suspect, Suspect}
-use Rattle.blame.specs.BlameLaws.{suspect-is, is-suspect}
+use Rattle.suspects.specs.Blame.{lostToo, suspect, Suspect}
+use Rattle.suspects.specs.BlameLaws.{suspect-is, is-suspect}
 
 module _ (t b map : List ℕ) (ok : refusal t ≡ 0) (fits : length b ≡ places t * size t) (j : ℕ) (h : j < size t) (p : ℕ) where
   pub suspect-narrow : Suspect t b map p → Suspect (atSize 1 t) (bytesAt (size t) (places t) j b) map p
