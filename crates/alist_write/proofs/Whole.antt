@@ -16,9 +16,10 @@ use Rattle.making.specs.Making.{MakeAnswer, makeAnswerAt, makeBufferAfter}
 use Rattle.making.specs.MakingLaws.{rows-length}
 use Rattle.alist.specs.Alist.{greatest}
 use Rattle.alist.specs.AlistText.{numberLines, columnOf, columnsOf, rowsOf, padded, alistLines, alistText, alistWriteRefusalAt, alistWriteAnswer, alistWriteTextAfter}
-use Rattle.alist_write.specs.Put.{Put, PutBelow}
-use Rattle.alist_write.specs.Rows.{Loaded, paddedLists, headLines, lines, bitsText, roomRefusal, Answered}
-use Rattle.alist_write.proofs.Laws.{put-both, put-is, lines-append}
+use Rattle.alist_bits.specs.Loaded.{Loaded}
+use Rattle.alist_numbers.specs.Put.{PutBelow}
+use Rattle.alist_lines.specs.Lines.{lines}
+use Rattle.alist_write.specs.Rows.{bitsText, roomRefusal, Answered}
 
 -- ---- the text
 -- a list has as many numbers as its row has places
@@ -32,16 +33,6 @@ lines-same : (n m a b : ℕ) (v w : List ℕ) (columns rows : List (List ℕ)) �
 lines-same n m a b v w columns rows ea eb em ev ew = rw (ea, eb, em, ev, ew)
 
 module _ (columns : List ℕ) (n a : ℕ) (rows : List ℕ) (m b : ℕ) where
-  -- the head, and then the lists
-  pub put-lines : {x y z u : List ℕ} {p q r : ℕ} → Put x 0 (numberLines (headLines columns n a rows m b)) y p → Put y p (numberLines (paddedLists columns n a)) z q
-      → Put z q (numberLines (paddedLists rows m b)) u r → Put x 0 (numberLines (lines columns n a rows m b)) u r
-  unfolding lines
-  put-lines h c l =
-      let cs = paddedLists columns n a in
-      let rs = paddedLists rows m b in
-      let hs = headLines columns n a rows m b in
-      put-is (ap (λ w. numberLines hs ++ w) (sym (lines-append cs rs)) ∙ sym (lines-append hs (cs ++ rs))) (put-both h (put-both c l))
-
   -- with the greatest weights it is the text
   pub whole-text : a ≡ greatest (map length (rowsIn columns n)) → b ≡ greatest (map length (rowsIn rows m)) → numberLines (lines columns n a rows m b) ≡ bitsText columns n rows m
   unfolding lines bitsText

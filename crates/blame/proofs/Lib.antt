@@ -1,4 +1,3 @@
 pub mod Copying
 pub mod Narrowing
 pub mod Searching
-pub mod Undoing

@@ -9,20 +9,15 @@ use Rattle.table.specs.Accepted.{Accepted}
 use Rattle.table.specs.AnySize.{accepted-at, number-at, places-at, size-at}
 use Rattle.table.specs.ByteLaws.{bytes-length, eachByte, bytes-packets}
 use Rattle.table.specs.ChecksLaws.{limits}
-use Rattle.table.specs.PacketLaws.{packets-length, packets-sized, packets-joined, packets-of}
+use Rattle.table.specs.PacketLaws.{packets-joined}
 use Rattle.table.specs.Packets.{packets, joined, bytesAt}
 use Rattle.erasure.specs.EachByte.{zeros-each}
-use Rattle.erasure.specs.OutcomeLaws.{zeroLost-sized}
 use Rattle.erasure.specs.Restoring.{zeroLost}
-use Rattle.erasure.specs.Values.{zeroLost-length}
-use Rattle.blame.specs.Blame.{suspect}
-use Rattle.blame.specs.EachByte.{not-narrow}
-use Rattle.blame.specs.Trying.{Cleared, Narrow}
-
--- lost places are zero already
-pub cleared-packets : (n s : ℕ) (b map : List ℕ) → Cleared n s b map → packets s n b ≡ zeroLost s map (packets s n b)
-cleared-packets n s b map c =
-    ap (packets s n) (c .zero) ∙ packets-of s n (zeroLost-length s map (packets s n b) ∙ packets-length s n b) (zeroLost-sized s map (packets-sized s n b (c .bytes)))
+use Rattle.suspects.specs.Blame.{suspect}
+use Rattle.suspects.specs.EachByte.{not-narrow}
+use Rattle.trials.specs.Cleared.{Cleared}
+use Rattle.trials.specs.ClearedLaws.{cleared-packets}
+use Rattle.blame.specs.Trying.{Narrow}
 
 pub words : (t : List ℕ) (m n s : ℕ) → Accepted t m n s → 3 ≤ length t
 words t m n s k = let l = limits t (k .accepted) .long in omega arith

@@ -7,8 +7,9 @@ use Prim.Native.Nat.{ℕ, _+_, _-_, _<_, _≤_}
 use native.Mathlib.Omega.{arith}
 use Rattle.lists.specs.Lists.{from, filter}
 use Rattle.lists.specs.Numbers.{from-next, from-none}
-use Rattle.blame.specs.Blame.{suspect, onlyOne}
-use Rattle.blame.specs.Trying.{Cleared, Narrow, Next}
+use Rattle.suspects.specs.Blame.{suspect, onlyOne}
+use Rattle.trials.specs.Cleared.{Cleared}
+use Rattle.blame.specs.Trying.{Narrow, Next}
 
 module _ (f : ℕ → Bool) (i n p : ℕ) (sofar : filter f (from i (n - i)) ≡ filter f (from p (n - p))) where
   -- a number that doesn't pass, the first that does, and none

@@ -3,20 +3,13 @@ use mathlib.Core.Path.{_≡_}
 use mathlib.Core.Bool.{Bool}
 use mathlib.Core.List.{List, [], _∷_}
 use mathlib.Core.Option.{Option, none, some}
-use Prim.Native.Nat.{ℕ, _+_, _-_, _*_, _<_, _≤_}
-use lib.ListN.{length}
+use Prim.Native.Nat.{ℕ, _+_, _-_, _<_, _≤_}
 use Rattle.blame.specs.declared.Suspected.{Suspected}
 use Rattle.blame.specs.declared.Suspected.the-variants.{Nobody, Place}
-use Rattle.erasure.specs.Restoring.{zeroLost}
 use Rattle.lists.specs.Lists.{from, filter}
-use Rattle.table.specs.Packets.{packets, joined, bytesAt}
+use Rattle.table.specs.Packets.{bytesAt}
 use Rattle.table.specs.Table.{atSize}
-
--- a block and a map that fit, with lost places zero
-pub record Cleared (n s : ℕ) (b map : List ℕ) : Type 0 where
-  pub bytes : length b ≡ n * s
-  pub marks : length map ≡ n
-  pub zero : b ≡ joined (zeroLost s map (packets s n b))
+pub use Rattle.trials.specs.Cleared.{Cleared}
 
 -- the table with packets of one byte, and one byte position of the block
 pub record Narrow (t : List ℕ) (n s : ℕ) (b small column : List ℕ) : Type 0 where

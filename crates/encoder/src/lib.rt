@@ -117,7 +117,7 @@ pub fn encode(
     if table::outside(MOST_BYTES, s) {
         return refused(2);
     }
-    let refusal = plan::look_over(plan);
+    let refusal = formed::look_over(plan);
     if refusal != 0 {
         return refused(refusal);
     }

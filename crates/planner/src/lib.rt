@@ -118,7 +118,7 @@ fn plan_table(t: &[u16], plan: &mut [u32], work: &mut [u64]) -> Planned
     let mut aside = [0u16; MOST_CHECKS];
     table::fill_starts(t, m, &mut starts);
     let c = peel::choose_checks(t, m, n, &starts, work, &mut order, &mut owns, &mut aside);
-    if plan::MOST_ASIDE < c.aside {
+    if limits::MOST_ASIDE < c.aside {
         return refused(6);
     }
     write_out(t, plan, &starts, &order, &owns, &aside, c)

@@ -1,6 +1,6 @@
 // What stands in the slots before the first step: the information packets stand at their places, each written once, and the
 // other slots are zero, but for some that the first step on them clears.
-use plan::MOST_SLOTS;
+use limits::MOST_SLOTS;
 use plan::Step;
 ghost use mathlib.Core.Path.{_≡_};
 ghost use mathlib.Core.List.{List, [], _∷_};

@@ -1,7 +1,7 @@
 -- `write_bits` meets its contract: the text is measured, and put if there is room.
 use mathlib.Core.Path.{_∙_}
 use borrow.Author.Needs.{needs}
-use Rattle.alist_write.proofs.Laws.{below-is}
+use Rattle.alist_numbers.specs.PutLaws.{below-is}
 use Rattle.alist_write.proofs.Whole.{whole-text, answer-short, answer-written}
 use Rattle.alist_write.proofs.write_bits.Statement.{statement}
 use Rattle.alist_write.proofs.write_bits.Tie as tie

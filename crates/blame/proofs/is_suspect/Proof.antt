@@ -1,7 +1,7 @@
 -- `blame::is_suspect` meets its contract: one byte position is enough to say no.
 use mathlib.Core.Path.{refl, sym, ap, _∙_}
 use borrow.Author.Needs.{needs}
-use Rattle.blame.specs.Blame.{suspect}
+use Rattle.suspects.specs.Blame.{suspect}
 use Rattle.blame.proofs.Narrowing.{small-accepted, column-cleared, none-narrow}
 use Rattle.blame.proofs.Searching.{cleared-same}
 use Rattle.blame.proofs.is_suspect.Statement.{statement}

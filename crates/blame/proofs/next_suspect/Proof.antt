@@ -5,7 +5,7 @@ use native.Mathlib.Omega.{arith}
 use lib.ListN.{length}
 use Rattle.lists.specs.Lists.{from, filter}
 use Rattle.blame.proofs.Searching.{cleared-same, narrow-same, tried-same, step-over, stop-at, stop-at-end}
-use Rattle.blame.specs.Blame.{suspect}
+use Rattle.suspects.specs.Blame.{suspect}
 use Rattle.blame.proofs.next_suspect.Statement.{statement}
 use Rattle.blame.proofs.next_suspect.Tie as tie
 

@@ -3,7 +3,7 @@ use mathlib.Core.Path.{refl, ap, _∙_}
 use native.Mathlib.Omega.{arith}
 use borrow.Author.Needs.{needs}
 use Rattle.lists.specs.Lists.{from, filter}
-use Rattle.blame.specs.Blame.{suspect, onlyOne}
+use Rattle.suspects.specs.Blame.{suspect, onlyOne}
 use Rattle.blame.proofs.Narrowing.{words}
 use Rattle.blame.proofs.Searching.{cleared-same, narrow-same, next-same, none-found, one-found, two-found}
 use Rattle.blame.proofs.search.Statement.{statement}
