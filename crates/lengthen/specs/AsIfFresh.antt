@@ -19,7 +19,8 @@ use Rattle.erasure.specs.OldRepair.{RestoredBy, old-repair, word-agrees, word-v
 use Rattle.erasure.specs.OutcomeLaws.{outcome-length, outcome-sized}
 use Rattle.erasure.specs.Restoring.{AgreeThere, outcome, agreeing, isLost, Stopping, Largest}
 use Rattle.erasure.specs.RestoringLaws.{lost-inside}
-use Rattle.lengthen.specs.Carrying.{Carried, SoFar, firstOf, first-part, first-codeword}
+use Rattle.lengthen.specs.Carrying.{Carried, SoFar}
+use Rattle.lengthen.specs.FirstPackets.{firstOf, first-part, first-codeword}
 use Rattle.lengthen.specs.Lengthen.{start, lengthenOutcome, lengthenRefusal, lengthenAfter}
 use Rattle.lengthen.specs.LengthenLaws.{LengthenFitting, calm, agreed-refusal, after-accepted, start-block, start-map, entered-there}
 use Rattle.lists.specs.ListLaws.{all-map, all-zip, filter-same}

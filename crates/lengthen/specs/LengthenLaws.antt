@@ -1,5 +1,5 @@
 -- The call by cases: what is offered, when it is refused, and what block and map are afterwards.
-use mathlib.Core.Path.{_≡_, refl, sym, ap, ap₂, _∙_}
+use mathlib.Core.Path.{_≡_, refl, sym, ap, _∙_}
 use mathlib.Core.Bool.{Bool, true, false, cond, not, true≢false, false≢true}
 use mathlib.Core.List.{List, [], _∷_, _++_}
 use mathlib.Core.Logic.{_≢_, ⊎-elim}
@@ -19,7 +19,7 @@ use Rattle.erasure.specs.OldRepair.{cleared-kept, cleared-zero}
 use Rattle.erasure.specs.OutcomeLaws.{start-length, start-sized}
 use Rattle.erasure.specs.Restoring.{State, AgreeThere, agreeing, blockIf, isLost}
 use Rattle.faults.specs.Faults.{Fault}
-use Rattle.lengthen.specs.Lengthen.{lengthenAnswerAt, start, lengthenOutcome, lengthenFault, wrongEither, carriedOver, ownCauses, offerCauses, lengthenCauses, lengthenRefusal, lengthenAnswer, lengthenAfter}
+use Rattle.lengthen.specs.Lengthen.{lengthenAnswerAt, start, lengthenOutcome, lengthenFault, wrongEither, ownCauses, offerCauses, lengthenRefusal, lengthenAnswer, lengthenAfter}
 use Rattle.lists.specs.Lists.{anyOf, has, All.nil, All.cons}
 use Rattle.lists.specs.Tests.{eqb-true, eqb-false, byBool, or-false-l, or-false-r, or-neither, side}
 use Rattle.longer.specs.Longer.{lengthens}

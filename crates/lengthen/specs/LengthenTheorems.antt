@@ -1,18 +1,17 @@
 -- What C-22 promises of every call, over its definitions: accepted, contradicted, refused, and what doesn't count.
 use mathlib.Core.Path.{_≡_, refl, sym, ap, ap₂, _∙_}
 use mathlib.Core.Bool.{true, false, true≢false}
-use mathlib.Core.List.{List, map as each}
+use mathlib.Core.List.{List}
 use mathlib.Core.Logic.{_≢_, _⊎_, ⊎-elim}
 use mathlib.Core.Option.{none, some}
 use Prim.Native.Nat.{ℕ, zero, suc, _+_, _<_, _≤_}
 use native.Mathlib.Omega.{arith}
 use borrow.Author.Tests.{ne-eqb}
-use lib.Dec.{eqb}
 use lib.ListN.{length, getD, replicate}
 use Rattle.entering.specs.EnteredLaws.{parts-long, mark-at, entered-part, entered-zero}
 use Rattle.entering.specs.Entering.{Entry, entry, markOf, packetOf, carriedMark, entryAt}
 use Rattle.entering.specs.EntryLaws.{carried-old, carried-new, entry-known, entry-arrived, entry-missing, entry-alike}
-use Rattle.erasure.specs.LostLaws.{not-lost, is-lost}
+use Rattle.erasure.specs.LostLaws.{is-lost}
 use Rattle.erasure.specs.Offered.{Held, Agree, handedOn}
 use Rattle.erasure.specs.OfferedLaws.{none-handed}
 use Rattle.erasure.specs.OldRepair.{RestoredBy, old-repair, word-agrees}
@@ -22,7 +21,7 @@ use Rattle.faults.specs.FaultLaws.{some-fault, first-fault}
 use Rattle.faults.specs.Faults.{Fault, FirstFault}
 use Rattle.lengthen.specs.Lengthen.{lengthenAnswerAt, start, lengthenOutcome, lengthenFault, lengthenRefusal, lengthenAnswer, lengthenAfter}
 use Rattle.lengthen.specs.LengthenLaws.{LengthenFitting, calm, agreed-refusal, contradicted-refusal, accepted-fits, contradicted-fits, after-accepted, after-contradicted, after-refused, start-block, start-map, entered-there}
-use Rattle.lists.specs.Lists.{All, from}
+use Rattle.lists.specs.Lists.{All}
 use Rattle.lists.specs.Numbers.{each-same}
 use Rattle.lists.specs.Tests.{byBool, side}
 use Rattle.longer.specs.LongerLaws.{lengthens-facts}

@@ -1,5 +1,6 @@
 pub mod AsIfFresh
 pub mod Carrying
+pub mod FirstPackets
 pub mod Lengthen
 pub mod LengthenLaws
 pub mod LengthenTheorems

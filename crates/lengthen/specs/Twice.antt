@@ -10,7 +10,7 @@ use lib.Dec.{eqb, ltb}
 use lib.ListN.{length, getD}
 use lib.Seq.{ext-getD}
 use Rattle.entering.specs.EnteredLaws.{marks-length, mark-at, entered-length, entered-part}
-use Rattle.entering.specs.Entering.{Entry, entry, markOf, packetOf, carriedMark, entryAt, entered}
+use Rattle.entering.specs.Entering.{Entry, markOf, packetOf, carriedMark, entryAt, entered}
 use Rattle.entering.specs.EntryLaws.{carried-old, carried-new, by-cases}
 use Rattle.erasure.specs.Offered.{Held, Fitting, Agree}
 use Rattle.erasure.specs.OfferedLaws.{bytes-all, byte-at, agree-there}
@@ -18,13 +18,13 @@ use Rattle.erasure.specs.OldBytes.{old-bytes}
 use Rattle.erasure.specs.PlaceByPlace.{part-sized}
 use Rattle.erasure.specs.Restoring.{AgreeThere, outcome, isLost, State}
 use Rattle.lengthen.specs.AsIfFresh.{AsIfFresh, as-if-fresh, carried-again, all-right}
-use Rattle.lengthen.specs.Carrying.{Carried, SoFar, firstOf, first-part, first-codeword}
+use Rattle.lengthen.specs.Carrying.{Carried, SoFar, Grown}
+use Rattle.lengthen.specs.FirstPackets.{firstOf, first-part, first-codeword}
 use Rattle.lengthen.specs.Lengthen.{lengthenAfter}
 use Rattle.lengthen.specs.LengthenLaws.{LengthenFitting}
 use Rattle.lists.specs.ListLaws.{all-map, any-none, map-all}
-use Rattle.lists.specs.Lists.{from}
 use Rattle.lists.specs.Numbers.{from-all}
-use Rattle.lists.specs.Tests.{byBool, side}
+use Rattle.lists.specs.Tests.{side}
 use Rattle.longer.specs.Longer.{lengthens, Lengthens}
 use Rattle.longer.specs.LongerLaws.{lengthens-facts}
 use Rattle.table.specs.Codewords.{IsCodeword}
@@ -106,11 +106,6 @@ module _ (old new : List ℕ) (first arrivals : Held) (w : List ℕ) (good : ref
   }
 
 -- ---- lengthening twice
--- block and map grown to a longer table: the same marks and packets at the old places
-pub record Grown (old : List ℕ) (short long : Held) : Type 0 where
-  pub marks : (p : ℕ) → p < places old → getD (long .map) p 0 ≡ getD (short .map) p 0
-  pub packets : (p : ℕ) → p < places old → partAt (size old) p (long .block) ≡ partAt (size old) p (short .block)
-
 pub grown-carried : (old : List ℕ) (short long first : Held) → Carried old short first → Grown old short long → Carried old long first
 grown-carried old short long first was grown = record {
   lost = λ p h. ap (λ x. eqb x 1) (grown .marks p h) ∙ was .lost p h;

@@ -1,13 +1,13 @@
 -- Two accepted tables word by word: the checks of one are the first of the other exactly if its weights and its places are.
 use mathlib.Core.Path.{_≡_, refl, sym, ap, ap₂, _∙_, subst}
-use mathlib.Core.Bool.{Bool, true, false, _&&_, true≢false}
+use mathlib.Core.Bool.{Bool, true, false, _&&_}
 use mathlib.Core.List.{List, [], _∷_, _++_}
 use mathlib.Core.Logic.{_≢_}
 use Prim.Native.Nat.{ℕ, zero, suc, _+_, _-_, _<_, _≤_}
 use native.Mathlib.Omega.{arith}
 use borrow.Author.Tests.{le-leb, lt-leb, ne-eqb, eq-eqb}
 use lib.Dec.{eqb, leb}
-use lib.ListN.{length, getD, take, drop, length-drop}
+use lib.ListN.{length, take, drop, length-drop}
 use lib.Seq.{length-take-le, take-add, take-take}
 use Rattle.lists.specs.ListLaws.{same-sound}
 use Rattle.lists.specs.Lists.{sameList}
@@ -15,7 +15,7 @@ use Rattle.lists.specs.Tests.{eqb-true, eqb-false, eqb-self, byBool, and-false}
 use Rattle.longer.specs.Longer.{areFirst, lengthens}
 use Rattle.table.specs.Accepted.{Accepted}
 use Rattle.table.specs.ChecksLaws.{limits, checks-length}
-use Rattle.table.specs.Table.{places, size, number, weights, onesCount, total, cutUp, checks, refusal}
+use Rattle.table.specs.Table.{places, size, number, weights, total, cutUp, checks, refusal}
 
 -- ---- tests
 and-assoc : (a b c : Bool) → ((a && b) && c) ≡ (a && (b && c))

@@ -7,7 +7,7 @@ use mathlib.Core.Option.{Option}
 use Prim.Native.Nat.{ℕ, zero, suc, _*_}
 use borrow.Author.Tests.{not-true, not-false}
 use lib.Dec.{eqb}
-use lib.ListN.{length, getD}
+use lib.ListN.{getD}
 use Rattle.aerials.specs.Aerials.{heardAt, kinds}
 use Rattle.aerials.specs.HeardLaws.{lost-zero}
 use Rattle.aerials.specs.MergedLaws.{marks-length, marks-low, mark-at, merged-length, merged-part}

@@ -3,6 +3,7 @@ pub mod Copies
 pub mod CopiesKept
 pub mod CopiesPeeled
 pub mod Demands
+pub mod LongerTable
 pub mod NothingLost
 pub mod OwnPlan
 pub mod Refusals

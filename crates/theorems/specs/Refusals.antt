@@ -1,12 +1,14 @@
 -- Refusals of all calls, said in one way: 0 is answered exactly if no cause of the call holds, and each number exactly if its cause
 -- holds and none before it in the call's order (`RefusedBy`, table/specs/FirstCause.antt).
-use mathlib.Core.Path.{_≡_, refl, sym, subst}
-use mathlib.Core.List.{List}
+use mathlib.Core.Path.{_≡_, refl, sym, _∙_, subst}
+use mathlib.Core.Bool.{not}
+use mathlib.Core.List.{List, [], _∷_, _++_}
+use mathlib.Core.Logic.{_≢_}
 use mathlib.Core.Option.{Option, none, some}
 use Prim.Native.Nat.{ℕ, zero, suc}
 use lib.ListN.{length}
 use Rattle.table.specs.FirstCause.{RefusedBy}
-use Rattle.table.specs.FirstCauseLaws.{refused-by}
+use Rattle.table.specs.FirstCauseLaws.{refused-by, first-decides, rest-decides, none-holds}
 use Rattle.table.specs.Table.{tableCauses, refusal}
 use Rattle.table.specs.PacketCall.{packetCauses, packetRefusal}
 use Rattle.making.specs.MakingLaws.{make-told}
@@ -19,6 +21,8 @@ use Rattle.repair.specs.Repair.{repairCauses, repairOutcome, repairRefusal, rep
 use Rattle.full.specs.Full.{fullCauses, fullRefusal, fullAnswer, fullAnswerAt, fullMapAfter}
 use Rattle.merge.specs.Merge.{mergeCauses, mergeRefusal, mergeAnswer}
 use Rattle.merge.specs.MergeLaws.{refusal-told}
+use Rattle.lengthen.specs.Lengthen.{ownCauses, lengthenRefusal, lengthenAnswer}
+use Rattle.lengthen.specs.LengthenLaws.{calm, refusal-told as lengthen-told}
 use Rattle.why.specs.Why.{whyCauses, whyRefusal, whyAnswer}
 use Rattle.why.specs.WhyLaws.{refusal-told as why-told}
 use Rattle.erasure.specs.Offered.{Held, handedOn}
@@ -76,6 +80,22 @@ why-refusals t b map work p reason list = subst (λ r. RefusedBy r (whyCauses t 
 pub merge-refusals : (t : List ℕ) (one two out : Held) → RefusedBy (mergeAnswer t one two out .refusal) (mergeCauses t one two out)
 unfolding mergeRefusal
 merge-refusals t one two out = subst (λ r. RefusedBy r (mergeCauses t one two out)) (sym (refusal-told t one two out)) (refused-by (mergeCauses t one two out) refl)
+
+-- 1 to 4 of the old table; where it is accepted, 1 to 4 of the new one, 5, 15, 16, 7 and 8, as going on under a longer table reports it: "The old
+-- table counts as 01's first"
+pub record LengthenRefusals (old new : List ℕ) (carried arrivals : Held) : Type 0 where
+  pub old-first : refusal old ≢ 0 → lengthenAnswer old new carried arrivals .refusal ≡ refusal old
+  pub then-new : refusal old ≡ 0
+      → RefusedBy (lengthenAnswer old new carried arrivals .refusal) (tableCauses new ++ (ownCauses old new carried arrivals ++ ((not (calm old new carried arrivals), 8) ∷ [])))
+
+pub lengthen-refusals : (old new : List ℕ) (carried arrivals : Held) → LengthenRefusals old new carried arrivals
+unfolding lengthenRefusal
+lengthen-refusals old new carried arrivals = record {
+  old-first = λ n. lengthen-told old new carried arrivals ∙ first-decides (tableCauses old) _ n;
+  then-new = λ ok. subst (λ r. RefusedBy r (tableCauses new ++ (ownCauses old new carried arrivals ++ ((not (calm old new carried arrivals), 8) ∷ []))))
+      (sym (lengthen-told old new carried arrivals ∙ rest-decides (none-holds (tableCauses old) refl ok) _))
+      (refused-by (tableCauses new ++ (ownCauses old new carried arrivals ++ ((not (calm old new carried arrivals), 8) ∷ []))) refl);
+}
 
 -- 1 to 6, as the planner answers it
 pub planning-refusals : (t planBuffer work : List ℕ) → RefusedBy (planningAnswer t planBuffer work .refusal) (planningCauses t (length planBuffer) (length work))

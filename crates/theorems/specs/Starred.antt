@@ -5,12 +5,13 @@ use mathlib.Core.Bool.{cond}
 use mathlib.Core.List.{List, [], _∷_, _++_, map}
 use Prim.Native.Nat.{ℕ, _+_, _-_, _*_}
 use lib.ListN.{length, take, replicate}
-use Rattle.erasure.specs.Offered.{Held}
+use Rattle.erasure.specs.Offered.{Held, held}
 use Rattle.blame.specs.Blame.{blamed}
 use Rattle.erasure.specs.Restoring.{agreeing, blockIf, mapIf}
 use Rattle.faults.specs.Faults.{checkOf, byteOf}
 use Rattle.lists.specs.Lists.{from}
 use Rattle.making.specs.Making.{tableWords}
+use Rattle.lengthen.specs.Lengthen.{lengthenRefusal, lengthenAnswer, lengthenAfter}
 use Rattle.merge.specs.Merge.{mergeRefusal, mergeAnswer, mergeAfter}
 use Rattle.numerals.specs.Numerals.{digitsWithin}
 use Rattle.numbers.specs.Numbers.{numbersIn}
@@ -116,6 +117,20 @@ table21b = 2 ∷ 2 ∷ 1 ∷ 2 ∷ 2 ∷ 1 ∷ 3 ∷ 0 ∷ 1 ∷ 0 ∷ []
 abbrev table21c : List ℕ
 table21c = 2 ∷ 3 ∷ 1 ∷ 1 ∷ 2 ∷ 2 ∷ 0 ∷ 1 ∷ []
 
+-- ---- C-22: places of one byte: check [0 1 2], and the longer table with check [2 3] behind it and place 3; the same with check [0 1 3] for the first
+abbrev table22 : List ℕ
+table22 = 2 ∷ 3 ∷ 1 ∷ 1 ∷ 3 ∷ 3 ∷ 0 ∷ 1 ∷ 2 ∷ []
+
+abbrev longer22 : List ℕ
+longer22 = 2 ∷ 4 ∷ 1 ∷ 2 ∷ 3 ∷ 2 ∷ 5 ∷ 0 ∷ 1 ∷ 2 ∷ 2 ∷ 3 ∷ []
+
+abbrev other22 : List ℕ
+other22 = 2 ∷ 4 ∷ 1 ∷ 2 ∷ 3 ∷ 2 ∷ 5 ∷ 0 ∷ 1 ∷ 3 ∷ 2 ∷ 3 ∷ []
+
+-- arrivals with 08 where nothing arrives
+abbrev nothing22 : Held
+nothing22 = held (0x08 ∷ 0x08 ∷ 0x08 ∷ 0x08 ∷ []) (1 ∷ 1 ∷ 1 ∷ 1 ∷ [])
+
 -- P2's block with 2, 4, 5 lost; as it is afterwards, none of them restored
 abbrev lost245 : List ℕ
 lost245 = 0x01 ∷ 0x02 ∷ 0xff ∷ 0x0e ∷ 0xff ∷ 0xff ∷ 0x0d ∷ []
@@ -181,6 +196,11 @@ abbrev pub mergedBy : List ℕ → Held → Held → List (List ℕ)
 mergedBy t one two = let out : Held = record { block = replicate (length (one .block)) 9; map = replicate (length (one .map)) 255 } in let r = mergeAnswer t one two out in
     (r .refusal ∷ r .agreed ∷ r .single ∷ r .silent ∷ r .clash ∷ []) ∷ (r .restored ∷ r .lost ∷ r .additions ∷ []) ∷ (r .check ∷ r .byte ∷ [])
     ∷ mergeAfter t one two out .block ∷ mergeAfter t one two out .map ∷ []
+
+-- going on under a longer table: refusal, restored, still lost and additions, the check and its byte, the block and the map
+abbrev pub lengthened : List ℕ → List ℕ → Held → Held → List (List ℕ)
+lengthened old new carried arrivals = let r = lengthenAnswer old new carried arrivals in
+    (r .refusal ∷ r .restored ∷ r .lost ∷ r .additions ∷ []) ∷ (r .check ∷ r .byte ∷ []) ∷ lengthenAfter old new carried arrivals .block ∷ lengthenAfter old new carried arrivals .map ∷ []
 
 -- verification: refusal, 1 for a codeword and 0 for none, the check and its byte
 abbrev pub verified : List ℕ → List ℕ → List (List ℕ)
@@ -265,6 +285,17 @@ starred =
     ∷ record { given = mergedBy table12 (record { block = 0x05 ∷ 0xff ∷ 0x01 ∷ []; map = 0 ∷ 1 ∷ 0 ∷ [] }) (record { block = 0x04 ∷ 0xff ∷ 0xff ∷ []; map = 0 ∷ 1 ∷ 1 ∷ [] }); wanted = (8 ∷ 0 ∷ 0 ∷ 0 ∷ 0 ∷ []) ∷ (0 ∷ 0 ∷ 0 ∷ []) ∷ (2 ∷ 0 ∷ []) ∷ (0x00 ∷ 0x00 ∷ 0x01 ∷ []) ∷ (1 ∷ 1 ∷ 0 ∷ []) ∷ [] }
     -- C-19: a byte of 2 in a listener's map: refusal 7, third block and map as they were
     ∷ record { given = mergedBy tableA hears1 (record { block = block2; map = 0 ∷ 0 ∷ 0 ∷ 0 ∷ 0 ∷ 0 ∷ 2 ∷ [] }); wanted = (7 ∷ 0 ∷ 0 ∷ 0 ∷ 0 ∷ []) ∷ (0 ∷ 0 ∷ 0 ∷ []) ∷ (0 ∷ 0 ∷ []) ∷ replicate 7 9 ∷ replicate 7 255 ∷ [] }
+    -- C-22: 02 received at place 1; 03 arrives at the new place 3, and 08 at place 1 once more, which is ignored. What the new place held, 09 and 7, doesn't count
+    ∷ record { given = lengthened table22 longer22 (held (0x00 ∷ 0x02 ∷ 0x00 ∷ 0x09 ∷ []) (1 ∷ 0 ∷ 1 ∷ 7 ∷ [])) (held (0x08 ∷ 0x08 ∷ 0x08 ∷ 0x03 ∷ []) (1 ∷ 0 ∷ 1 ∷ 0 ∷ [])); wanted = (0 ∷ 2 ∷ 0 ∷ 3 ∷ []) ∷ (0 ∷ 0 ∷ []) ∷ (0x01 ∷ 0x02 ∷ 0x03 ∷ 0x03 ∷ []) ∷ (2 ∷ 0 ∷ 2 ∷ 0 ∷ []) ∷ [] }
+    -- C-22: place 0 restored earlier stays 2 and isn't counted again
+    ∷ record { given = lengthened table22 longer22 (held (0x01 ∷ 0x02 ∷ 0x03 ∷ 0x09 ∷ []) (2 ∷ 0 ∷ 0 ∷ 1 ∷ [])) nothing22; wanted = (0 ∷ 1 ∷ 0 ∷ 1 ∷ []) ∷ (0 ∷ 0 ∷ []) ∷ (0x01 ∷ 0x02 ∷ 0x03 ∷ 0x03 ∷ []) ∷ (2 ∷ 0 ∷ 0 ∷ 2 ∷ []) ∷ [] }
+    -- C-22: "with 8 the map stays as then entered": 04 arrives at place 2, where 03 would do; check 0 fails, and place 3 is lost
+    ∷ record { given = lengthened table22 longer22 (held (0x01 ∷ 0x02 ∷ 0xff ∷ 0x09 ∷ []) (2 ∷ 0 ∷ 1 ∷ 0 ∷ [])) (held (0x08 ∷ 0x08 ∷ 0x04 ∷ 0x08 ∷ []) (1 ∷ 1 ∷ 0 ∷ 1 ∷ [])); wanted = (8 ∷ 0 ∷ 0 ∷ 0 ∷ []) ∷ (0 ∷ 0 ∷ []) ∷ (0x01 ∷ 0x02 ∷ 0x04 ∷ 0x00 ∷ []) ∷ (2 ∷ 0 ∷ 0 ∷ 1 ∷ []) ∷ [] }
+    -- C-22: an unchanged table; a place of a check changed, and the tables exchanged: 15; a carried 3 at an old place: 16, also before 7
+    ∷ record { given = lengthened table22 table22 (held (0x01 ∷ 0x02 ∷ 0xff ∷ []) (2 ∷ 0 ∷ 1 ∷ [])) (held (0x08 ∷ 0x08 ∷ 0x03 ∷ []) (1 ∷ 1 ∷ 0 ∷ [])); wanted = (0 ∷ 0 ∷ 0 ∷ 0 ∷ []) ∷ (0 ∷ 0 ∷ []) ∷ (0x01 ∷ 0x02 ∷ 0x03 ∷ []) ∷ (2 ∷ 0 ∷ 0 ∷ []) ∷ [] }
+    ∷ record { given = lengthened table22 other22 (held (0x01 ∷ 0x02 ∷ 0x03 ∷ 0x09 ∷ []) (2 ∷ 0 ∷ 3 ∷ 1 ∷ [])) nothing22; wanted = (15 ∷ 0 ∷ 0 ∷ 0 ∷ []) ∷ (0 ∷ 0 ∷ []) ∷ (0x01 ∷ 0x02 ∷ 0x03 ∷ 0x09 ∷ []) ∷ (2 ∷ 0 ∷ 3 ∷ 1 ∷ []) ∷ [] }
+    ∷ record { given = lengthened longer22 table22 (held (0x01 ∷ 0x02 ∷ 0xff ∷ []) (2 ∷ 0 ∷ 1 ∷ [])) (held (0x08 ∷ 0x08 ∷ 0x03 ∷ []) (1 ∷ 1 ∷ 0 ∷ [])); wanted = (15 ∷ 0 ∷ 0 ∷ 0 ∷ []) ∷ (0 ∷ 0 ∷ []) ∷ (0x01 ∷ 0x02 ∷ 0xff ∷ []) ∷ (2 ∷ 0 ∷ 1 ∷ []) ∷ [] }
+    ∷ record { given = lengthened table22 longer22 (held (0x01 ∷ 0x02 ∷ 0x03 ∷ 0x09 ∷ []) (3 ∷ 0 ∷ 0 ∷ 3 ∷ [])) (held (0x08 ∷ 0x08 ∷ 0x08 ∷ 0x08 ∷ []) (1 ∷ 1 ∷ 1 ∷ 2 ∷ [])); wanted = (16 ∷ 0 ∷ 0 ∷ 0 ∷ []) ∷ (0 ∷ 0 ∷ []) ∷ (0x01 ∷ 0x02 ∷ 0x03 ∷ 0x09 ∷ []) ∷ (3 ∷ 0 ∷ 0 ∷ 3 ∷ []) ∷ [] }
     -- C-15: P10's table, 3 0/0 0/0 0 0///// with / as line end, both ways
     ∷ record { given = texted table10; wanted = (0 ∷ 0 ∷ 18 ∷ []) ∷ (51 ∷ 32 ∷ 48 ∷ 10 ∷ 48 ∷ 32 ∷ 48 ∷ 10 ∷ 48 ∷ 32 ∷ 48 ∷ 32 ∷ 48 ∷ 10 ∷ 10 ∷ 10 ∷ 10 ∷ 10 ∷ []) ∷ table10 ∷ [] }
     -- C-16: A's plan with packets of three bytes; byte position 0 is P2's case
@@ -301,7 +332,7 @@ starred =
     ∷ []
 
 pub starred-cases : map (λ c. c .given) starred ≡ map (λ c. c .wanted) starred
-unfolding planningRefusalAt encodeRefusalAt repairRefusal mergeRefusal blamed fullRefusal verifyRefusal lowestNonzero planOfBy numbersBy alistWriteRefusalAt alistReadRefusalAt alistText alistTable numbersIn digitsWithin from
+unfolding planningRefusalAt encodeRefusalAt repairRefusal mergeRefusal lengthenRefusal blamed fullRefusal verifyRefusal lowestNonzero planOfBy numbersBy alistWriteRefusalAt alistReadRefusalAt alistText alistTable numbersIn digitsWithin from
 starred-cases = refl
 
 -- C-21's, for themselves: one statement computes so much and no more
