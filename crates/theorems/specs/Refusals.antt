@@ -1,7 +1,7 @@
 -- Refusals of all calls, said in one way: 0 is answered exactly if no cause of the call holds, and each number exactly if its cause
 -- holds and none before it in the call's order (`RefusedBy`, table/specs/FirstCause.antt).
 use mathlib.Core.Path.{_≡_, refl, sym, _∙_, subst}
-use mathlib.Core.Bool.{not}
+use mathlib.Core.Bool.{Bool, not}
 use mathlib.Core.List.{List, [], _∷_, _++_}
 use mathlib.Core.Logic.{_≢_}
 use mathlib.Core.Option.{Option, none, some}
@@ -83,18 +83,20 @@ merge-refusals t one two out = subst (λ r. RefusedBy r (mergeCauses t one two o
 
 -- 1 to 4 of the old table; where it is accepted, 1 to 4 of the new one, 5, 15, 16, 7 and 8, as going on under a longer table reports it: "The old
 -- table counts as 01's first"
+abbrev pub newCauses : List ℕ → List ℕ → Held → Held → List (Bool × ℕ)
+newCauses old new carried arrivals = tableCauses new ++ (ownCauses old new carried arrivals ++ ((not (calm old new carried arrivals), 8) ∷ []))
+
 pub record LengthenRefusals (old new : List ℕ) (carried arrivals : Held) : Type 0 where
   pub old-first : refusal old ≢ 0 → lengthenAnswer old new carried arrivals .refusal ≡ refusal old
-  pub then-new : refusal old ≡ 0
-      → RefusedBy (lengthenAnswer old new carried arrivals .refusal) (tableCauses new ++ (ownCauses old new carried arrivals ++ ((not (calm old new carried arrivals), 8) ∷ [])))
+  pub then-new : refusal old ≡ 0 → RefusedBy (lengthenAnswer old new carried arrivals .refusal) (newCauses old new carried arrivals)
 
 pub lengthen-refusals : (old new : List ℕ) (carried arrivals : Held) → LengthenRefusals old new carried arrivals
 unfolding lengthenRefusal
 lengthen-refusals old new carried arrivals = record {
-  old-first = λ n. lengthen-told old new carried arrivals ∙ first-decides (tableCauses old) _ n;
-  then-new = λ ok. subst (λ r. RefusedBy r (tableCauses new ++ (ownCauses old new carried arrivals ++ ((not (calm old new carried arrivals), 8) ∷ []))))
-      (sym (lengthen-told old new carried arrivals ∙ rest-decides (none-holds (tableCauses old) refl ok) _))
-      (refused-by (tableCauses new ++ (ownCauses old new carried arrivals ++ ((not (calm old new carried arrivals), 8) ∷ []))) refl);
+  old-first = λ n. lengthen-told old new carried arrivals ∙ first-decides (tableCauses old) (newCauses old new carried arrivals) n;
+  then-new = λ ok. subst (λ r. RefusedBy r (newCauses old new carried arrivals))
+      (sym (lengthen-told old new carried arrivals ∙ rest-decides (none-holds (tableCauses old) refl ok) (newCauses old new carried arrivals)))
+      (refused-by (newCauses old new carried arrivals) refl);
 }
 
 -- 1 to 6, as the planner answers it
