@@ -16,7 +16,7 @@ use Rattle.start.specs.Start.{Lent, startOf, slotsIn, PreparedFor}
 use Rattle.start.specs.StartLaws.{slots-length, slots-held, start-alike}
 use Rattle.encoder.specs.Encoding.{slotsAfter, wrongLengths, EncodeAnswer, refusedBy, encodeRefusal, encodeAnswer, encodeBlockAfter, encodeScratchAfter}
 use Rattle.encoder.specs.EncodingLaws.{AcceptedEncoding, not-refused-at, refused-answer, refused-keeps-block, refused-keeps-scratch, accepted-answer, accepted-block, accepted-scratch, limit-least}
-use Rattle.encoder.specs.Running.{Ran}
+use Rattle.running.specs.Running.{Ran}
 
 -- packets are few and short
 pub product-small : (a b : ℕ) → a ≤ mostPlaces → b ≤ mostBytes → a * b ≤ mostPlaces * mostBytes

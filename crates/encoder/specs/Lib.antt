@@ -2,4 +2,3 @@ pub mod Answers
 pub mod AnySize
 pub mod Encoding
 pub mod EncodingLaws
-pub mod Running

@@ -8,7 +8,7 @@ use lib.Seq.{take-at}
 use Rattle.table.specs.Table.{refusal}
 use Rattle.plan.specs.Step.{addSteps}
 use Rattle.plan.specs.Layout.{planRefusal, mostAside}
-use Rattle.planner.specs.declared.Planned.{Planned}
+use Rattle.planning.specs.declared.Planned.{Planned}
 use Rattle.planner.specs.Planning.{planOf, numbersOf, planningAnswerOf, planningAnswerAt, planningRefusal, planningAnswer, planningPlanAfter, planningRefusalAt, workWords}
 use Rattle.planner.specs.PlanningLaws.{accepted-planning}
 use Rattle.theorems.specs.OwnPlan.{byRule, own-accepted}

@@ -1,5 +1,5 @@
 // The planner's own plan, for the programs.
-use planner::Planned;
+use planning::Planned;
 ghost use mathlib.Core.Path.{_≡_};
 ghost use Rattle.planner.specs.Planning.{planningAnswerOf, planningAnswer, planningPlanAfter};
 ghost use Rattle.own_plan.specs.Own.{lentWork};

@@ -1,3 +1,2 @@
-pub mod AnySize
 pub mod Planning
 pub mod PlanningLaws

@@ -2,7 +2,7 @@
 use mathlib.Core.Path.{_≡_}
 use native.Mathlib.Omega.{arith}
 use Rattle.table.specs.Table.{refusal}
-use Rattle.planner.proofs.Refusals.{by-table, short-plan, wrong-work, outcome-of}
+use Rattle.planning.specs.Refusals.{by-table, short-plan, wrong-work, outcome-of}
 use borrow.Author.Needs.{needs}
 use Rattle.planner.proofs.plan.Statement.{statement}
 use Rattle.planner.proofs.plan.Tie as tie

@@ -3,7 +3,7 @@ use mathlib.Core.Path.{_≡_, refl}
 use native.Mathlib.Omega.{arith}
 use Rattle.table.specs.ChecksLaws.{limits, has-weights}
 use Rattle.table.specs.Table.{number}
-use Rattle.planner.proofs.Refusals.{many-aside, served, gap-is, outcome-as}
+use Rattle.planning.specs.Refusals.{many-aside, served, gap-is, outcome-as}
 use borrow.Author.Needs.{needs}
 use Rattle.planner.proofs.plan_table.Statement.{statement}
 use Rattle.planner.proofs.plan_table.Tie as tie

@@ -1,15 +1,15 @@
--- `encoder::run` meets its contract: the slots are what the steps so far give, and the count is theirs.
+-- `running::run` meets its contract: the slots are what the steps so far give, and the count is theirs.
 use Prim.Native.Nat.{ℕ, _-_, _<_, _≤_}
 use mathlib.Core.Path.{_≡_, refl, _∙_}
 use lib.ListN.{length, length-replicate}
 use Rattle.plan.specs.Layout.{stepCount, stepsOf}
-use Rattle.encoder.specs.Running.{Ran}
+use Rattle.running.specs.Running.{Ran}
 use Rattle.plan.specs.LayoutLaws.{well}
-use Rattle.encoder.proofs.RunLaws.{adds-within, ran-none, skip-most, found, run-at, run-within, run-goes, ran-run}
+use Rattle.running.proofs.RunLaws.{adds-within, ran-none, skip-most, found, run-at, run-within, run-goes, ran-run}
 use borrow.Author.Needs.{needs}
 use native.Mathlib.Omega.{arith}
-use Rattle.encoder.proofs.run.Statement.{statement}
-use Rattle.encoder.proofs.run.Tie as tie
+use Rattle.running.proofs.run.Statement.{statement}
+use Rattle.running.proofs.run.Tie as tie
 
 abbrev Inv-loop : tie.InvT-loop
 Inv-loop plan s steps block₀ scratch₀ n at sources₀ additions₀ i₀ block scratch sources additions i =

@@ -16,7 +16,7 @@ use Rattle.plan.specs.Steps.{carryOut, carryOutAll}
 use Rattle.slots.specs.Runs.{stepIn, isClear, targetOf, adding, runSteps, sourcesOf, RunAt}
 use Rattle.slots.specs.RunLaws.{step-there, sources-within, sources-are, sources-some}
 use Rattle.slots.specs.Slots.{RunAmong, Gathers}
-use Rattle.encoder.specs.Running.{Ran}
+use Rattle.running.specs.Running.{Ran}
 use Rattle.runs.specs.GatherLaws.{gathers-all, run-gives}
 use Rattle.slots.specs.SlotLaws.{slot-in, holds-as}
 

@@ -12,7 +12,7 @@ use Rattle.table.specs.Table.{mostBytes, size, atSize, outside}
 use Rattle.plan.specs.Layout.{mostAside, planNumbers}
 use Rattle.plan.specs.Step.{addSteps}
 use Rattle.rule.specs.Rule.{plan, Plan}
-use Rattle.planner.specs.Planning.{workWords, planOf, numbersOf, wrongLengths, planningRefusalAt, PlanningAnswer, planningAnswerAt, planningRefusal, planningAnswer, planningPlanAfter, planningWorkAfter, numbersBy, planOfBy}
+use Rattle.planning.specs.Planning.{workWords, planOf, numbersOf, wrongLengths, planningRefusalAt, PlanningAnswer, planningAnswerAt, planningRefusal, planningAnswer, planningPlanAfter, planningWorkAfter, numbersBy, planOfBy}
 
 -- planning by the tables t and u comes to the same: answer, plan buffer and work
 pub record SamePlanning (t u planBuffer workBuffer : List ℕ) : Type 0 where

@@ -1,10 +1,10 @@
--- `planner::write_out` meets its contract: the places fitted, and the plan composed.
+-- `plan_out::write_out` meets its contract: the places fitted, and the plan composed.
 use native.Mathlib.Omega.{arith}
 use Rattle.table.specs.Accepted.{has-weights}
-use Rattle.planner.proofs.Writing.{fit-ready, plan-ready, number-kept, kept-fits, ones-fit, length-fits, adds-fit, written-out}
+use Rattle.plan_out.proofs.Writing.{fit-ready, plan-ready, number-kept, kept-fits, ones-fit, length-fits, adds-fit, written-out}
 use borrow.Author.Needs.{needs}
-use Rattle.planner.proofs.write_out.Statement.{statement}
-use Rattle.planner.proofs.write_out.Tie as tie
+use Rattle.plan_out.proofs.write_out.Statement.{statement}
+use Rattle.plan_out.proofs.write_out.Tie as tie
 
 shared-slice-read-wide : tie.Need-shared-slice-read-wide
 shared-slice-read-wide c =

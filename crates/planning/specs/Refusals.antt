@@ -13,8 +13,8 @@ use Rattle.plan.specs.Layout.{mostAside, leastPlan}
 use Rattle.rule.specs.Buffers.{peeling}
 use Rattle.rule.specs.PlanOf.{planOf, withNumbers, planOfBy}
 use Rattle.rule.specs.Rule.{setAsideOf}
-use Rattle.planner.specs.Planning.{workWords, refusedBy, planningAnswerAt, planningRefusal, planningAnswer, planningPlanAfter, planningWorkAfter, PlanningAnswer}
-use Rattle.planner.specs.PlanningLaws.{table-refused, plan-short, work-wrong, gap-decides}
+use Rattle.planning.specs.Planning.{workWords, refusedBy, planningAnswerAt, planningRefusal, planningAnswer, planningPlanAfter, planningWorkAfter, PlanningAnswer}
+use Rattle.planning.specs.PlanningLaws.{table-refused, plan-short, work-wrong, gap-decides}
 
 -- the call as it answers r, and leaves the plan and the work
 pub record Outcome (t P W : List ℕ) (r : PlanningAnswer) (plan work : List ℕ) : Type 0 where

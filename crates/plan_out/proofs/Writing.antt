@@ -21,8 +21,8 @@ use Rattle.rule.specs.Rule.{kept}
 use Rattle.peel.specs.Choice.{ChoiceOf}
 use Rattle.columns.specs.Fitting.{Ready}
 use Rattle.compose.specs.Compose.{Phases, Composed}
-use Rattle.planner.specs.Planning.{planningAnswerAt, PlanningAnswer}
-use Rattle.planner.proofs.Refusals.{gap-is}
+use Rattle.planning.specs.Planning.{planningAnswerAt, PlanningAnswer}
+use Rattle.planning.specs.Refusals.{gap-is}
 
 adds-few : (xs : List Step) → addSteps xs ≤ length xs
 adds-few [] = omega arith

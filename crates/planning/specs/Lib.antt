@@ -1,0 +1,4 @@
+pub mod AnySize
+pub mod Planning
+pub mod PlanningLaws
+pub mod Refusals
