@@ -12,8 +12,8 @@
  * 6,144. Checks are numbered from 0, and so are the bytes of a packet.
  *
  * No call writes a byte that isn't named here. Lengths count elements, not
- * bytes. Buffers lent to one call don't overlap, and a pointer isn't null even
- * where its length is 0.
+ * bytes. Buffers lent to one call don't overlap, but for two that are only read;
+ * and a pointer isn't null even where its length is 0.
  *
  * refusal is 0 if the call was accepted. A refused call gives 0 in all other
  * fields, but for check and byte with 8 of bs_repair, bs_merge and bs_lengthen,
@@ -246,8 +246,9 @@ bs_merged bs_merge(const uint16_t *table, size_t table_len,
  * after the old ones, which are those below the old n. Every table is a
  * lengthening of itself, and a lengthening of a lengthening is one of the first
  * table. So a block can be gone on with again and again, also where only packets
- * have come and the table is still the same. Tables of bs_staircase with
- * different packet counts aren't lengthenings of each other.
+ * have come and the table is still the same; old_table and new_table may then be
+ * one table. Tables of bs_staircase with different packet counts are in general
+ * no lengthenings of each other, since their fill depends on the number of checks.
  *
  * n and s are the new table's from here on. block has n * s bytes and map n
  * bytes. To carry over, put block and map as the repair left them at the start
@@ -277,7 +278,7 @@ bs_merged bs_merge(const uint16_t *table, size_t table_len,
  * the call isn't refused with 8; and block, and which places are lost, are as
  * bs_repair leaves them under the new table from all packets received so far.
  * Marks 0 and 2 can differ from its: a place restored before its packet came
- * stays 2.
+ * stays 2. What such a call leaves can be carried over again, with the same promise.
  *
  * Refusals: 1 to 4 of the old table, 1 to 4 of the new one, 5, 15, 16, 7 and 8,
  * the first of these in this order. 5 is judged of each of the four buffers, by

@@ -485,7 +485,7 @@ fn arrive(rng: &mut Rng, n: usize) -> Vec<u8> {
     }
 }
 
-/// A pass in three to five parts. The second goes on with the first one's table at times.
+/// A pass in two to five parts. The second goes on with the first one's table at times.
 fn pass_case(rng: &mut Rng) -> Result<(), String> {
     let [first, second] = two_tables(rng);
     let mut tables = vec![first, second];

@@ -33,7 +33,7 @@ module _ (s n k : ℕ) (carried arrivals : Held) where
   pub mark-at : (p : ℕ) → p < k → getD (entered s n carried arrivals k .map) p 0 ≡ markOf (entryAt s n carried arrivals p)
   mark-at p h = map-from-at (λ q. markOf (entryAt s n carried arrivals q)) 0 k p h
 
-  pub lost-inside-of : (p : ℕ) → isLost (entered s n carried arrivals k .map) p ≡ true → p < k
+  lost-inside-of : (p : ℕ) → isLost (entered s n carried arrivals k .map) p ≡ true → p < k
   lost-inside-of p e = subst (λ j. p < j) marks-length (lost-inside (entered s n carried arrivals k .map) p e)
 
   pub lost-lacks : (p : ℕ) → isLost (entered s n carried arrivals k .map) p ≡ true → Lacking n k carried arrivals p

@@ -53,8 +53,8 @@ module _ (a b : ℕ) (x y : List ℕ) where
   entered-word w first second s = by-cases (λ e. markOf e ≢ 1 → packetOf s e ≡ w) (λ n z. first n) (λ e f z. second f) (λ e f z. absurd (z refl))
 
 -- "Old bytes at lost places never count", nor do arrivals at known places
-pub entry-alike : (a b : ℕ) (x y u v : List ℕ) → (a ≢ 1 → x ≡ u) → (a ≡ 1 → b ≡ 0 → y ≡ v) → entry a b x y ≡ entry a b u v
-entry-alike a b x y u v first second = by-cases a b x y (λ e. e ≡ entry a b u v)
-    (λ n. ap (known a) (first n) ∙ sym (entry-known a b u v n))
-    (λ e f. ap arrived (second e f) ∙ sym (entry-arrived a b u v e f))
-    (λ e f. sym (entry-missing a b u v e f))
+pub entry-alike : (a b c : ℕ) (x y u v : List ℕ) → (a ≢ 1 → x ≡ u) → (a ≡ 1 → b ≡ c) → (a ≡ 1 → b ≡ 0 → y ≡ v) → entry a b x y ≡ entry a c u v
+entry-alike a b c x y u v first marks second = by-cases a b x y (λ e. e ≡ entry a c u v)
+    (λ n. ap (known a) (first n) ∙ sym (entry-known a c u v n))
+    (λ e f. ap arrived (second e f) ∙ sym (entry-arrived a c u v e (sym (marks e) ∙ f)))
+    (λ e f. sym (entry-missing a c u v e (λ z. f (marks e ∙ z))))

@@ -10,8 +10,8 @@ use Rattle.entering.specs.Entering.{entered}
 use Rattle.erasure.specs.Offered.{Held}
 use Rattle.erasure.specs.Restoring.{agreeing, blockIf, mapIf, Counts, countsIf}
 use Rattle.faults.specs.FaultLaws.{no-fault}
-use Rattle.lengthen.specs.Lengthen.{start, lengthenOutcome, lengthenFault, offerCauses, lengthenRefusal, Answers}
-use Rattle.lengthen.specs.LengthenLaws.{LengthenFitting, offer-refused, not-eight, agreed-refusal, contradicted-refusal, after-accepted, after-contradicted, zeroed-already}
+use Rattle.lengthen.specs.Lengthen.{start, lengthenOutcome, lengthenFault, offerCauses, lengthenRefusal, Answers, LengthenFitting}
+use Rattle.lengthen.specs.LengthenLaws.{offer-refused, not-eight, agreed-refusal, contradicted-refusal, after-accepted, after-contradicted, zeroed-already}
 use Rattle.lengthen.specs.LengthenTheorems.{refused-lengthening}
 use Rattle.packets.specs.Filling.{Sized}
 use Rattle.report.specs.Report.{repairAnswerOf, acceptedWith, refusedWith}

@@ -20,9 +20,9 @@ use Rattle.erasure.specs.OutcomeLaws.{outcome-length, outcome-sized}
 use Rattle.erasure.specs.Restoring.{AgreeThere, outcome, agreeing, isLost, Stopping, Largest}
 use Rattle.erasure.specs.RestoringLaws.{lost-inside}
 use Rattle.lengthen.specs.Carrying.{Carried, SoFar}
-use Rattle.lengthen.specs.FirstPackets.{firstOf, first-part, first-codeword}
-use Rattle.lengthen.specs.Lengthen.{start, lengthenOutcome, lengthenRefusal, lengthenAfter}
-use Rattle.lengthen.specs.LengthenLaws.{LengthenFitting, calm, agreed-refusal, after-accepted, start-block, start-map, entered-there}
+use Rattle.lengthen.specs.FirstPackets.{firstOf, first-part, first-codeword, first-agrees, so-far-agrees}
+use Rattle.lengthen.specs.Lengthen.{start, lengthenOutcome, lengthenRefusal, lengthenAfter, calm, LengthenFitting}
+use Rattle.lengthen.specs.LengthenLaws.{agreed-refusal, after-accepted, start-block, start-map, entered-there}
 use Rattle.lists.specs.ListLaws.{all-map, all-zip, filter-same}
 use Rattle.lists.specs.Tests.{eqb-true, byBool, and-l, and-r, side}
 use Rattle.longer.specs.Longer.{Lengthens}
@@ -67,7 +67,7 @@ module _ (old new : List ℕ) (carried arrivals first : Held) (w : List ℕ) (f 
   -- ---- packets
   -- what was received at first is the word's first packets
   first-there : AgreeThere old (first .block) (first .map) (firstOf old w)
-  first-there = agree-there old (first .block) (first .map) offered (firstOf old w) (λ p h e. right p h e ∙ sym (first-part old w p h))
+  first-there = agree-there old (first .block) (first .map) offered (firstOf old w) (first-agrees old (first .block) (first .map) w right)
 
   -- so is what is carried as known
   carried-word : (p : ℕ) → p < places old → isLost (carried .map) p ≡ false → partAt (size new) p (carried .block) ≡ partAt (size new) p w
@@ -81,10 +81,10 @@ module _ (old new : List ℕ) (carried arrivals first : Held) (w : List ℕ) (f 
   start-there = entered-there old new carried arrivals f w carried-word arrive
 
   -- so nothing contradicts
-  pub start-agrees : calm old new carried arrivals ≡ true
+  start-agrees : calm old new carried arrivals ≡ true
   start-agrees = word-agrees new b map (f .new-table) (start-block old new carried arrivals f) w word start-there
 
-  pub not-refused-then : lengthenRefusal old new carried arrivals ≡ 0
+  not-refused-then : lengthenRefusal old new carried arrivals ≡ 0
   not-refused-then = agreed-refusal old new carried arrivals f start-agrees
 
   -- every place that isn't lost then holds the word's packet
@@ -95,11 +95,8 @@ module _ (old new : List ℕ) (carried arrivals first : Held) (w : List ℕ) (f 
   -- ---- against a fresh repair of all packets received so far
   module _ (all : Held) (so-far : SoFar old new first arrivals all) where
     -- they are the word's
-    pub all-right : Agree new (all .block) (all .map) w
-    all-right p h e = ⊎-elim
-        (λ r. so-far .from-first p (r .0) (r .1) .1 ∙ subst (λ s. partAt s p (first .block) ≡ partAt s p w) (l .same-size) (right p (r .0) (r .1)))
-        (λ r. so-far .from-arrivals p h r .1 ∙ arrive p h r)
-        (so-far .no-other p h e)
+    all-right : Agree new (all .block) (all .map) w
+    all-right = so-far-agrees old new first arrivals all w (l .same-size) so-far right arrive
 
     all-there : AgreeThere new (all .block) (all .map) w
     all-there = agree-there new (all .block) (all .map) (so-far .fits) w all-right

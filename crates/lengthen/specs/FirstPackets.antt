@@ -1,12 +1,15 @@
--- The first packets of a codeword of the new table are one of the old.
+-- The first packets of a codeword of the new table are one of the old. And packets that agree with it.
 use mathlib.Core.Path.{_≡_, sym, ap, _∙_, subst}
 use mathlib.Core.List.{List, []}
+use mathlib.Core.Logic.{⊎-elim}
 use Prim.Native.Nat.{ℕ, _*_, _<_, _≤_}
 use native.Mathlib.Nat.{mul-le-mul-right}
 use native.Mathlib.Omega.{arith}
 use lib.ListN.{length, getD, take, replicate}
 use lib.Seq.{length-take-le}
+use Rattle.erasure.specs.Offered.{Held, Agree}
 use Rattle.erasure.specs.Values.{sum-agree}
+use Rattle.lengthen.specs.Carrying.{SoFar}
 use Rattle.lists.specs.ListLaws.{all-map, all-zip}
 use Rattle.lists.specs.Lists.{All}
 use Rattle.longer.specs.Longer.{Lengthens}
@@ -42,3 +45,15 @@ first-codeword old new w ok l word = record {
   where
     fewer : (s : ℕ) → s ≡ size new → places old * s ≤ length w
     fewer s e = let h = mul-le-mul-right s (l .more-places) in let k : length w ≡ places new * s = word .size-fits ∙ ap (λ x. places new * x) (sym e) in omega arith
+
+-- packets that agree with a word agree with its first packets
+pub first-agrees : (t b map w : List ℕ) → Agree t b map w → Agree t b map (firstOf t w)
+first-agrees t b map w right p h e = right p h e ∙ sym (first-part t w p h)
+
+-- and so do all packets received so far, if those received at first and those that have arrived do
+pub so-far-agrees : (old new : List ℕ) (first arrivals all : Held) (w : List ℕ) → size old ≡ size new → SoFar old new first arrivals all
+    → Agree old (first .block) (first .map) w → Agree new (arrivals .block) (arrivals .map) w → Agree new (all .block) (all .map) w
+so-far-agrees old new first arrivals all w same so-far right arrive p h e = ⊎-elim
+    (λ r. so-far .from-first p (r .0) (r .1) .1 ∙ subst (λ s. partAt s p (first .block) ≡ partAt s p w) same (right p (r .0) (r .1)))
+    (λ r. so-far .from-arrivals p h r .1 ∙ arrive p h r)
+    (so-far .no-other p h e)

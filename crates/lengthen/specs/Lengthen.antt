@@ -4,9 +4,9 @@ use mathlib.Core.Path.{_≡_}
 use mathlib.Core.Bool.{Bool, true, false, not, _||_}
 use mathlib.Core.List.{List, [], _∷_, _++_}
 use mathlib.Core.Option.{Option}
-use Prim.Native.Nat.{ℕ, zero, suc, _-_}
+use Prim.Native.Nat.{ℕ, zero, suc, _-_, _*_}
 use lib.Dec.{eqb, ltb}
-use lib.ListN.{take}
+use lib.ListN.{length, take}
 use Rattle.entering.specs.Entering.{entered}
 use Rattle.erasure.specs.Offered.{Held, wrongLengths, byteOver, handedOn}
 use Rattle.erasure.specs.Restoring.{State, tally, outcome, contradicting, agreeing}
@@ -17,7 +17,7 @@ use Rattle.report.specs.Report.{RepairAnswer, acceptedWith, refusedWith, repair
 use Rattle.report.specs.declared.Repaired.{Repaired}
 use Rattle.table.specs.FirstCause.{firstCause}
 use Rattle.table.specs.Packets.{joined}
-use Rattle.table.specs.Table.{places, size, tableCauses}
+use Rattle.table.specs.Table.{places, size, tableCauses, refusal}
 
 -- by the refusal's number, 0 for none, the map as entered, what restoring comes to, and what is handed on. "The reported counts are this
 -- call's alone": restored is what was lost as entered and no longer is
@@ -39,6 +39,10 @@ module _ (old new : List ℕ) (carried arrivals : Held) where
   abbrev pub lengthenFault : Option Fault
   lengthenFault = contradicting new (start .block) (start .map)
 
+  -- nothing contradicts
+  abbrev pub calm : Bool
+  calm = agreeing new (start .block) (start .map)
+
   -- ---- the causes
   -- 5: "Block and map have the new table's lengths; arrivals come in a block and map .. of those lengths too"
   abbrev pub wrongEither : Bool
@@ -52,12 +56,17 @@ module _ (old new : List ℕ) (carried arrivals : Held) where
   abbrev pub ownCauses : List (Bool × ℕ)
   ownCauses = (wrongEither, 5) ∷ (not (lengthens old new), 15) ∷ (carriedOver, 16) ∷ (byteOver (arrivals .map), 7) ∷ []
 
-  -- all but 8: "The old table counts as 01's first"
+  -- those of the new table, and what comes behind them
+  abbrev pub newCauses : List (Bool × ℕ)
+  newCauses = tableCauses new ++ (ownCauses ++ ((not calm, 8) ∷ []))
+
+  -- "The old table counts as 01's first"
+  abbrev pub lengthenCauses : List (Bool × ℕ)
+  lengthenCauses = tableCauses old ++ newCauses
+
+  -- all but 8
   abbrev pub offerCauses : List (Bool × ℕ)
   offerCauses = tableCauses old ++ (tableCauses new ++ ownCauses)
-
-  abbrev pub lengthenCauses : List (Bool × ℕ)
-  lengthenCauses = offerCauses ++ ((not (agreeing new (start .block) (start .map)), 8) ∷ [])
 
   unfoldable pub lengthenRefusal : ℕ
   lengthenRefusal = firstCause lengthenCauses
@@ -72,6 +81,18 @@ module _ (old new : List ℕ) (carried arrivals : Held) where
     | true ↦ record { block = joined (lengthenOutcome .block); map = lengthenOutcome .map }
     | false ↦ elim (eqb lengthenRefusal 8) [ true ↦ start | false ↦ carried ]
   ]
+
+  -- a call that nothing before 8 refuses
+  pub record LengthenFitting : Type 0 where
+    pub old-table : refusal old ≡ 0
+    pub new-table : refusal new ≡ 0
+    pub block-length : length (carried .block) ≡ places new * size new
+    pub map-length : length (carried .map) ≡ places new
+    pub arrivals-length : length (arrivals .block) ≡ places new * size new
+    pub arrived-length : length (arrivals .map) ≡ places new
+    pub longer : lengthens old new ≡ true
+    pub carried-bytes : carriedOver ≡ false
+    pub arrived-bytes : byteOver (arrivals .map) ≡ false
 
   -- what the call answers, and what it leaves in block and map
   pub record Answers (r : Repaired) (block map : List ℕ) : Type 0 where

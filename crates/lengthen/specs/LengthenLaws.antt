@@ -17,9 +17,9 @@ use Rattle.erasure.specs.Offered.{Held, wrongLengths, byteOver, handedOn, Agree
 use Rattle.erasure.specs.OfferedLaws.{lengths-right, lengths-fit}
 use Rattle.erasure.specs.OldRepair.{cleared-kept, cleared-zero}
 use Rattle.erasure.specs.OutcomeLaws.{start-length, start-sized}
-use Rattle.erasure.specs.Restoring.{State, AgreeThere, agreeing, blockIf, isLost}
+use Rattle.erasure.specs.Restoring.{State, AgreeThere, blockIf, isLost}
 use Rattle.faults.specs.Faults.{Fault}
-use Rattle.lengthen.specs.Lengthen.{lengthenAnswerAt, start, lengthenOutcome, lengthenFault, wrongEither, ownCauses, offerCauses, lengthenRefusal, lengthenAnswer, lengthenAfter}
+use Rattle.lengthen.specs.Lengthen.{lengthenAnswerAt, start, lengthenOutcome, lengthenFault, wrongEither, ownCauses, offerCauses, lengthenRefusal, lengthenAnswer, lengthenAfter, calm, LengthenFitting}
 use Rattle.lists.specs.Lists.{anyOf, has, All.nil, All.cons}
 use Rattle.lists.specs.Tests.{eqb-true, eqb-false, byBool, or-false-l, or-false-r, or-neither, side}
 use Rattle.longer.specs.Longer.{lengthens}
@@ -30,25 +30,9 @@ use Rattle.table.specs.PacketLaws.{joined-length, same-packets}
 use Rattle.table.specs.Packets.{joined}
 use Rattle.table.specs.Table.{places, size, tableCauses, refusal}
 
--- a call that nothing before 8 refuses
-pub record LengthenFitting (old new : List ℕ) (carried arrivals : Held) : Type 0 where
-  pub old-table : refusal old ≡ 0
-  pub new-table : refusal new ≡ 0
-  pub block-length : length (carried .block) ≡ places new * size new
-  pub map-length : length (carried .map) ≡ places new
-  pub arrivals-length : length (arrivals .block) ≡ places new * size new
-  pub arrived-length : length (arrivals .map) ≡ places new
-  pub longer : lengthens old new ≡ true
-  pub carried-bytes : anyOf (ltb 2) (take (places old) (carried .map)) ≡ false
-  pub arrived-bytes : byteOver (arrivals .map) ≡ false
-
 module _ (old new : List ℕ) (carried arrivals : Held) where
-  -- nothing contradicts
-  abbrev pub calm : Bool
-  calm = agreeing new (start old new carried arrivals .block) (start old new carried arrivals .map)
-
   abbrev last : List (Bool × ℕ)
-  last = (not calm, 8) ∷ []
+  last = (not (calm old new carried arrivals), 8) ∷ []
 
   -- ---- the causes in their order
   -- some cause before 8 holds
@@ -89,7 +73,7 @@ module _ (old new : List ℕ) (carried arrivals : Held) where
             arrived-bytes = a;
           }
 
-  pub fits-offer : LengthenFitting old new carried arrivals → firstCause (offerCauses old new carried arrivals) ≡ 0
+  fits-offer : LengthenFitting old new carried arrivals → firstCause (offerCauses old new carried arrivals) ≡ 0
   fits-offer f = at-own (f .old-table) (f .new-table) ∙ rw (none-wrong, f .longer, f .carried-bytes, f .arrived-bytes)
     where
       none-wrong : wrongEither old new carried arrivals ≡ false
@@ -97,14 +81,14 @@ module _ (old new : List ℕ) (carried arrivals : Held) where
           (lengths-right new (carried .block) (carried .map) (f .block-length) (f .map-length)) (lengths-right new (arrivals .block) (arrivals .map) (f .arrivals-length) (f .arrived-length))
 
   -- a call that fits: what is left is 8 or nothing
-  fitting-refusal : LengthenFitting old new carried arrivals → lengthenRefusal old new carried arrivals ≡ cond (not calm) 8 0
+  fitting-refusal : LengthenFitting old new carried arrivals → lengthenRefusal old new carried arrivals ≡ cond (not (calm old new carried arrivals)) 8 0
   unfolding lengthenRefusal
   fitting-refusal f = rest-decides (none-then (fits-offer f)) last
 
-  pub agreed-refusal : LengthenFitting old new carried arrivals → calm ≡ true → lengthenRefusal old new carried arrivals ≡ 0
+  pub agreed-refusal : LengthenFitting old new carried arrivals → calm old new carried arrivals ≡ true → lengthenRefusal old new carried arrivals ≡ 0
   agreed-refusal f e = fitting-refusal f ∙ rw e
 
-  pub contradicted-refusal : LengthenFitting old new carried arrivals → calm ≡ false → lengthenRefusal old new carried arrivals ≡ 8
+  pub contradicted-refusal : LengthenFitting old new carried arrivals → calm old new carried arrivals ≡ false → lengthenRefusal old new carried arrivals ≡ 8
   contradicted-refusal f e = fitting-refusal f ∙ rw e
 
   -- 8 is no other cause's number
@@ -112,20 +96,20 @@ module _ (old new : List ℕ) (carried arrivals : Held) where
   not-eight e = false≢true (ap (λ k. has k (0 ∷ causeNumbers (offerCauses old new carried arrivals))) (sym e) ∙ one-of (offerCauses old new carried arrivals))
 
   -- an accepted call, and what was tested
-  pub accepted-fits : lengthenRefusal old new carried arrivals ≡ 0 → LengthenFitting old new carried arrivals × (calm ≡ true)
+  pub accepted-fits : lengthenRefusal old new carried arrivals ≡ 0 → LengthenFitting old new carried arrivals × (calm old new carried arrivals ≡ true)
   unfolding lengthenRefusal
   accepted-fits h = byBool (eqb (firstCause (offerCauses old new carried arrivals)) 0)
-      (λ e. let z = eqb-true _ 0 e in let f = offer-fits z in (f, byBool calm (λ t. t) (λ t. absurd (eight (sym (rest-decides (none-then z) last ∙ rw t) ∙ h)))))
+      (λ e. let z = eqb-true _ 0 e in let f = offer-fits z in (f, byBool (calm old new carried arrivals) (λ t. t) (λ t. absurd (eight (sym (rest-decides (none-then z) last ∙ rw t) ∙ h)))))
       (λ e. absurd (eqb-false _ 0 e (sym (first-decides (offerCauses old new carried arrivals) last (eqb-false _ 0 e)) ∙ h)))
     where
       eight : _≡_ {A = ℕ} 8 0 → ⊥
       eight e = omega arith
 
   -- a contradicted one
-  pub contradicted-fits : lengthenRefusal old new carried arrivals ≡ 8 → LengthenFitting old new carried arrivals × (calm ≡ false)
+  pub contradicted-fits : lengthenRefusal old new carried arrivals ≡ 8 → LengthenFitting old new carried arrivals × (calm old new carried arrivals ≡ false)
   unfolding lengthenRefusal
   contradicted-fits h = byBool (eqb (firstCause (offerCauses old new carried arrivals)) 0)
-      (λ e. let z = eqb-true _ 0 e in let f = offer-fits z in (f, byBool calm (λ t. absurd (eight (sym (rest-decides (none-then z) last ∙ rw t) ∙ h))) (λ t. t)))
+      (λ e. let z = eqb-true _ 0 e in let f = offer-fits z in (f, byBool (calm old new carried arrivals) (λ t. absurd (eight (sym (rest-decides (none-then z) last ∙ rw t) ∙ h))) (λ t. t)))
       (λ e. absurd (not-eight (sym (first-decides (offerCauses old new carried arrivals) last (eqb-false _ 0 e)) ∙ h)))
     where
       eight : _≡_ {A = ℕ} 0 8 → ⊥

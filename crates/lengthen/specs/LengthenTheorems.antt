@@ -4,24 +4,26 @@ use mathlib.Core.Bool.{true, false, true≢false}
 use mathlib.Core.List.{List}
 use mathlib.Core.Logic.{_≢_, _⊎_, ⊎-elim}
 use mathlib.Core.Option.{none, some}
-use Prim.Native.Nat.{ℕ, zero, suc, _+_, _<_, _≤_}
+use Prim.Native.Nat.{ℕ, zero, suc, _+_, _*_, _<_, _≤_}
 use native.Mathlib.Omega.{arith}
 use borrow.Author.Tests.{ne-eqb}
-use lib.ListN.{length, getD, replicate}
+use lib.Dec.{ltb}
+use lib.ListN.{length, getD, take, replicate}
+use lib.Seq.{ext-getD, getD-take, length-take-le}
 use Rattle.entering.specs.EnteredLaws.{parts-long, mark-at, entered-part, entered-zero}
 use Rattle.entering.specs.Entering.{Entry, entry, markOf, packetOf, carriedMark, entryAt}
 use Rattle.entering.specs.EntryLaws.{carried-old, carried-new, entry-known, entry-arrived, entry-missing, entry-alike}
 use Rattle.erasure.specs.LostLaws.{is-lost}
-use Rattle.erasure.specs.Offered.{Held, Agree, handedOn}
-use Rattle.erasure.specs.OfferedLaws.{none-handed}
+use Rattle.erasure.specs.Offered.{Held, Agree, handedOn, wrongLengths, byteOver}
+use Rattle.erasure.specs.OfferedLaws.{none-handed, lengths-fit}
 use Rattle.erasure.specs.OldRepair.{RestoredBy, old-repair, word-agrees}
 use Rattle.erasure.specs.OutcomeLaws.{outcome-length, outcome-sized, tally-fewer}
 use Rattle.erasure.specs.Restoring.{State, tally, noneLost, isLost, outcome, contradicting, agreeing}
 use Rattle.faults.specs.FaultLaws.{some-fault, first-fault}
 use Rattle.faults.specs.Faults.{Fault, FirstFault}
-use Rattle.lengthen.specs.Lengthen.{lengthenAnswerAt, start, lengthenOutcome, lengthenFault, lengthenRefusal, lengthenAnswer, lengthenAfter}
-use Rattle.lengthen.specs.LengthenLaws.{LengthenFitting, calm, agreed-refusal, contradicted-refusal, accepted-fits, contradicted-fits, after-accepted, after-contradicted, after-refused, start-block, start-map, entered-there}
-use Rattle.lists.specs.Lists.{All}
+use Rattle.lengthen.specs.Lengthen.{lengthenAnswerAt, start, lengthenOutcome, lengthenFault, lengthenRefusal, lengthenAnswer, lengthenAfter, calm, LengthenFitting}
+use Rattle.lengthen.specs.LengthenLaws.{agreed-refusal, contradicted-refusal, accepted-fits, contradicted-fits, after-accepted, after-contradicted, after-refused, start-block, start-map, entered-there}
+use Rattle.lists.specs.Lists.{All, anyOf}
 use Rattle.lists.specs.Numbers.{each-same}
 use Rattle.lists.specs.Tests.{byBool, side}
 use Rattle.longer.specs.LongerLaws.{lengthens-facts}
@@ -188,21 +190,54 @@ pub record SameCarried (old new : List ℕ) (one two : Held) : Type 0 where
   pub marks : (p : ℕ) → p < places old → getD (one .map) p 0 ≡ getD (two .map) p 0
   pub packets : (p : ℕ) → p < places old → getD (one .map) p 0 ≢ 1 → partAt (size new) p (one .block) ≡ partAt (size new) p (two .block)
 
--- arrived alike: the same marks, and the same packets where they are entered; arrivals at known places are left out
+-- arrived alike: where the place is lost, the same mark, and the same packet if it arrives; arrivals at known places are left out
 pub record SameArrivals (old new : List ℕ) (carried one two : Held) : Type 0 where
-  pub marks : (p : ℕ) → p < places new → getD (one .map) p 0 ≡ getD (two .map) p 0
+  pub marks : (p : ℕ) → p < places new → carriedMark (places old) (carried .map) p ≡ 1 → getD (one .map) p 0 ≡ getD (two .map) p 0
   pub packets : (p : ℕ) → p < places new → carriedMark (places old) (carried .map) p ≡ 1 → getD (one .map) p 0 ≡ 0 → partAt (size new) p (one .block) ≡ partAt (size new) p (two .block)
 
+-- of the right lengths, and with arrivals' marks of 0 and 1
+pub record RightLengths (new : List ℕ) (carried arrivals : Held) : Type 0 where
+  pub lengths : wrongLengths new (carried .block) (carried .map) ≡ false
+  pub arrived : wrongLengths new (arrivals .block) (arrivals .map) ≡ false
+  pub bytes : byteOver (arrivals .map) ≡ false
+
 -- then the call answers the same, and leaves the same block and map, where nothing before 8 refuses
-pub never-counts : (old new : List ℕ) (carried arrivals held₂ arrivals₂ : Held) → LengthenFitting old new carried arrivals → LengthenFitting old new held₂ arrivals₂
+pub never-counts : (old new : List ℕ) (carried arrivals held₂ arrivals₂ : Held) → LengthenFitting old new carried arrivals → RightLengths new held₂ arrivals₂
     → SameCarried old new carried held₂ → SameArrivals old new carried arrivals arrivals₂
     → (lengthenAnswer old new carried arrivals ≡ lengthenAnswer old new held₂ arrivals₂) × (lengthenAfter old new carried arrivals ≡ lengthenAfter old new held₂ arrivals₂)
-never-counts old new carried arrivals held₂ arrivals₂ f g a c = byBool (calm old new carried arrivals)
+never-counts old new carried arrivals held₂ arrivals₂ f r a c = byBool (calm old new carried arrivals)
     (λ e. let x = agreed-refusal old new carried arrivals f e in let y = agreed-refusal old new held₂ arrivals₂ g (sym calm-same ∙ e) in
     (rw (x, y) (ap answer-by starts), after-accepted old new carried arrivals x ∙ ap after-by starts ∙ sym (after-accepted old new held₂ arrivals₂ y)))
     (λ e. let x = contradicted-refusal old new carried arrivals f e in let y = contradicted-refusal old new held₂ arrivals₂ g (sym calm-same ∙ e) in
     (rw (x, y) (ap refused-as starts), after-contradicted old new carried arrivals x ∙ starts ∙ sym (after-contradicted old new held₂ arrivals₂ y)))
   where
+    lens : (length (held₂ .block) ≡ places new * size new) × (length (held₂ .map) ≡ places new)
+    lens = lengths-fit new (held₂ .block) (held₂ .map) (r .lengths)
+
+    came : (length (arrivals₂ .block) ≡ places new * size new) × (length (arrivals₂ .map) ≡ places new)
+    came = lengths-fit new (arrivals₂ .block) (arrivals₂ .map) (r .arrived)
+
+    -- the old places' marks, as 16 looks at them
+    same-old : take (places old) (carried .map) ≡ take (places old) (held₂ .map)
+    same-old =
+        let m = lengthens-facts old new (f .longer) .more-places in
+        let long : length (take (places old) (carried .map)) ≡ places old = length-take-le (places old) (carried .map) (omega (arith, f .map-length)) in
+        ext-getD 0 _ _ (long ∙ sym (length-take-le (places old) (held₂ .map) (omega (arith, lens .1))))
+        (λ p h. let i : p < places old = omega arith in getD-take (places old) (carried .map) p 0 i ∙ a .marks p i ∙ sym (getD-take (places old) (held₂ .map) p 0 i))
+
+    g : LengthenFitting old new held₂ arrivals₂
+    g = record {
+      old-table = f .old-table;
+      new-table = f .new-table;
+      block-length = lens .0;
+      map-length = lens .1;
+      arrivals-length = came .0;
+      arrived-length = came .1;
+      longer = f .longer;
+      carried-bytes = ap (anyOf (ltb 2)) (sym same-old) ∙ f .carried-bytes;
+      arrived-bytes = r .bytes;
+    }
+
     marks-same : (p : ℕ) → carriedMark (places old) (carried .map) p ≡ carriedMark (places old) (held₂ .map) p
     marks-same p = ⊎-elim
         (λ h. carried-old (places old) (carried .map) p h ∙ a .marks p h ∙ sym (carried-old (places old) (held₂ .map) p h))
@@ -216,9 +251,9 @@ never-counts old new carried arrivals held₂ arrivals₂ f g a c = byBool (calm
         (side p (places old))
 
     same : (p : ℕ) → p < places new → entryAt (size new) (places old) carried arrivals p ≡ entryAt (size new) (places old) held₂ arrivals₂ p
-    same p h = entry-alike (carriedMark (places old) (carried .map) p) (getD (arrivals .map) p 0) (partAt (size new) p (carried .block)) (partAt (size new) p (arrivals .block))
-        (partAt (size new) p (held₂ .block)) (partAt (size new) p (arrivals₂ .block)) (packet-same p) (c .packets p h)
-        ∙ ap₂ (λ x y. entry x y (partAt (size new) p (held₂ .block)) (partAt (size new) p (arrivals₂ .block))) (marks-same p) (c .marks p h)
+    same p h = entry-alike (carriedMark (places old) (carried .map) p) (getD (arrivals .map) p 0) (getD (arrivals₂ .map) p 0) (partAt (size new) p (carried .block)) (partAt (size new) p (arrivals .block))
+        (partAt (size new) p (held₂ .block)) (partAt (size new) p (arrivals₂ .block)) (packet-same p) (c .marks p h) (c .packets p h)
+        ∙ ap (λ x. entry x (getD (arrivals₂ .map) p 0) (partAt (size new) p (held₂ .block)) (partAt (size new) p (arrivals₂ .block))) (marks-same p)
 
     starts : start old new carried arrivals ≡ start old new held₂ arrivals₂
     starts = ap₂ (λ x y. record { block = joined x; map = y }) (each-same _ _ (places new) (λ p h. ap (packetOf (size new)) (same p h))) (each-same _ _ (places new) (λ p h. ap markOf (same p h)))

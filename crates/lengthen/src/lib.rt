@@ -5,8 +5,7 @@ use report::refused;
 use table::wide;
 ghost use mathlib.Core.Path.{_≡_};
 ghost use Rattle.erasure.specs.Offered.{held};
-ghost use Rattle.lengthen.specs.Lengthen.{Answers, offerCauses};
-ghost use Rattle.lengthen.specs.LengthenLaws.{LengthenFitting};
+ghost use Rattle.lengthen.specs.Lengthen.{Answers, LengthenFitting, offerCauses};
 ghost use Rattle.table.specs.FirstCause.{firstCause};
 
 // the first cause but 8 that holds, 0 for none
@@ -26,19 +25,19 @@ fn look(old: &[u16], new: &[u16], block: &[u8], map: &[u8], arrivals: &[u8], arr
     if second != 0 {
         return second;
     }
-    let n = wide(new[1]);
+    let k = wide(new[1]);
     let s = wide(new[2]);
-    if marks::wrong_lengths(block, map, n, s) {
+    if marks::wrong_lengths(block, map, k, s) {
         return 5;
     }
-    if marks::wrong_lengths(arrivals, arrived, n, s) {
+    if marks::wrong_lengths(arrivals, arrived, k, s) {
         return 5;
     }
     if !longer::is_lengthening(old, new) {
         return 15;
     }
-    let before = wide(old[1]);
-    if marks::over(&map[0..before], 2) {
+    let n = wide(old[1]);
+    if marks::over(&map[0..n], 2) {
         return 16;
     }
     if marks::over_one(arrived) {

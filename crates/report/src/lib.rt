@@ -1,4 +1,4 @@
-// What repair reports, and the calls that go on with it.
+// What repair reports, and so do the calls that go on with it.
 ghost use mathlib.Core.Path.{_≡_};
 ghost use Rattle.report.specs.Report.{repairAnswerOf, acceptedWith, refusedWith};
 

@@ -14,11 +14,11 @@ use Rattle.erasure.specs.Offered.{Held, held, Fitting, Agree}
 use Rattle.erasure.specs.OfferedLaws.{bytes-all, lost-byte}
 use Rattle.erasure.specs.OldRepair.{RestoredBy, old-repair}
 use Rattle.erasure.specs.Restoring.{outcome, blockIf, mapIf, isLost}
-use Rattle.lengthen.specs.AsIfFresh.{as-if-fresh, word-then, all-right}
+use Rattle.lengthen.specs.AsIfFresh.{as-if-fresh, word-then}
 use Rattle.lengthen.specs.Carrying.{Carried, SoFar, Grown}
-use Rattle.lengthen.specs.FirstPackets.{firstOf, first-part, first-codeword}
-use Rattle.lengthen.specs.Lengthen.{lengthenRefusal, lengthenAfter}
-use Rattle.lengthen.specs.LengthenLaws.{LengthenFitting, after-accepted}
+use Rattle.lengthen.specs.FirstPackets.{firstOf, first-codeword, first-agrees, so-far-agrees}
+use Rattle.lengthen.specs.Lengthen.{lengthenRefusal, lengthenAfter, LengthenFitting}
+use Rattle.lengthen.specs.LengthenLaws.{after-accepted}
 use Rattle.lengthen.specs.Twice.{grown-carried}
 use Rattle.lists.specs.ListLaws.{all-index, any-none}
 use Rattle.lists.specs.Tests.{byBool}
@@ -77,7 +77,7 @@ module _ (old new : List ℕ) (first grown arrivals all : Held) (w : List ℕ) (
     (grows : Grown old (afterRepair old first) grown) (bytes : length (grown .block) ≡ places new * size new) (marks : length (grown .map) ≡ places new)
     (arrived : Fitting new (arrivals .block) (arrivals .map)) (arrive : Agree new (arrivals .block) (arrivals .map) w) (so-far : SoFar old new first arrivals all) where
   right-old : Agree old (first .block) (first .map) (firstOf old w)
-  right-old p i e = right p i e ∙ sym (first-part old w p i)
+  right-old = first-agrees old (first .block) (first .map) w right
 
   old-word : IsCodeword old (firstOf old w)
   old-word = first-codeword old new w (received .table) (lengthens-facts old new longer) word
@@ -102,7 +102,7 @@ module _ (old new : List ℕ) (first grown arrivals all : Held) (w : List ℕ) (
   was = grown-carried old (afterRepair old first) grown first (repaired-carried old first (firstOf old w) received old-word right-old) grows
 
   all-right-too : Agree new (all .block) (all .map) w
-  all-right-too = all-right old new grown arrivals first w fits word received right was arrive all so-far
+  all-right-too = so-far-agrees old new first arrivals all w (lengthens-facts old new longer .same-size) so-far right arrive
 
   pub longer-table : LongerTable old new grown arrivals all w
   longer-table =

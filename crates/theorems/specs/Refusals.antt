@@ -1,8 +1,7 @@
 -- Refusals of all calls, said in one way: 0 is answered exactly if no cause of the call holds, and each number exactly if its cause
 -- holds and none before it in the call's order (`RefusedBy`, table/specs/FirstCause.antt).
 use mathlib.Core.Path.{_≡_, refl, sym, _∙_, subst}
-use mathlib.Core.Bool.{Bool, not}
-use mathlib.Core.List.{List, [], _∷_, _++_}
+use mathlib.Core.List.{List}
 use mathlib.Core.Logic.{_≢_}
 use mathlib.Core.Option.{Option, none, some}
 use Prim.Native.Nat.{ℕ, zero, suc}
@@ -21,8 +20,8 @@ use Rattle.repair.specs.Repair.{repairCauses, repairOutcome, repairRefusal, rep
 use Rattle.full.specs.Full.{fullCauses, fullRefusal, fullAnswer, fullAnswerAt, fullMapAfter}
 use Rattle.merge.specs.Merge.{mergeCauses, mergeRefusal, mergeAnswer}
 use Rattle.merge.specs.MergeLaws.{refusal-told}
-use Rattle.lengthen.specs.Lengthen.{ownCauses, lengthenRefusal, lengthenAnswer}
-use Rattle.lengthen.specs.LengthenLaws.{calm, refusal-told as lengthen-told}
+use Rattle.lengthen.specs.Lengthen.{newCauses, lengthenRefusal, lengthenAnswer}
+use Rattle.lengthen.specs.LengthenLaws.{refusal-told as lengthen-told}
 use Rattle.why.specs.Why.{whyCauses, whyRefusal, whyAnswer}
 use Rattle.why.specs.WhyLaws.{refusal-told as why-told}
 use Rattle.erasure.specs.Offered.{Held, handedOn}
@@ -83,9 +82,6 @@ merge-refusals t one two out = subst (λ r. RefusedBy r (mergeCauses t one two o
 
 -- 1 to 4 of the old table; where it is accepted, 1 to 4 of the new one, 5, 15, 16, 7 and 8, as going on under a longer table reports it: "The old
 -- table counts as 01's first"
-abbrev pub newCauses : List ℕ → List ℕ → Held → Held → List (Bool × ℕ)
-newCauses old new carried arrivals = tableCauses new ++ (ownCauses old new carried arrivals ++ ((not (calm old new carried arrivals), 8) ∷ []))
-
 pub record LengthenRefusals (old new : List ℕ) (carried arrivals : Held) : Type 0 where
   pub old-first : refusal old ≢ 0 → lengthenAnswer old new carried arrivals .refusal ≡ refusal old
   pub then-new : refusal old ≡ 0 → RefusedBy (lengthenAnswer old new carried arrivals .refusal) (newCauses old new carried arrivals)

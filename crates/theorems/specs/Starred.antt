@@ -289,7 +289,8 @@ starred =
     ∷ record { given = lengthened table22 longer22 (held (0x00 ∷ 0x02 ∷ 0x00 ∷ 0x09 ∷ []) (1 ∷ 0 ∷ 1 ∷ 7 ∷ [])) (held (0x08 ∷ 0x08 ∷ 0x08 ∷ 0x03 ∷ []) (1 ∷ 0 ∷ 1 ∷ 0 ∷ [])); wanted = (0 ∷ 2 ∷ 0 ∷ 3 ∷ []) ∷ (0 ∷ 0 ∷ []) ∷ (0x01 ∷ 0x02 ∷ 0x03 ∷ 0x03 ∷ []) ∷ (2 ∷ 0 ∷ 2 ∷ 0 ∷ []) ∷ [] }
     -- C-22: place 0 restored earlier stays 2 and isn't counted again
     ∷ record { given = lengthened table22 longer22 (held (0x01 ∷ 0x02 ∷ 0x03 ∷ 0x09 ∷ []) (2 ∷ 0 ∷ 0 ∷ 1 ∷ [])) nothing22; wanted = (0 ∷ 1 ∷ 0 ∷ 1 ∷ []) ∷ (0 ∷ 0 ∷ []) ∷ (0x01 ∷ 0x02 ∷ 0x03 ∷ 0x03 ∷ []) ∷ (2 ∷ 0 ∷ 0 ∷ 2 ∷ []) ∷ [] }
-    -- C-22: "with 8 the map stays as then entered": 04 arrives at place 2, where 03 would do; check 0 fails, and place 3 is lost
+    -- C-22: "with 8 the map stays as then entered": 04 arrives at place 3, where 03 would do: check 1 fails; then 04 at place 2: check 0 fails, and place 3 is lost
+    ∷ record { given = lengthened table22 longer22 (held (0x01 ∷ 0x02 ∷ 0x03 ∷ 0x09 ∷ []) (2 ∷ 0 ∷ 0 ∷ 7 ∷ [])) (held (0x08 ∷ 0x08 ∷ 0x08 ∷ 0x04 ∷ []) (1 ∷ 1 ∷ 1 ∷ 0 ∷ [])); wanted = (8 ∷ 0 ∷ 0 ∷ 0 ∷ []) ∷ (1 ∷ 0 ∷ []) ∷ (0x01 ∷ 0x02 ∷ 0x03 ∷ 0x04 ∷ []) ∷ (2 ∷ 0 ∷ 0 ∷ 0 ∷ []) ∷ [] }
     ∷ record { given = lengthened table22 longer22 (held (0x01 ∷ 0x02 ∷ 0xff ∷ 0x09 ∷ []) (2 ∷ 0 ∷ 1 ∷ 0 ∷ [])) (held (0x08 ∷ 0x08 ∷ 0x04 ∷ 0x08 ∷ []) (1 ∷ 1 ∷ 0 ∷ 1 ∷ [])); wanted = (8 ∷ 0 ∷ 0 ∷ 0 ∷ []) ∷ (0 ∷ 0 ∷ []) ∷ (0x01 ∷ 0x02 ∷ 0x04 ∷ 0x00 ∷ []) ∷ (2 ∷ 0 ∷ 0 ∷ 1 ∷ []) ∷ [] }
     -- C-22: an unchanged table; a place of a check changed, and the tables exchanged: 15; a carried 3 at an old place: 16, also before 7
     ∷ record { given = lengthened table22 table22 (held (0x01 ∷ 0x02 ∷ 0xff ∷ []) (2 ∷ 0 ∷ 1 ∷ [])) (held (0x08 ∷ 0x08 ∷ 0x03 ∷ []) (1 ∷ 1 ∷ 0 ∷ [])); wanted = (0 ∷ 0 ∷ 0 ∷ 0 ∷ []) ∷ (0 ∷ 0 ∷ []) ∷ (0x01 ∷ 0x02 ∷ 0x03 ∷ []) ∷ (2 ∷ 0 ∷ 0 ∷ []) ∷ [] }
