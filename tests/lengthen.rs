@@ -40,9 +40,11 @@ fn lengthen_alone(
     let (lent_old, lent_new) = (Lent::new(rng, old), Lent::new(rng, new));
     let (mut block, mut map) = (Lent::new(rng, &carried.block), Lent::new(rng, &carried.map));
     let (came, marks) = (Lent::new(rng, &arrivals.block), Lent::new(rng, &arrivals.map));
+    // An unchanged table is lent once, for both.
+    let first = if old == new { &lent_new } else { &lent_old };
     let answer = unsafe {
         bs_lengthen(
-            lent_old.ptr(),
+            first.ptr(),
             lent_old.len(),
             lent_new.ptr(),
             lent_new.len(),

@@ -7,20 +7,20 @@ use mathlib.Core.Option.{Option}
 use Prim.Native.Nat.{ℕ, zero, suc, _*_, _<_}
 use native.Mathlib.Omega.{arith}
 use borrow.Author.Tests.{not-false}
-use lib.Dec.{eqb, ltb}
-use lib.ListN.{length, getD, take}
+use lib.Dec.{eqb}
+use lib.ListN.{length, getD}
 use Rattle.entering.specs.EnteredLaws.{parts-long, marks-length, mark-at, entered-length, entered-part, entered-zero}
 use Rattle.entering.specs.Entering.{carriedMark}
 use Rattle.entering.specs.EntryLaws.{carried-old, carried-new, entered-word}
 use Rattle.erasure.specs.LostLaws.{is-lost}
-use Rattle.erasure.specs.Offered.{Held, wrongLengths, byteOver, handedOn, Agree}
+use Rattle.erasure.specs.Offered.{Held, wrongLengths, handedOn, Agree}
 use Rattle.erasure.specs.OfferedLaws.{lengths-right, lengths-fit}
 use Rattle.erasure.specs.OldRepair.{cleared-kept, cleared-zero}
 use Rattle.erasure.specs.OutcomeLaws.{start-length, start-sized}
 use Rattle.erasure.specs.Restoring.{State, AgreeThere, blockIf, isLost}
 use Rattle.faults.specs.Faults.{Fault}
 use Rattle.lengthen.specs.Lengthen.{lengthenAnswerAt, start, lengthenOutcome, lengthenFault, wrongEither, ownCauses, offerCauses, lengthenRefusal, lengthenAnswer, lengthenAfter, calm, LengthenFitting}
-use Rattle.lists.specs.Lists.{anyOf, has, All.nil, All.cons}
+use Rattle.lists.specs.Lists.{has, All.nil, All.cons}
 use Rattle.lists.specs.Tests.{eqb-true, eqb-false, byBool, or-false-l, or-false-r, or-neither, side}
 use Rattle.longer.specs.Longer.{lengthens}
 use Rattle.table.specs.FirstCause.{firstCause, NoneHolds, causeNumbers}
