@@ -69,7 +69,7 @@ pub fn encode(
     }
     let count = plan::step_count(plan);
     let steps = within(limit, count);
-    start::prepare(plan, s, steps, information, block, scratch);
+    copying::prepare(plan, s, steps, information, block, scratch);
     let additions = run(plan, s, steps, block, scratch);
     Encoded {
         refusal: 0,

@@ -15,7 +15,7 @@ use Rattle.rule.specs.Buffers.{solved}
 use Rattle.table.specs.Accepted.{Located}
 use Rattle.table.specs.Checks.{check}
 use Rattle.rule.specs.Rule.{Solved, inOneOnly, mostFreed, peelBy, peel, solvedOf, setAsideOf, PeelEvent, took, aside}
-use Rattle.live.specs.Most.{lives}
+use Rattle.freed.specs.Most.{lives}
 use Rattle.peel.specs.declared.Event.{Event}
 use Rattle.peel.specs.declared.Event.the-variants.{Took, Aside}
 use Rattle.peel.specs.Turn.{less, In, Pick, Picked, Picked.by-place, Picked.by-choice, Ready, Removed, Low, Peeled}

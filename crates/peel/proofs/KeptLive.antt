@@ -18,7 +18,7 @@ use Rattle.table.specs.Table.{total}
 use Rattle.keep.specs.Kept.{keptOf}
 use Rattle.live.specs.Live.{Tally, Noted}
 use Rattle.live.specs.TallyLaws.{tally-more}
-use Rattle.live.specs.Most.{lives}
+use Rattle.freed.specs.Most.{lives}
 use Rattle.peel.specs.Choice.{weight}
 use Rattle.peel.specs.Turn.{Ready, Numbers, Zeros, Entered, First, Peeled}
 

@@ -21,7 +21,7 @@ use Rattle.lists.specs.ListLaws.{highest-is, all-map, map-all}
 use Rattle.rule.specs.Choices.{FirstMost, most-passes, most-first, most-rest}
 use Rattle.rule.specs.Rule.{first, without, freed, worthMost}
 use Rattle.live.specs.Live.{Tally, Forgot, found}
-use Rattle.live.specs.Most.{lives, mostFrom, twos}
+use Rattle.freed.specs.Most.{lives, mostFrom, twos}
 use Rattle.live.specs.declared.Found.the-variants.{At, Nothing}
 use Rattle.peel.specs.declared.Event.the-variants.{Took, Aside}
 use Rattle.live.specs.TallyLaws.{Out, Out.here as ohere, Out.there as othere, tally-less, single-is}

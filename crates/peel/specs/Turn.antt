@@ -11,7 +11,7 @@ use Rattle.rule.specs.Buffers.{solved}
 use Rattle.table.specs.Checks.{check}
 use Rattle.rule.specs.Rule.{inOneOnly, first, without, mostFreed, peel, solvedOf, setAsideOf}
 use Rattle.live.specs.Live.{Tally, Noted}
-use Rattle.live.specs.Most.{lives}
+use Rattle.freed.specs.Most.{lives}
 use Rattle.keep.specs.Kept.{keptOf}
 use Rattle.peel.specs.declared.Event.{Event}
 use Rattle.peel.specs.declared.Event.the-variants.{Took, Aside}

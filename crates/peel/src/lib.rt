@@ -11,7 +11,7 @@ ghost use Rattle.table.specs.Checks.{check};
 ghost use Rattle.table.specs.Table.{total, places, size};
 ghost use Rattle.keep.specs.Kept.{keptOf};
 ghost use Rattle.live.specs.Live.{Calm};
-ghost use Rattle.live.specs.Most.{lives};
+ghost use Rattle.freed.specs.Most.{lives};
 ghost use Rattle.peel.specs.Choice.{ChoiceOf, weight};
 ghost use Rattle.peel.specs.Turn.{In, Ready, Picked, Removed, Room, Peeled};
 ghost use Rattle.peel.specs.Turn.{Numbers, Fresh, Entered, First};
@@ -40,7 +40,7 @@ fn pick(
 {
     match live::single(count, top) {
         Found::At(p) => Event::Took(p, table::wide(names[p])),
-        Found::Nothing => Event::Aside(live::most_freed_of(t, m, starts, live, count)),
+        Found::Nothing => Event::Aside(freed::most_freed_of(t, m, starts, live, count)),
     }
 }
 

@@ -25,13 +25,6 @@ use Rattle.start.specs.Start.{MarkedOnly, Alike, GapCleared, behind, Gap
 use Rattle.start.proofs.GapLaws.{between, behind-le, behind-low}
 
 -- ---- a gap
--- the bytes of packets i to r − 1 of so many
-pub run-bytes : (i r count s : ℕ) → i ≤ r → r ≤ count → i * s + (r - i) * s ≤ count * s
-run-bytes i r count s h g =
-    let d = r - i in
-    let e : (i + d) * s ≡ r * s = ap (λ (k : ℕ). k * s) (omega arith) in
-    omega (arith, mul-le-mul-right s g)
-
 run-end : (i r s : ℕ) → i ≤ r → i * s + (r - i) * s ≡ r * s
 run-end i r s h = let d = r - i in let e : (i + d) * s ≡ r * s = ap (λ (k : ℕ). k * s) (omega arith) in omega arith
 

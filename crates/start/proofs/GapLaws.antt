@@ -1,17 +1,16 @@
--- The gaps between information places, and information places that follow each other.
-use mathlib.Core.Path.{_≡_, refl, ap, _∙_}
+-- The gaps between information places.
+use mathlib.Core.Path.{_≡_, refl}
 use mathlib.Core.Bool.{true, false, _&&_}
 use mathlib.Core.List.{List, [], _∷_}
-use mathlib.Core.Logic.{⊎-elim}
-use Prim.Native.Nat.{ℕ, zero, suc, _+_, _-_, _<_, _≤_}
+use Prim.Native.Nat.{ℕ, zero, suc, _<_, _≤_}
 use native.Mathlib.Omega.{arith}
 use lib.Dec.{leb, ltb}
 use lib.ListN.{length, getD}
 use Rattle.lists.specs.Lists.{has}
-use Rattle.lists.specs.Tests.{eqb-lt, eqb-gt, side}
+use Rattle.lists.specs.Tests.{eqb-lt, eqb-gt}
 use Rattle.table.specs.Table.{rising}
 use Rattle.plan.specs.LayoutLaws.{and-right, rising-at, rising-order}
-use Rattle.start.specs.Start.{behind, Together}
+use Rattle.start.specs.Start.{behind}
 
 rises-on : (n b q : ℕ) (I : List ℕ) → rising n b (q ∷ I) ≡ true → rising n (suc q) I ≡ true
 rises-on n b q I e = and-right (leb b q && ltb q n) (rising n (suc q) I) e
@@ -37,21 +36,3 @@ module _ (n : ℕ) (I : List ℕ) (rises : rising n 0 I ≡ true) where
   pub behind-low : (k : ℕ) → k ≤ length I → behind I k ≤ n
   behind-low zero h = omega arith
   behind-low (suc k) h = rising-at n 0 I rises k h .1
-
--- ---- places that follow each other
-module _ {I : List ℕ} {k count : ℕ} where
-  pub together-one : k < count → Together I k count (k + 1)
-  together-one h = record {
-    some = omega arith;
-    upto = omega arith;
-    follow = λ j l. let z : j ≡ 0 = omega arith in rw z (ap (λ (i : ℕ). getD I i 0) {x = k + 0} {y = k} (omega arith) ∙ omega arith);
-  }
-
-  pub together-more : {r : ℕ} → r < count → Together I k count r → getD I r 0 ≡ getD I k 0 + (r - k) → Together I k count (r + 1)
-  together-more {r} h t e = let m = t .some in record {
-    some = omega arith;
-    upto = omega arith;
-    follow = λ j l. ⊎-elim (t .follow j)
-        (λ g. ap (λ (i : ℕ). getD I i 0) {x = k + j} {y = r} (omega arith) ∙ e ∙ ap (λ (i : ℕ). getD I k 0 + i) {x = r - k} {y = j} (omega arith))
-        (side (k + j) r);
-  }

@@ -1,4 +1,3 @@
 pub mod ClearLaws
-pub mod CopyLaws
 pub mod GapLaws
 pub mod MarkLaws

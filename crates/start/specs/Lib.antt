@@ -1,3 +1,4 @@
 pub mod Kept
+pub mod RunBytes
 pub mod Start
 pub mod StartLaws

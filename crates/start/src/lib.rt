@@ -1,16 +1,16 @@
-// What stands in the slots before the first step: the information packets stand at their places, each written once, and the
-// other slots are zero, but for some that the first step on them clears.
+// What stands in the slots before the first step, and the clearing: every slot but the information places becomes zero, but for
+// some that the first step on them clears.
 use limits::MOST_SLOTS;
 use plan::Step;
 ghost use mathlib.Core.Path.{_≡_};
 ghost use mathlib.Core.List.{List, [], _∷_};
-ghost use Prim.Native.Nat.{_+_, _*_, _<_, _≤_};
+ghost use Prim.Native.Nat.{_+_, _*_, _≤_};
 ghost use lib.ListN.{length, take};
 ghost use Rattle.plan.specs.declared.Step.{Step as StepValue};
-ghost use Rattle.plan.specs.Layout.{planPlaces, infoCount, infoIn, slots, stepCount, stepsOf, planRefusal};
+ghost use Rattle.plan.specs.Layout.{planPlaces, infoCount, slots, stepCount, stepsOf, planRefusal};
 ghost use Rattle.plan.specs.Step.{SlotsBelow};
-ghost use Rattle.start.specs.Kept.{InformationKept, OthersKept};
-ghost use Rattle.start.specs.Start.{Lent, withInformation, Marked, MarkedOnly, Alike, GapCleared, Together, GapsCleared, ClearedFor, PreparedFor};
+ghost use Rattle.start.specs.Kept.{InformationKept};
+ghost use Rattle.start.specs.Start.{Lent, Marked, MarkedOnly, Alike, GapCleared, GapsCleared, ClearedFor};
 
 // ---- marks: slots that need no clearing
 
@@ -131,7 +131,7 @@ fn clear_gaps(plan: &[u32], s: usize, marks: &[u8], block: &mut [u8]) -> usize
 }
 
 // Every slot becomes zero, but the information places, which stay, and some that the plan's first steps clear first.
-fn clear_others(plan: &[u32], s: usize, steps: usize, block: &mut [u8], scratch: &mut [u8])
+pub fn clear_others(plan: &[u32], s: usize, steps: usize, block: &mut [u8], scratch: &mut [u8])
     requires lent { ⌜ Lent (now plan) s (length (now block)) (length (now scratch)) ⌝ }
     requires steps { ⌜ steps ≤ stepCount (now plan) ⌝ }
     ensures cleared { λ _. ⌜ ClearedFor (now (plan .entry)) s (take steps (stepsOf (now (plan .entry)))) (now (block .exit)) (now (scratch .exit)) ⌝ }
@@ -144,68 +144,4 @@ fn clear_others(plan: &[u32], s: usize, steps: usize, block: &mut [u8], scratch:
     let low = clear_gaps(plan, s, &marks, block);
     clear_gap(block, &marks, 0, low, n, s);
     clear_gap(scratch, &marks, n, 0, g, s);
-}
-
-// ---- copying
-
-// Past the information places from the k-th on that follow each other.
-fn together(plan: &[u32], k: usize, count: usize) -> usize
-    requires formed { ⌜ planRefusal (now plan) ≡ 0 ⌝ }
-    requires number { ⌜ (k < count)
-        × (count ≡ infoCount (now plan)) ⌝ }
-    ensures { λ r. ⌜ Together (infoIn (now (plan .entry))) k count r ⌝ }
-{
-    let place = plan::info_place(plan, k);
-    let mut r = k + 1;
-    while r < count {
-        if plan::info_place(plan, r) != place + (r - k) {
-            return r;
-        }
-        r += 1;
-    }
-    r
-}
-
-// The k-th information packet is copied to the k-th information place: run by run.
-fn copy_information(plan: &[u32], s: usize, information: &[u8], block: &mut [u8])
-    requires formed { ⌜ planRefusal (now plan) ≡ 0 ⌝ }
-    requires information { ⌜ length (now information) ≡ infoCount (now plan) * s ⌝ }
-    requires block { ⌜ length (now block) ≡ planPlaces (now plan) * s ⌝ }
-    ensures copied { λ _. ⌜ now (block .exit) ≡ withInformation (now (plan .entry)) s (now (information .entry)) (now (block .entry)) ⌝ }
-    ensures others { λ _. ⌜ OthersKept (now (plan .entry)) s (now (block .entry)) (now (block .exit)) ⌝ }
-{
-    let count = plan::info_count(plan);
-    let mut k = 0;
-    while k < count {
-        let r = together(plan, k, count);
-        packets::copy(
-            block,
-            plan::info_place(plan, k) * s,
-            information,
-            k * s,
-            (r - k) * s,
-        );
-        k = r;
-    }
-}
-
-// ---- both
-
-// Block and scratch before the first of so many steps.
-pub fn prepare(
-    plan: &[u32],
-    s: usize,
-    steps: usize,
-    information: &[u8],
-    block: &mut [u8],
-    scratch: &mut [u8],
-)
-    requires lent { ⌜ Lent (now plan) s (length (now block)) (length (now scratch)) ⌝ }
-    requires steps { ⌜ steps ≤ stepCount (now plan) ⌝ }
-    requires information { ⌜ length (now information) ≡ infoCount (now plan) * s ⌝ }
-    ensures { λ _. ⌜ PreparedFor (now (plan .entry)) s (take steps (stepsOf (now (plan .entry)))) (now (information .entry))
-        (now (block .exit)) (now (scratch .exit)) ⌝ }
-{
-    clear_others(plan, s, steps, block, scratch);
-    copy_information(plan, s, information, block);
 }

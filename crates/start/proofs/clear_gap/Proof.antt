@@ -1,5 +1,6 @@
 -- `start::clear_gap` meets its contract: by the runs without a mark, as one run, or nothing is to be cleared.
-use Rattle.start.proofs.ClearLaws.{gap-none, gap-more, run-bytes}
+use Rattle.start.specs.RunBytes.{run-bytes}
+use Rattle.start.proofs.ClearLaws.{gap-none, gap-more}
 use mathlib.Core.Path.{_≡_}
 use native.Mathlib.Nat.{mul-le-mul-right}
 use native.Mathlib.Omega.{arith}

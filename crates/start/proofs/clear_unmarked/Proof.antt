@@ -3,7 +3,8 @@ use Prim.Native.Nat.{_-_, _≤_}
 use mathlib.Core.Path.{_≡_, refl, _∙_}
 use lib.ListN.{length}
 use Rattle.start.specs.Start.{GapCleared}
-use Rattle.start.proofs.ClearLaws.{gap-none, gap-more, turn-on, run-bytes}
+use Rattle.start.specs.RunBytes.{run-bytes}
+use Rattle.start.proofs.ClearLaws.{gap-none, gap-more, turn-on}
 use native.Mathlib.Nat.{mul-le-mul-right}
 use native.Mathlib.Omega.{arith}
 use Rattle.start.proofs.clear_unmarked.Statement.{statement}

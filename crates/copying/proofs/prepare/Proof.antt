@@ -1,10 +1,10 @@
--- `start::prepare` meets its contract: slots cleared, and the information copied.
+-- `copying::prepare` meets its contract: slots cleared, and the information copied.
 use mathlib.Core.Path.{_∙_}
 use Rattle.plan.specs.LayoutLaws.{well}
-use Rattle.start.proofs.CopyLaws.{prepared-for}
+use Rattle.copying.proofs.CopyLaws.{prepared-for}
 use borrow.Author.Needs.{needs}
-use Rattle.start.proofs.prepare.Statement.{statement}
-use Rattle.start.proofs.prepare.Tie as tie
+use Rattle.copying.proofs.prepare.Statement.{statement}
+use Rattle.copying.proofs.prepare.Tie as tie
 
 clear-others-requires : tie.Need-clear-others-requires
 clear-others-requires c κs = search needs

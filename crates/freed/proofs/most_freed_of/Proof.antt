@@ -1,15 +1,15 @@
--- `live::most_freed_of` meets its contract: the rest of the scan decides.
+-- `freed::most_freed_of` meets its contract: the rest of the scan decides.
 use Rattle.table.specs.Accepted.{has-weights, few-checks, light, places-at}
 use Rattle.table.specs.Checks.{check}
-use Rattle.live.specs.Most.{lives, mostFrom, twos}
-use Rattle.live.proofs.Freed.{freed-check}
-use Rattle.live.proofs.Most.{lives-hit, lives-miss, lives-end, most-up, most-keep}
+use Rattle.freed.specs.Most.{lives, mostFrom, twos}
+use Rattle.freed.proofs.Freed.{freed-check}
+use Rattle.freed.proofs.Most.{lives-hit, lives-miss, lives-end, most-up, most-keep}
 use Prim.Native.Nat.{_-_, _≤_}
 use mathlib.Core.Path.{_≡_, refl, sym, ap, _∙_}
 use mathlib.Core.Logic.{⊎-elim}
 use native.Mathlib.Omega.{arith}
-use Rattle.live.proofs.most_freed_of.Statement.{statement}
-use Rattle.live.proofs.most_freed_of.Tie as tie
+use Rattle.freed.proofs.most_freed_of.Statement.{statement}
+use Rattle.freed.proofs.most_freed_of.Tie as tie
 
 abbrev Inv-loop : tie.InvT-loop
 Inv-loop t m starts live count best₀ w₀ i₀ best w i =

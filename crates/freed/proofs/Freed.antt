@@ -13,7 +13,7 @@ use Rattle.lists.specs.Lists.{count}
 use Rattle.lists.specs.Tests.{byBool}
 use Rattle.table.specs.Accepted.{Located}
 use Rattle.table.specs.Checks.{Places, check}
-use Rattle.live.specs.Most.{twos}
+use Rattle.freed.specs.Most.{twos}
 
 -- one member more at the end
 count-snoc : (f : ℕ → Bool) (l : List ℕ) (p : ℕ) → count f (l ++ (p ∷ [])) ≡ count f l + count f (p ∷ [])

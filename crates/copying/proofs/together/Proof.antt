@@ -1,12 +1,12 @@
--- `start::together` meets its contract: the places passed follow each other.
+-- `copying::together` meets its contract: the places passed follow each other.
 use Prim.Native.Nat.{_-_}
 use Rattle.plan.specs.Layout.{infoIn}
 use Rattle.plan.specs.LayoutLaws.{well, info-below}
 use Rattle.start.specs.Start.{Together}
-use Rattle.start.proofs.GapLaws.{together-one, together-more}
+use Rattle.copying.proofs.Following.{together-one, together-more}
 use native.Mathlib.Omega.{arith}
-use Rattle.start.proofs.together.Statement.{statement}
-use Rattle.start.proofs.together.Tie as tie
+use Rattle.copying.proofs.together.Statement.{statement}
+use Rattle.copying.proofs.together.Tie as tie
 
 abbrev Inv-loop : tie.InvT-loop
 Inv-loop plan k count place r₀ r = Together (infoIn plan) k count r

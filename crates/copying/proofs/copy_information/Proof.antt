@@ -1,4 +1,4 @@
--- `start::copy_information` meets its contract: what is left to copy decides the block.
+-- `copying::copy_information` meets its contract: what is left to copy decides the block.
 use Prim.Native.Nat.{ℕ, _-_, _*_, _≤_, _<_}
 use mathlib.Core.Path.{_≡_, refl, sym, ap, _∙_}
 use mathlib.Core.List.{List}
@@ -10,11 +10,11 @@ use Rattle.lists.specs.Lists.{written}
 use Rattle.plan.specs.Layout.{planPlaces, infoCount, infoIn}
 use Rattle.plan.specs.LayoutLaws.{well, info-below, info-length}
 use Rattle.plan.specs.Steps.{withPackets}
-use Rattle.start.proofs.ClearLaws.{run-bytes}
-use Rattle.start.proofs.CopyLaws.{run-room, run-copied, others-kept}
+use Rattle.start.specs.RunBytes.{run-bytes}
+use Rattle.copying.proofs.CopyLaws.{run-room, run-copied, others-kept}
 use native.Mathlib.Omega.{arith}
-use Rattle.start.proofs.copy_information.Statement.{statement}
-use Rattle.start.proofs.copy_information.Tie as tie
+use Rattle.copying.proofs.copy_information.Statement.{statement}
+use Rattle.copying.proofs.copy_information.Tie as tie
 
 abbrev Inv-loop : tie.InvT-loop
 Inv-loop plan s information block₀ count k₀ block k =

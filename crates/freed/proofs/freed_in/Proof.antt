@@ -1,13 +1,13 @@
--- `live::freed_in` meets its contract: so many of i places.
-use Rattle.live.specs.Most.{twos}
-use Rattle.live.proofs.Freed.{twos-none, twos-more, twos-same}
+-- `freed::freed_in` meets its contract: so many of i places.
+use Rattle.freed.specs.Most.{twos}
+use Rattle.freed.proofs.Freed.{twos-none, twos-more, twos-same}
 use Prim.Native.Nat.{ℕ, _+_, _-_, _≤_}
 use mathlib.Core.Path.{_≡_, sym, ap, _∙_}
 use mathlib.Core.Logic.{⊎-elim}
 use native.Mathlib.Omega.{arith}
 use lib.ListN.{take, drop}
-use Rattle.live.proofs.freed_in.Statement.{statement}
-use Rattle.live.proofs.freed_in.Tie as tie
+use Rattle.freed.proofs.freed_in.Statement.{statement}
+use Rattle.freed.proofs.freed_in.Tie as tie
 
 abbrev Inv-loop : tie.InvT-loop
 Inv-loop count t at weight r₀ i₀ r i = (i ≤ weight) × (r ≤ i) × (r ≡ twos count (take i (drop at t)))

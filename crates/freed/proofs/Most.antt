@@ -6,7 +6,7 @@ use native.Mathlib.Numerals.{add-one}
 use native.Mathlib.Omega.{arith}
 use lib.ListN.{getD}
 use borrow.Author.Tests.{le-leb, lt-leb, eq-eqb, ne-eqb}
-use Rattle.live.specs.Most.{lives, mostFrom}
+use Rattle.freed.specs.Most.{lives, mostFrom}
 
 pub lives-hit : (live : List ℕ) (i m : ℕ) → i < m → getD live i 0 ≡ 1 → lives live i (m - i) ≡ i ∷ lives live (i + 1) (m - (i + 1))
 unfolding lives
