@@ -180,7 +180,7 @@ fn read_rest(
     if !is_sound(board, text, n, m, a, b, at, rw, cl, rl) {
         return making::refused(12);
     }
-    if !tiles::lists_agree(board, text, at, cl, n, a, rw, rl, m, b) {
+    if !agreeing::lists_agree(board, text, at, cl, n, a, rw, rl, m, b) {
         return making::refused(13);
     }
     make(board, text, s, n, m, b, rw, rl, table)

@@ -1,3 +1,2 @@
 pub mod Flipping
 pub mod Marking
-pub mod Tile

@@ -14,10 +14,10 @@ use borrow.Author.Tests.{not-true, not-false}
 use Rattle.numbers.specs.Cursor.{Ahead}
 use Rattle.walks.specs.Walks.{after, listAt, ListsAhead}
 use Rattle.walks.specs.WalksLaws.{after-more, after-more, after-more, lists-from, list-from}
 use Rattle.tiles.specs.Board.{Blank, BandAgrees}
-use Rattle.tiles.proofs.Tile.{tile-blank, blank-tile, band-tile, tile-band}
-use Rattle.tiles.proofs.band_agrees.Statement.{statement}
-use Rattle.tiles.proofs.band_agrees.Tie as tie
+use Rattle.agreeing.proofs.Tile.{tile-blank, blank-tile, band-tile, tile-band}
+use Rattle.agreeing.proofs.band_agrees.Statement.{statement}
+use Rattle.agreeing.proofs.band_agrees.Tie as tie
 
 abbrev Inv-loop : tie.InvT-loop
 Inv-loop board₀ text weights lists n a others rows k b r weight₀ next₀ c₀ board weight next c = (c ≤ n) × (length board ≡ length board₀) × (Blank board₀ → Blank board)

@@ -15,10 +15,10 @@ use borrow.Author.Tests.{not-true, not-false}
 use Rattle.numbers.specs.Cursor.{Ahead}
 use Rattle.walks.specs.Walks.{after, listAt, ListsAhead}
 use Rattle.walks.specs.WalksLaws.{after-more, after-more, after-is, room-all, after-more, lists-from, list-from}
 use Rattle.tiles.specs.Board.{Blank, BandAgrees}
-use Rattle.tiles.proofs.Tile.{rows-band, band-rows}
-use Rattle.tiles.proofs.lists_agree.Statement.{statement}
-use Rattle.tiles.proofs.lists_agree.Tie as tie
+use Rattle.agreeing.proofs.Tile.{rows-band, band-rows}
+use Rattle.agreeing.proofs.lists_agree.Statement.{statement}
+use Rattle.agreeing.proofs.lists_agree.Tie as tie
 
 abbrev Inv-loop : tie.InvT-loop
 Inv-loop board₀ text weights lists n a others rows m b weight₀ next₀ r₀ board weight next r = (r ≤ m) × (length board ≡ length board₀)

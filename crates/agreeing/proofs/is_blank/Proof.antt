@@ -7,10 +7,10 @@ use borrow.Author.Tests.{ltb-true, ltb-false}
 use lib.Dec.{ltb}
 use Rattle.lists.specs.Tests.{byBool}
 use lib.ListN.{getD}
-use Rattle.tiles.proofs.Tile.{blank-word}
+use Rattle.agreeing.proofs.Tile.{blank-word}
 use Rattle.tiles.specs.BoardLaws.{words-blank}
-use Rattle.tiles.proofs.is_blank.Statement.{statement}
-use Rattle.tiles.proofs.is_blank.Tie as tie
+use Rattle.agreeing.proofs.is_blank.Statement.{statement}
+use Rattle.agreeing.proofs.is_blank.Tie as tie
 
 abbrev Inv-loop : tie.InvT-loop
 Inv-loop board i₀ i = (i ≤ 16384) × ((k : ℕ) → k < i → getD board k 0 ≡ 0)
