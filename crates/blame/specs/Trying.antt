@@ -9,7 +9,6 @@ use Rattle.blame.specs.declared.Suspected.the-variants.{Nobody, Place}
 use Rattle.lists.specs.Lists.{from, filter}
 use Rattle.table.specs.Packets.{bytesAt}
 use Rattle.table.specs.Table.{atSize}
-pub use Rattle.trials.specs.Cleared.{Cleared}
 
 -- the table with packets of one byte, and one byte position of the block
 pub record Narrow (t : List ℕ) (n s : ℕ) (b small column : List ℕ) : Type 0 where

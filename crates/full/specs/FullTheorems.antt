@@ -9,8 +9,8 @@ use native.Mathlib.Omega.{arith}
 use borrow.Author.Tests.{ne-eqb}
 use lib.Dec.{eqb}
 use lib.ListN.{length, getD, replicate}
-use Rattle.blame.specs.Blame.{blamed}
-use Rattle.blame.specs.BlameLaws.{agreed-none, blamed-contradicts}
+use Rattle.suspects.specs.Blame.{blamed}
+use Rattle.suspects.specs.BlameLaws.{agreed-none, blamed-contradicts}
 use Rattle.decided.specs.AfterLaws.{after-decided, after-lost, after-received, mark-decided, mark-lost, mark-received, marks-at}
 use Rattle.decided.specs.Counted.{counted}
 use Rattle.decided.specs.Decided.{lostRow, decided, someOf, clashesAt, packetAfter, markAfter, solvedBlock, solvedMap}

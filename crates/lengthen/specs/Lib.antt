@@ -4,4 +4,5 @@ pub mod FirstPackets
 pub mod Lengthen
 pub mod LengthenLaws
 pub mod LengthenTheorems
+pub mod Received
 pub mod Twice

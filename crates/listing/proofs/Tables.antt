@@ -12,7 +12,7 @@ use Rattle.table.specs.TableLaws.{accepted}
 use Rattle.plan.specs.Step.{addSteps}
 use Rattle.plan.specs.Layout.{stepsOf}
 use Rattle.planning.specs.declared.Planned.{Planned}
-use Rattle.planner.specs.Planning.{planOf, numbersOf, planningAnswerOf, planningAnswer, planningPlanAfter, planningRefusalAt, leastPlan, workWords}
+use Rattle.planning.specs.Planning.{planOf, numbersOf, planningAnswerOf, planningAnswer, planningPlanAfter, planningRefusalAt, leastPlan, workWords}
 use Rattle.theorems.specs.OwnPlan.{byRule, own-steps}
 use Rattle.own_plan.specs.Own.{Own, lentWork, own-refusal, own-plan}
 use Rattle.table_file.specs.declared.Words.{Words}

@@ -5,7 +5,7 @@ use mathlib.Core.List.{List}
 use Prim.Native.Nat.{ℕ}
 use lib.Dec.{eqb}
 use Rattle.table.specs.Table.{places, size}
-use Rattle.planner.specs.Planning.{planOf, planningRefusalAt, leastPlan, workWords}
+use Rattle.planning.specs.Planning.{planOf, planningRefusalAt, leastPlan, workWords}
 use Rattle.table_file.specs.Words.{wordsOf, unfit}
 use Rattle.plan_text.specs.PlanText.{planText, refusedLine}
 

@@ -13,8 +13,8 @@ use Rattle.table.specs.Table.{places, size, checks, refusal}
 use Rattle.table.specs.TableLaws.{accepted}
 use Rattle.plan.specs.Layout.{mostAside}
 use Rattle.rule.specs.WithinLimits.{kept-weight}
-use Rattle.planner.specs.Planning.{planOf, numbersOf, planningRefusalAt, leastPlan, workWords, numbersBy, planOfBy}
-use Rattle.planner.specs.PlanningLaws.{accepted-planning}
+use Rattle.planning.specs.Planning.{planOf, numbersOf, planningRefusalAt, leastPlan, workWords, numbersBy, planOfBy}
+use Rattle.planning.specs.PlanningLaws.{accepted-planning}
 use Rattle.theorems.specs.OwnPlan.{byRule, own-info, own-steps, own-accepted}
 use Rattle.table_file.specs.Words.{wordsOf, unfit}
 use Rattle.listing.specs.Listing.{tableText, listing}

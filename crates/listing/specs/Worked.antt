@@ -4,7 +4,7 @@ use mathlib.Core.List.{List, [], _∷_, _++_}
 use Prim.Native.Nat.{ℕ, _/_, _%_}
 use Prim.Native.String.{String}
 use Rattle.table.specs.Table.{atSize}
-use Rattle.planner.specs.Planning.{planningRefusalAt, planOfBy}
+use Rattle.planning.specs.Planning.{planningRefusalAt, planOfBy}
 use Rattle.numerals.specs.Numerals.{digitsWithin}
 use Rattle.text.specs.Lines.{bytes}
 use Rattle.listing.specs.Listing.{listing, tableText}

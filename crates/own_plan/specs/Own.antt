@@ -9,8 +9,8 @@ use Rattle.table.specs.Table.{refusal}
 use Rattle.plan.specs.Step.{addSteps}
 use Rattle.plan.specs.Layout.{planRefusal, mostAside}
 use Rattle.planning.specs.declared.Planned.{Planned}
-use Rattle.planner.specs.Planning.{planOf, numbersOf, planningAnswerOf, planningAnswerAt, planningRefusal, planningAnswer, planningPlanAfter, planningRefusalAt, workWords}
-use Rattle.planner.specs.PlanningLaws.{accepted-planning}
+use Rattle.planning.specs.Planning.{planOf, numbersOf, planningAnswerOf, planningAnswerAt, planningRefusal, planningAnswer, planningPlanAfter, planningRefusalAt, workWords}
+use Rattle.planning.specs.PlanningLaws.{accepted-planning}
 use Rattle.theorems.specs.OwnPlan.{byRule, own-accepted}
 
 -- the work that is lent to the planner

@@ -1,7 +1,7 @@
 // The planner's own plan, for the programs.
 use planning::Planned;
 ghost use mathlib.Core.Path.{_≡_};
-ghost use Rattle.planner.specs.Planning.{planningAnswerOf, planningAnswer, planningPlanAfter};
+ghost use Rattle.planning.specs.Planning.{planningAnswerOf, planningAnswer, planningPlanAfter};
 ghost use Rattle.own_plan.specs.Own.{lentWork};
 
 // Plans a table: the planner's call with work of its own.

@@ -20,9 +20,9 @@ use Rattle.erasure.specs.OldBytes.{old-bytes, old-bytes-cleared}
 use Rattle.erasure.specs.OldRepair.{cleared-kept}
 use Rattle.erasure.specs.OutcomeLaws.{tally-two}
 use Rattle.erasure.specs.Restoring.{noneLost, zeroLost, tally, outcome, contradicting, agreeing, Counts, countsIf, blockIf, mapIf, isLost}
-use Rattle.blame.specs.Blame.{lostToo, onlySuspect, blamed}
-use Rattle.blame.specs.BlameLaws.{agreed-none, contradicted-only, only-is, only-alike, lostToo-known, lostToo-bytes}
-use Rattle.blame.specs.Trying.{Cleared}
+use Rattle.suspects.specs.Blame.{lostToo, onlySuspect, blamed}
+use Rattle.suspects.specs.BlameLaws.{agreed-none, contradicted-only, only-is, only-alike, lostToo-known, lostToo-bytes}
+use Rattle.trials.specs.Cleared.{Cleared}
 use Rattle.faults.specs.FaultLaws.{no-fault, some-fault, first-fault}
 use Rattle.restore.specs.Mending.{countsOf, Mends}
 use Rattle.restore.specs.MendsLaws.{agrees-told, check-told, byte-told}

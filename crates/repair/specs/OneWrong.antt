@@ -9,8 +9,8 @@ use Prim.Native.Nat.{ℕ, _<_}
 use lib.Dec.{eqb}
 use lib.ListN.{getD, set}
 use lib.Seq.{getD-set-same, getD-set-other}
-use Rattle.blame.specs.Blame.{lostToo, blamed, Suspect}
-use Rattle.blame.specs.BlameLaws.{mark-three, blamed-is}
+use Rattle.suspects.specs.Blame.{lostToo, blamed, Suspect}
+use Rattle.suspects.specs.BlameLaws.{mark-three, blamed-is}
 use Rattle.erasure.specs.OfferedLaws.{bytes-all, lost-byte}
 use Rattle.erasure.specs.Offered.{Fitting}
 use Rattle.erasure.specs.OldRepair.{word-agrees, word-values}

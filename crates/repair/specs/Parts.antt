@@ -3,7 +3,7 @@ use mathlib.Core.Path.{_≡_}
 use mathlib.Core.List.{List}
 use Prim.Native.Nat.{ℕ}
 use lib.ListN.{set}
-use Rattle.blame.specs.Blame.{lostToo}
+use Rattle.suspects.specs.Blame.{lostToo}
 use Rattle.erasure.specs.Restoring.{tally, outcome}
 use Rattle.report.specs.Report.{repairAnswerOf, acceptedWith}
 use Rattle.report.specs.declared.Repaired.{Repaired}

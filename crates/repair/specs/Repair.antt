@@ -7,7 +7,7 @@ use mathlib.Core.Option.{Option, none, some}
 use Prim.Native.Nat.{ℕ, zero, suc}
 use lib.Dec.{eqb}
 use lib.ListN.{set}
-use Rattle.blame.specs.Blame.{lostToo, blamed, nobody}
+use Rattle.suspects.specs.Blame.{lostToo, blamed, nobody}
 use Rattle.erasure.specs.Offered.{wrongLengths, byteOver, handedOn}
 use Rattle.erasure.specs.Restoring.{State, zeroLost, tally, outcome, contradicting, agreeing}
 use Rattle.faults.specs.Faults.{Fault, checkOf, byteOf}

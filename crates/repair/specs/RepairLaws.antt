@@ -8,7 +8,7 @@ use Prim.Native.Nat.{ℕ, _*_}
 use borrow.Author.Tests.{eq-eqb, ne-eqb, not-true}
 use lib.Dec.{eqb, ltb}
 use lib.ListN.{length}
-use Rattle.blame.specs.Blame.{blamed, nobody}
+use Rattle.suspects.specs.Blame.{blamed, nobody}
 use Rattle.erasure.specs.Offered.{wrongLengths, byteOver, Fitting}
 use Rattle.erasure.specs.OfferedLaws.{offer-fits}
 use Rattle.erasure.specs.Restoring.{zeroLost, agreeing}

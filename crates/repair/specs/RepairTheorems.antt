@@ -11,8 +11,8 @@ use borrow.Author.Tests.{ne-eqb}
 use lib.Dec.{eqb}
 use lib.ListN.{length, getD, set, replicate, length-set}
 use lib.Seq.{getD-set-same, getD-set-other}
-use Rattle.blame.specs.Blame.{lostToo, blamed, Suspect, OnlySuspect}
-use Rattle.blame.specs.BlameLaws.{TwoSuspects, no-only, none-only, two-only, agreed-none, contradicted-only, blamed-contradicts, blamed-is, is-blamed, lostToo-bytes, lostToo-count, lostToo-known, mark-three, three-restored, three-lost, stays-without, suspect-changes, blamed-alike}
+use Rattle.suspects.specs.Blame.{lostToo, blamed, Suspect, OnlySuspect}
+use Rattle.suspects.specs.BlameLaws.{TwoSuspects, no-only, none-only, two-only, agreed-none, contradicted-only, blamed-contradicts, blamed-is, is-blamed, lostToo-bytes, lostToo-count, lostToo-known, mark-three, three-restored, three-lost, stays-without, suspect-changes, blamed-alike}
 use Rattle.erasure.specs.OfferedLaws.{none-handed, bytes-all, byte-at, agree-there, sized, low}
 use Rattle.erasure.specs.Offered.{handedOn, Fitting, Agree}
 use Rattle.erasure.specs.Largest.{stays-lost, largest-same}

@@ -8,7 +8,7 @@ ghost use mathlib.Core.Path.{_≡_};
 ghost use mathlib.Core.Bool.{true};
 ghost use Prim.Native.Nat.{_<_};
 ghost use Rattle.table.specs.Accepted.{Accepted};
-ghost use Rattle.blame.specs.Blame.{lostToo};
+ghost use Rattle.suspects.specs.Blame.{lostToo};
 ghost use Rattle.erasure.specs.Offered.{Fitting};
 ghost use Rattle.erasure.specs.Restoring.{agreeing};
 ghost use Rattle.repair.specs.Repair.{Answers};

@@ -13,8 +13,8 @@ use Rattle.making.specs.ReadBack.{checks-back}
 use Rattle.making.specs.WrittenAccepted.{Fits, written-accepted}
 use Rattle.plan.specs.Layout.{mostAside}
 use Rattle.rule.specs.Rule.{kept, peel, plan, setAsideOf}
-use Rattle.planner.specs.Planning.{leastPlan, workWords, planOf, planOfBy, refusedBy, planningRefusal, planningAnswer}
-use Rattle.planner.specs.PlanningLaws.{gap-decides}
+use Rattle.planning.specs.Planning.{leastPlan, workWords, planOf, planOfBy, refusedBy, planningRefusal, planningAnswer}
+use Rattle.planning.specs.PlanningLaws.{gap-decides}
 use Rattle.theorems.specs.CopiesKept.{one, two, three, all-kept}
 use Rattle.theorems.specs.CopiesPeeled.{asides}
 use Rattle.theorems.specs.OwnPlan.{up-rising}

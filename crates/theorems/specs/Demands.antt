@@ -26,8 +26,8 @@ use Rattle.rule.specs.OneBlock.{Encodes, block, block-encodes, one-block}
 use Rattle.rule.specs.Info.{info-number, kept-few}
 use Rattle.rule.specs.Bound.{adds-most, kept-ones, adds-bound, fitted-number}
 use Rattle.rule.specs.WellFormed.{info-low}
-use Rattle.planner.specs.Planning.{planOf, numbersOf, planningRefusal, planningAnswer, planningPlanAfter, planningAnswerAt, numbersBy, planOfBy}
-use Rattle.planner.specs.PlanningLaws.{accepted-planning}
+use Rattle.planning.specs.Planning.{planOf, numbersOf, planningRefusal, planningAnswer, planningPlanAfter, planningAnswerAt, numbersBy, planOfBy}
+use Rattle.planning.specs.PlanningLaws.{accepted-planning}
 use Rattle.encoder.specs.Encoding.{stepsWithin, slotsAfter, encodeRefusal, encodeAnswer, encodeAnswerAt, encodeBlockAfter}
 use Rattle.encoder.specs.EncodingLaws.{accepted as accepted-encoding, not-refused-at, count-within, limit-all}
 use Rattle.theorems.specs.OwnPlan.{own-info, own-steps, own-places, own-accepted, own-count}

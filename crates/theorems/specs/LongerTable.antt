@@ -30,7 +30,7 @@ use Rattle.table.specs.Codewords.{IsCodeword}
 use Rattle.table.specs.PacketCall.{partAt}
 use Rattle.table.specs.Packets.{joined}
 use Rattle.table.specs.Table.{places, size, atSize}
-use Rattle.planner.specs.Planning.{planningRefusal}
+use Rattle.planning.specs.Planning.{planningRefusal}
 use Rattle.theorems.specs.Demands.{handed, ToTheLastStep, encoding-codeword}
 use Rattle.theorems.specs.Week.{Arrives, sent, arrives-fitting}
 

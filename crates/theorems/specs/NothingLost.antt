@@ -8,8 +8,8 @@ use mathlib.Core.Option.{Option, none, some}
 use Prim.Native.Nat.{ℕ, zero, suc}
 use native.Mathlib.Omega.{arith}
 use lib.Seq.{ext-getD}
-use Rattle.blame.specs.Blame.{blamed}
-use Rattle.blame.specs.BlameLaws.{agreed-none}
+use Rattle.suspects.specs.Blame.{blamed}
+use Rattle.suspects.specs.BlameLaws.{agreed-none}
 use Rattle.lists.specs.Tests.{byBool, byOpt}
 use Rattle.erasure.specs.Offered.{handedOn, Fitting}
 use Rattle.erasure.specs.OutcomeLaws.{none-lost, tally-lost}

@@ -20,7 +20,7 @@ use Rattle.rule.specs.Rule.{Plan}
 use Rattle.rule.specs.WellFormed.{well-formed, info-low}
 use Rattle.rule.specs.Info.{info-number, kept-few}
 use Rattle.rule.specs.WithinLimits.{info-up, kept-length, aside-few, steps-limit}
-use Rattle.planner.specs.Planning.{planOfBy, numbersBy}
+use Rattle.planning.specs.Planning.{planOfBy, numbersBy}
 
 -- ---- tests
 or-no : {a b : Bool} → a ≡ false → b ≡ false → (a || b) ≡ false

@@ -14,7 +14,7 @@ use Rattle.making.specs.MakingLaws.{make-told}
 use Rattle.alist.specs.Alist.{alistReadCauses, alistReadRefusalAt, alistTable, alistReadRefusal, alistReadAnswer}
 use Rattle.alist.specs.AlistText.{alistText, alistWriteCauses, alistWriteRefusalAt, alistWriteRefusal, alistWriteAnswer}
 use Rattle.plan.specs.Layout.{planCauses, planRefusal}
-use Rattle.planner.specs.Planning.{planningCauses, planningRefusalAt, planningAnswer, planningAnswerAt, planningRefusal}
+use Rattle.planning.specs.Planning.{planningCauses, planningRefusalAt, planningAnswer, planningAnswerAt, planningRefusal}
 use Rattle.encoder.specs.Encoding.{encodeCauses, encodeRefusalAt, encodeAnswer, encodeAnswerAt, encodeRefusal}
 use Rattle.repair.specs.Repair.{repairCauses, repairOutcome, repairRefusal, repairAnswer, repairAnswerAt}
 use Rattle.full.specs.Full.{fullCauses, fullRefusal, fullAnswer, fullAnswerAt, fullMapAfter}

@@ -23,8 +23,8 @@ use Rattle.staircase.specs.Stairs.{staircase}
 use Rattle.plan.specs.Layout.{mostAside, planKept, infoIn, infoCount}
 use Rattle.rule.specs.Choices.{byRule}
 use Rattle.rule.specs.Rule.{mostFreed, plan}
-use Rattle.planner.specs.Planning.{leastPlan, workWords, tooManyAside, planOf, planningRefusal, planOfBy}
-use Rattle.planner.specs.PlanningLaws.{gap-decides, lengths-decide}
+use Rattle.planning.specs.Planning.{leastPlan, workWords, tooManyAside, planOf, planningRefusal, planOfBy}
+use Rattle.planning.specs.PlanningLaws.{gap-decides, lengths-decide}
 use Rattle.encoder.specs.Encoding.{encodeBlockAfter}
 use Rattle.theorems.specs.Demands.{handed, plan-written, ToTheLastStep, TheOneBlock, planning-then-encoding}
 use Rattle.theorems.specs.OwnPlan.{own-info, own-places, own-kept}

@@ -6,7 +6,7 @@ use mathlib.Core.List.{List, [], _∷_, _++_, map}
 use Prim.Native.Nat.{ℕ, _+_, _-_, _*_}
 use lib.ListN.{length, take, replicate}
 use Rattle.erasure.specs.Offered.{Held, held}
-use Rattle.blame.specs.Blame.{blamed}
+use Rattle.suspects.specs.Blame.{blamed}
 use Rattle.erasure.specs.Restoring.{agreeing, blockIf, mapIf}
 use Rattle.faults.specs.Faults.{checkOf, byteOf}
 use Rattle.lists.specs.Lists.{from}
@@ -21,7 +21,7 @@ use Rattle.plan.specs.Layout.{mostSteps}
 use Rattle.plan.specs.Step.{addSteps}
 use Rattle.rule.specs.Buffers.{peelingBy, peeling}
 use Rattle.rule.specs.Rule.{heaviest, setAsideOf}
-use Rattle.planner.specs.Planning.{planOf, numbersOf, planningRefusalAt, leastPlan, workWords, numbersBy, planOfBy}
+use Rattle.planning.specs.Planning.{planOf, numbersOf, planningRefusalAt, leastPlan, workWords, numbersBy, planOfBy}
 use Rattle.encoder.specs.Encoding.{encodeRefusalAt, encodeAnswer, encodeBlockAfter, encodeScratchAfter}
 use Rattle.repair.specs.Repair.{repairRefusal, repairAnswer, repairBlockAfter, repairMapAfter}
 use Rattle.repair.specs.RepairTheorems.{oldAnswer}

@@ -14,7 +14,7 @@ use Rattle.plan.specs.Layout.{mostAside, mostSteps, planRefusal, planGap, stepC
 use Rattle.plan.specs.LayoutLaws.{beyond-aside, beyond-steps}
 use Rattle.rule.specs.Choices.{Chooses, byWeight}
 use Rattle.rule.specs.Rule.{Plan, heaviest}
-use Rattle.planner.specs.Planning.{planOfBy, numbersBy}
+use Rattle.planning.specs.Planning.{planOfBy, numbersBy}
 use Rattle.encoder.specs.Encoding.{wrongSize, encodeRefusalAt, refusedBy, encodeAnswer, encodeBlockAfter, encodeScratchAfter}
 use Rattle.encoder.specs.EncodingLaws.{refused-size, refused-plan, refused-answer, refused-keeps-block, refused-keeps-scratch}
 use Rattle.theorems.specs.Demands.{ToTheLastStep, TheOneBlock, the-one-block, last-counted}

@@ -13,8 +13,8 @@ use Rattle.table.specs.AnySize.{at-own-size, accepted-at}
 use Rattle.table.specs.Codewords.{IsCodeword}
 use Rattle.table.specs.TableLaws.{within}
 use Rattle.table.specs.Table.{mostBytes, places, size, atSize, refusal}
-use Rattle.planner.specs.Planning.{planningRefusal}
-use Rattle.planner.specs.PlanningLaws.{accepted-planning}
+use Rattle.planning.specs.Planning.{planningRefusal}
+use Rattle.planning.specs.PlanningLaws.{accepted-planning}
 use Rattle.encoder.specs.Encoding.{encodeBlockAfter}
 use Rattle.erasure.specs.Offered.{Fitting, Agree}
 use Rattle.erasure.specs.Restoring.{Largest}

@@ -4,9 +4,9 @@ use mathlib.Core.Path.{_≡_, refl}
 use mathlib.Core.List.{List, [], _∷_, map}
 use Prim.Native.Nat.{ℕ}
 use lib.ListN.{length, replicate}
-use Rattle.blame.specs.Blame.{blamed}
+use Rattle.suspects.specs.Blame.{blamed}
 use Rattle.encoder.specs.Encoding.{encodeRefusalAt}
-use Rattle.planner.specs.Planning.{planOf, numbersOf, numbersBy, planOfBy}
+use Rattle.planning.specs.Planning.{planOf, numbersOf, numbersBy, planOfBy}
 use Rattle.repair.specs.Repair.{repairRefusal}
 use Rattle.theorems.specs.Starred.{Case, answered, mended}
 

@@ -1,6 +1,6 @@
 -- The answers of the library for C, as the definitions' records.
 use Rattle.encoder.specs.Encoding.{EncodeAnswer}
-use Rattle.planner.specs.Planning.{PlanningAnswer}
+use Rattle.planning.specs.Planning.{PlanningAnswer}
 use Rattle.uplink.specs.declared.Encoding.{Encoding}
 use Rattle.uplink.specs.declared.Planning.{Planning}
 

@@ -1,7 +1,7 @@
 // The uplink's library for C: the planner and the encoder.
 ghost use mathlib.Core.Path.{_≡_};
 ghost use Rattle.encoder.specs.Encoding.{encodeAnswer, encodeBlockAfter, encodeScratchAfter};
-ghost use Rattle.planner.specs.Planning.{planningAnswer, planningPlanAfter, planningWorkAfter};
+ghost use Rattle.planning.specs.Planning.{planningAnswer, planningPlanAfter, planningWorkAfter};
 ghost use Rattle.uplink.specs.Answers.{encoded, planned};
 
 // What the encoder answers: the refusal, 0 for none, and the additions.

@@ -1,2 +1,0 @@
-pub mod Planning
-pub mod PlanningLaws
