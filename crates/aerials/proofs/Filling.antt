@@ -1,4 +1,4 @@
--- What one place comes to; and the loop that makes marks of kinds.
+-- The loop that makes marks of kinds.
 use mathlib.Core.Path.{_≡_, refl, sym, ap, _∙_}
 use mathlib.Core.Bool.{cond}
 use mathlib.Core.List.{List, map as each}
@@ -9,14 +9,7 @@ use lib.ListN.{length, getD, set, length-map, length-set}
 use lib.Seq.{ext-getD, getD-set-other}
 use Rattle.lists.specs.Buffers.{filled-more}
 use Rattle.lists.specs.ListLaws.{map-at}
-use Rattle.lists.specs.Lists.{written}
-use Rattle.aerials.specs.Aerials.{Heard, packetOf, kindOf}
 
--- what one place comes to: its kind, and the third block
-pub told : (s at k : ℕ) (block e : List ℕ) (g h : Heard) → g ≡ h → k ≡ kindOf h → e ≡ written block at (packetOf s h) → (k ≡ kindOf g) × (e ≡ written block at (packetOf s g))
-told s at k block e g h is a b = rw is (a, b)
-
--- ---- kinds that become marks
 abbrev pub markOfKind : ℕ → ℕ
 markOfKind k = cond (ltb 1 k) 1 0
 

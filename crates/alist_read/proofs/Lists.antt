@@ -1,5 +1,5 @@
 -- Laws of the lists of a text: as entries, as walks see them, and in the rows of a board.
-use mathlib.Core.Path.{_≡_, refl, sym, ap, ap₂, _∙_, subst}
+use mathlib.Core.Path.{_≡_, sym, ap, ap₂, _∙_, subst}
 use mathlib.Core.Bool.{Bool, true, false, _&&_}
 use mathlib.Core.List.{List, [], _∷_, _++_, map, append-nil}
 use Prim.Native.Nat.{ℕ, zero, suc, _+_, _-_, _*_, _<_, _≤_}
@@ -11,7 +11,7 @@ use lib.Seq.{take-nil, take-take, getD-take, ext-getD, length-take-le}
 use Rattle.lists.specs.ListLaws.{all-map, differ-par, filter-append, filter-none, filter-same, map-at}
 use Rattle.lists.specs.Lists.{allDiffer, allPass, bxor, filter, from, has, par}
 use Rattle.lists.specs.Numbers.{from-add, from-all, from-length, map-from-at}
-use Rattle.lists.specs.Tests.{bxor-comm, and-l, and-r}
+use Rattle.lists.specs.Tests.{bxor-comm, and-l, and-r, and-assoc}
 use Rattle.gf2.specs.Gf2.{bit}
 use Rattle.bits.specs.Row.{row, placesIn, rowsIn}
 use Rattle.alist.specs.Alist.{chunks, entries, counted, rightMost, inRange, goodList, goodLists, isAlist, columnEntries, rowEntries, disagree, sortedRow, alistChecks}
@@ -59,11 +59,7 @@ drop-take (suc w) (suc width) (x ∷ l) = drop-take w width l ∙ ap (λ k. take
 pub good-is : (most w width : ℕ) (l : List ℕ) → w ≤ width
     → goodList most w (take width l) ≡ ((allPass (inRange most) (take w l) && allDiffer (take w l)) && allPass (λ x. eqb x 0) (take (width - w) (drop w l)))
 good-is most w width l h = ap₂ (λ x y. allPass (inRange most) x && (allDiffer x && allPass (λ x. eqb x 0) y)) (take-take w width l h) (drop-take w width l)
-    ∙ and-assoc (allPass (inRange most) (take w l)) (allDiffer (take w l)) (allPass (λ x. eqb x 0) (take (width - w) (drop w l)))
-  where
-    and-assoc : (a b c : Bool) → (a && (b && c)) ≡ ((a && b) && c)
-    and-assoc true b c = refl
-    and-assoc false b c = refl
+    ∙ sym (and-assoc (allPass (inRange most) (take w l)) (allDiffer (take w l)) (allPass (λ x. eqb x 0) (take (width - w) (drop w l))))
 
 -- the entries of a good list differ
 pub good-differ : (most w width : ℕ) (l : List ℕ) → w ≤ width → goodList most w (take width l) ≡ true → allDiffer (take w l) ≡ true

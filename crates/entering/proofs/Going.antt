@@ -1,32 +1,18 @@
--- One place entered, and the loop over the places.
+-- The loop over the places.
 use mathlib.Core.Path.{_≡_, sym, ap, ap₂, _∙_}
 use mathlib.Core.Bool.{true, false}
-use mathlib.Core.List.{List, _++_}
-use Prim.Native.Nat.{ℕ, _+_, _*_, _<_, _≤_}
+use mathlib.Core.List.{List}
+use Prim.Native.Nat.{ℕ, _+_, _*_, _<_}
 use native.Mathlib.Omega.{arith}
 use lib.Dec.{ltb}
-use lib.ListN.{length, getD, set, take, drop, take-append-drop}
-use lib.Seq.{drop-drop}
+use lib.ListN.{getD, set}
 use Rattle.entering.specs.Entering.{Entry, entry, markOf, packetOf, carriedMark, entryAt}
 use Rattle.entering.specs.EnteredLaws.{sized, parts-long}
 use Rattle.erasure.specs.Offered.{held}
-use Rattle.lists.specs.Buffers.{part-length}
 use Rattle.lists.specs.Lists.{written}
 use Rattle.packets.specs.Filling.{Sized, Filled, one-filled}
 use Rattle.table.specs.PacketCall.{partAt}
 use Rattle.table.specs.PacketLaws.{packet-at}
-
--- what one place comes to: its mark, and the block
-pub told : (s at k : ℕ) (block e : List ℕ) (g h : Entry) → g ≡ h → k ≡ markOf h → e ≡ written block at (packetOf s h) → (k ≡ markOf g) × (e ≡ written block at (packetOf s g))
-told s at k block e g h is a b = rw is (a, b)
-
--- a part that is written where it stands
-pub written-same : (b : List ℕ) (at s : ℕ) → at + s ≤ length b → b ≡ written b at (take s (drop at b))
-written-same b at s h = sym (
-    ap (λ k. take at b ++ (take s (drop at b) ++ drop (at + k) b)) (part-length b at s h)
-    ∙ ap (λ x. take at b ++ (take s (drop at b) ++ x)) (sym (drop-drop s at b))
-    ∙ ap (λ x. take at b ++ x) (take-append-drop s (drop at b))
-    ∙ take-append-drop at b)
 
 -- ---- the loop
 module _ (n k s : ℕ) (block₀ map₀ arrivals arrived : List ℕ) where

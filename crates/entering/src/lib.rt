@@ -27,21 +27,25 @@ fn carried(map: &[u8], n: usize, p: usize) -> u8
 fn enter(carried: u8, arrived: u8, block: &mut [u8], arrivals: &[u8], at: usize, s: usize) -> u8
     requires { ⌜ (at + s ≤ length (now block))
         × (at + s ≤ length (now arrivals)) ⌝ }
-    ensures mark { λ r. ⌜ r ≡ markOf (entry carried arrived (take s (drop at (now (block .entry)))) (take s (drop at (now (arrivals .entry))))) ⌝ }
+    ensures mark { λ r. ⌜
+        r
+        ≡ markOf (entry carried arrived (take s (drop at (now (block .entry)))) (take s (drop at (now (arrivals .entry)))))
+        ⌝ }
     ensures packet { λ _. ⌜
         now (block .exit)
-        ≡ written (now (block .entry)) at (packetOf s (entry carried arrived (take s (drop at (now (block .entry)))) (take s (drop at (now (arrivals .entry))))))
+        ≡ written (now (block .entry)) at
+        (packetOf s (entry carried arrived (take s (drop at (now (block .entry)))) (take s (drop at (now (arrivals .entry))))))
         ⌝ }
 {
-    if carried != LOST {
-        return carried;
-    }
-    if arrived != RECEIVED {
+    if carried == LOST {
+        if arrived == RECEIVED {
+            packets::copy(block, at, arrivals, at, s);
+            return RECEIVED;
+        }
         packets::clear(block, at, s);
         return LOST;
     }
-    packets::copy(block, at, arrivals, at, s);
-    RECEIVED
+    carried
 }
 
 // All k places, of which n are old.

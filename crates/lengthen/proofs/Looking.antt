@@ -50,10 +50,10 @@ module _ (old new : List ℕ) (carried arrivals : Held) (c d n s : ℕ) (look₁
       longer = sym long ∙ yes
 
       -- the old places are the map's first
-      pub inside : k ≤ length (carried .map)
+      pub inside : (k ≤ length (carried .map)) × (length (carried .map) ≡ n)
       inside =
           let m = lengths-fit new (carried .block) (carried .map) (wrong-is carried u e₁ ∙ y₁) .1 in
-          omega (arith, lengthens-facts old new longer .more-places)
+          (omega (arith, lengthens-facts old new longer .more-places), m ∙ sym en)
 
       over-is : (o : Bool) → o ≡ anyOf (ltb 2) (take (k - 0) (carried .map)) → carriedOver old new carried arrivals ≡ o
       over-is o e = let z : k - 0 ≡ places old = omega arith in sym (e ∙ ap (λ j. anyOf (ltb 2) (take j (carried .map))) z)

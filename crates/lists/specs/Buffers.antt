@@ -6,8 +6,8 @@ use Prim.Native.Nat.{ℕ, _+_, _-_, _<_, _≤_}
 use native.Mathlib.Numerals.{add-one}
 use native.Mathlib.Omega.{arith}
 use lib.Dec.{eqb}
-use lib.ListN.{length, getD, set, take, drop, length-append, length-take, length-drop, length-map, List·getD-append, drop-of-length-le}
-use lib.Seq.{getD-take, getD-drop, getD-append-add, getD-set-same, getD-set-other, ext-getD, take-suc}
+use lib.ListN.{length, getD, set, take, drop, length-append, length-take, length-drop, length-map, List·getD-append, drop-of-length-le, take-append-drop}
+use lib.Seq.{drop-drop, getD-take, getD-drop, getD-append-add, getD-set-same, getD-set-other, ext-getD, take-suc}
 use Rattle.lists.specs.Lists.{from, written}
 use Rattle.lists.specs.Numbers.{from-length, map-from-at}
 use Rattle.lists.specs.Tests.{eqb-true, eqb-false, byBool, side}
@@ -74,6 +74,14 @@ written-length b at x h = written-bytes b at x (length x) refl h .len
 -- all of a buffer
 pub written-whole : (b x : List ℕ) → length x ≡ length b → written b 0 x ≡ x
 written-whole b x h = ap (λ r. x ++ r) (drop-of-length-le b {i = 0 + length x} (omega arith)) ∙ append-nil x
+
+-- a part that is written where it stands
+pub written-same : (b : List ℕ) (at s : ℕ) → at + s ≤ length b → b ≡ written b at (take s (drop at b))
+written-same b at s h = sym (
+    ap (λ k. take at b ++ (take s (drop at b) ++ drop (at + k) b)) (part-length b at s h)
+    ∙ ap (λ x. take at b ++ (take s (drop at b) ++ x)) (sym (drop-drop s at b))
+    ∙ ap (λ x. take at b ++ x) (take-append-drop s (drop at b))
+    ∙ take-append-drop at b)
 
 -- ---- filled from the start: one more
 pub filled-more : {X : Type 0} (d : X) (f : ℕ → X) (l : List X) (i : ℕ) (v : X) → i < length l → ((k : ℕ) → k < i → getD l k d ≡ f k) → v ≡ f i

@@ -68,6 +68,17 @@ or-exchange true true c = refl
 or-exchange true false c = refl
 or-exchange false b c = refl
 
+pub and-assoc : (a b c : Bool) → ((a && b) && c) ≡ (a && (b && c))
+and-assoc true b c = refl
+and-assoc false b c = refl
+
+-- the first two of three exchanged
+pub and-exchange : (a b c : Bool) → (a && (b && c)) ≡ (b && (a && c))
+and-exchange true true c = refl
+and-exchange true false c = refl
+and-exchange false true c = refl
+and-exchange false false c = refl
+
 -- the second of two fails
 pub and-false : (a b : Bool) → b ≡ false → (a && b) ≡ false
 and-false true b e = e

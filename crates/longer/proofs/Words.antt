@@ -11,22 +11,11 @@ use lib.ListN.{length, take, drop, length-drop}
 use lib.Seq.{length-take-le, take-add, take-take}
 use Rattle.lists.specs.ListLaws.{same-sound}
 use Rattle.lists.specs.Lists.{sameList}
-use Rattle.lists.specs.Tests.{eqb-true, eqb-false, eqb-self, byBool, and-false}
+use Rattle.lists.specs.Tests.{eqb-true, eqb-false, eqb-self, byBool, and-assoc, and-exchange, and-false}
 use Rattle.longer.specs.Longer.{areFirst, lengthens}
 use Rattle.table.specs.Accepted.{Accepted}
 use Rattle.table.specs.ChecksLaws.{limits, checks-length}
 use Rattle.table.specs.Table.{places, size, number, weights, total, cutUp, checks, refusal}
-
--- ---- tests
-and-assoc : (a b c : Bool) → ((a && b) && c) ≡ (a && (b && c))
-and-assoc true b c = refl
-and-assoc false b c = refl
-
-and-exchange : (a b c : Bool) → (a && (b && c)) ≡ (b && (a && c))
-and-exchange true true c = refl
-and-exchange true false c = refl
-and-exchange false true c = refl
-and-exchange false false c = refl
 
 -- ---- two lists compared in parts
 same-append : (p q x y : List ℕ) → length p ≡ length q → sameList (p ++ x) (q ++ y) ≡ (sameList p q && sameList x y)
@@ -130,9 +119,6 @@ module _ (old new : List ℕ) (m k : ℕ) (a : Accepted old m (places old) (size
       omega (arith, l .long, l .ones-are, j .long, j .ones-are, w, total-take (number old) (weights new), a .number-is, z .number-is)
 
 -- ---- the first word that tells
-pub five-words : (t : List ℕ) → refusal t ≡ 0 → 5 ≤ length t
-five-words t ok = let l = limits t ok .long in omega arith
-
 module _ (old new : List ℕ) where
   pub other-size : size old ≢ size new → lengthens old new ≡ false
   other-size ne = rw (ne-eqb (size old) (size new) ne)

@@ -1,4 +1,5 @@
-// Marks of lost places and of checks: lengths of a block and its map, whether a mark is over 1, how many places are lost, zero bytes at each, and whether a check is to be summed.
+// Lengths of a block and its map. Marks of lost places and of checks: whether one is over a bound, how many places are
+// lost, zero bytes at each, and whether a check is to be summed.
 ghost use mathlib.Core.Path.{_≡_};
 ghost use mathlib.Core.Bool.{true, false, _||_};
 ghost use Prim.Native.Nat.{_*_, _≤_};

@@ -16,6 +16,11 @@ pub record Sized (n s : ℕ) (block map : List ℕ) : Type 0 where
   pub bytes : length block ≡ n * s
   pub marks : length map ≡ n
 
+-- what one place comes to, h, is g: its mark, and the block with its packet
+pub told : {X : Type 0} (mark : X → ℕ) (packet : X → List ℕ) (at k : ℕ) (block e : List ℕ) (g h : X) → g ≡ h → k ≡ mark h → e ≡ written block at (packet h)
+    → (k ≡ mark g) × (e ≡ written block at (packet g))
+told mark packet at k block e g h is a b = (a ∙ ap mark (sym is), b ∙ ap (λ x. written block at (packet x)) (sym is))
+
 module _ (n s : ℕ) (f : ℕ → List ℕ) (g : ℕ → ℕ) (block₀ map₀ : List ℕ) where
   -- the places below p are filled
   pub record Filled (p : ℕ) (block map : List ℕ) : Type 0 where

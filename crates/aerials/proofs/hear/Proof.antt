@@ -3,10 +3,10 @@ use mathlib.Core.Path.{refl, sym, _∙_}
 use native.Mathlib.Omega.{arith}
 use borrow.Author.Needs.{needs}
 use lib.ListN.{take, drop}
-use Rattle.aerials.specs.Aerials.{agreed, single, silent, clash, heard}
+use Rattle.aerials.specs.Aerials.{agreed, single, silent, clash, heard, packetOf, kindOf}
 use Rattle.aerials.specs.HeardLaws.{heard-agreed, heard-clash, heard-first, heard-second, heard-silent}
 use Rattle.aerials.proofs.Comparing.{parts-same}
-use Rattle.aerials.proofs.Filling.{told}
+use Rattle.packets.specs.Filling.{told}
 use Rattle.aerials.proofs.hear.Statement.{statement}
 use Rattle.aerials.proofs.hear.Tie as tie
 
@@ -24,7 +24,7 @@ returns c =
     let a = c .before .before .before .before .before .before .before .before .before .args in
     let x = take (a .s) (drop (a .at) (a .block1 .now)) in
     let y = take (a .s) (drop (a .at) (a .block2 .now)) in
-    told (a .s) (a .at) 1 (a .block3 .now) _ (heard (a .mark1) (a .mark2) x y) (single x) (heard-first (a .mark1) (a .mark2) x y (c .before .before .before .before .before .if1 .taken) (c .before .before .before .before .if2 .taken)) refl (c .before .before .copy .ensures)
+    told kindOf (packetOf (a .s)) (a .at) 1 (a .block3 .now) _ (heard (a .mark1) (a .mark2) x y) (single x) (heard-first (a .mark1) (a .mark2) x y (c .before .before .before .before .before .if1 .taken) (c .before .before .before .before .if2 .taken)) refl (c .before .before .copy .ensures)
 
 sub-same : tie.Need-sub-same
 sub-same c = omega arith
@@ -58,7 +58,7 @@ returns-2 c =
     let a = c .before .before .before .before .before .before .before .before .before .before .before .before .before .args in
     let x = take (a .s) (drop (a .at) (a .block1 .now)) in
     let y = take (a .s) (drop (a .at) (a .block2 .now)) in
-    told (a .s) (a .at) 0 (a .block3 .now) _ (heard (a .mark1) (a .mark2) x y) (agreed x) (heard-agreed (a .mark1) (a .mark2) x y (c .before .before .before .before .before .before .before .before .before .if1 .taken) (c .before .before .before .before .before .before .before .before .if2 .left) (parts-same (a .block1 .now) (a .block2 .now) (a .at) (a .s) ∙ sym (c .before .before .before .before .before .same .ensures) ∙ c .before .before .before .before .if3 .taken)) refl (c .before .before .copy2 .ensures)
+    told kindOf (packetOf (a .s)) (a .at) 0 (a .block3 .now) _ (heard (a .mark1) (a .mark2) x y) (agreed x) (heard-agreed (a .mark1) (a .mark2) x y (c .before .before .before .before .before .before .before .before .before .if1 .taken) (c .before .before .before .before .before .before .before .before .if2 .left) (parts-same (a .block1 .now) (a .block2 .now) (a .at) (a .s) ∙ sym (c .before .before .before .before .before .same .ensures) ∙ c .before .before .before .before .if3 .taken)) refl (c .before .before .copy2 .ensures)
 
 clear-requires : tie.Need-clear-requires
 clear-requires c κs = search needs
@@ -71,7 +71,7 @@ returns-3 c =
     let a = c .before .before .before .before .before .before .before .before .before .before .before .before .before .args in
     let x = take (a .s) (drop (a .at) (a .block1 .now)) in
     let y = take (a .s) (drop (a .at) (a .block2 .now)) in
-    told (a .s) (a .at) 3 (a .block3 .now) _ (heard (a .mark1) (a .mark2) x y) clash (heard-clash (a .mark1) (a .mark2) x y (c .before .before .before .before .before .before .before .before .before .if1 .taken) (c .before .before .before .before .before .before .before .before .if2 .left) (parts-same (a .block1 .now) (a .block2 .now) (a .at) (a .s) ∙ sym (c .before .before .before .before .before .same .ensures) ∙ c .before .before .before .before .if3 .left)) refl (c .before .before .clear .ensures)
+    told kindOf (packetOf (a .s)) (a .at) 3 (a .block3 .now) _ (heard (a .mark1) (a .mark2) x y) clash (heard-clash (a .mark1) (a .mark2) x y (c .before .before .before .before .before .before .before .before .before .if1 .taken) (c .before .before .before .before .before .before .before .before .if2 .left) (parts-same (a .block1 .now) (a .block2 .now) (a .at) (a .s) ∙ sym (c .before .before .before .before .before .same .ensures) ∙ c .before .before .before .before .if3 .left)) refl (c .before .before .clear .ensures)
 
 copy-requires-3 : tie.Need-copy-requires-3
 copy-requires-3 c κs = search needs
@@ -84,7 +84,7 @@ returns-4 c =
     let a = c .before .before .before .before .before .before .before .before .before .args in
     let x = take (a .s) (drop (a .at) (a .block1 .now)) in
     let y = take (a .s) (drop (a .at) (a .block2 .now)) in
-    told (a .s) (a .at) 1 (a .block3 .now) _ (heard (a .mark1) (a .mark2) x y) (single y) (heard-second (a .mark1) (a .mark2) x y (c .before .before .before .before .before .if1 .left) (c .before .before .before .before .if4 .taken)) refl (c .before .before .copy3 .ensures)
+    told kindOf (packetOf (a .s)) (a .at) 1 (a .block3 .now) _ (heard (a .mark1) (a .mark2) x y) (single y) (heard-second (a .mark1) (a .mark2) x y (c .before .before .before .before .before .if1 .left) (c .before .before .before .before .if4 .taken)) refl (c .before .before .copy3 .ensures)
 
 clear-requires-2 : tie.Need-clear-requires-2
 clear-requires-2 c κs = search needs
@@ -97,7 +97,7 @@ returns-5 c =
     let a = c .before .before .before .before .before .before .before .before .before .args in
     let x = take (a .s) (drop (a .at) (a .block1 .now)) in
     let y = take (a .s) (drop (a .at) (a .block2 .now)) in
-    told (a .s) (a .at) 2 (a .block3 .now) _ (heard (a .mark1) (a .mark2) x y) silent (heard-silent (a .mark1) (a .mark2) x y (c .before .before .before .before .before .if1 .left) (c .before .before .before .before .if4 .left)) refl (c .before .before .clear2 .ensures)
+    told kindOf (packetOf (a .s)) (a .at) 2 (a .block3 .now) _ (heard (a .mark1) (a .mark2) x y) silent (heard-silent (a .mark1) (a .mark2) x y (c .before .before .before .before .before .if1 .left) (c .before .before .before .before .if4 .left)) refl (c .before .before .clear2 .ensures)
 
 pub hear-spec : {M : Type 1} → statement M
 hear-spec =
