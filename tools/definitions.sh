@@ -8,7 +8,7 @@ files='lists/Lists gf2/Gf2
 table/FirstCause table/Table table/Packets table/PacketCall table/Codewords
 making/Written making/Making draws/Generator fill/Fill staircase/Stairs staircase/Staircase
 numerals/Numerals numbers/Numbers alist/Alist alist/AlistText
-faults/Faults verify/Verify erasure/Restoring erasure/Offered report/Report suspects/Blame repair/Repair aerials/Aerials merge/Merge longer/Longer entering/Entering lengthen/Lengthen lengthen/Carrying decided/Decided full/Full reasons/Reasons why/Why
+faults/Faults verify/Verify erasure/Restoring erasure/Orders erasure/Offered report/Report suspects/Blame repair/Repair aerials/Aerials merge/Merge longer/Longer entering/Entering lengthen/Lengthen lengthen/Carrying decided/Decided full/Full reasons/Reasons why/Why
 plan/Step plan/Steps plan/Layout rule/Rule rule/PlanOf planning/Planning encoder/Encoding start/Kept
 table_file/Words text/Lines plan_text/PlanText listing/Listing
 receiver/Answers encoder/Answers uplink/Answers tables/Answers'

@@ -13,7 +13,8 @@ use Rattle.decided.specs.Packed.{some-view}
 use Rattle.decided.specs.PeelingFirst.{word-exists}
 use Rattle.decided.specs.Words.{Word, Block}
 use Rattle.erasure.specs.Restoring.{isLost, lostPlaces}
-use Rattle.erasure.specs.Values.{none-passes, sum-agree}
+use Rattle.erasure.specs.Passing.{none-passes}
+use Rattle.erasure.specs.TurnValues.{sum-agree}
 use Rattle.gf2.specs.Gf2.{maskFor}
 use Rattle.lists.specs.ListLaws.{all-map, all-zip, all-getD, map-all}
 use Rattle.lists.specs.Lists.{All}

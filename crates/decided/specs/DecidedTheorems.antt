@@ -12,8 +12,9 @@ use Rattle.decided.specs.DecidedLaws.{clash-no-word, decided-value}
 use Rattle.decided.specs.Packed.{listOf-length}
 use Rattle.decided.specs.PeeledLaws.{given, given-block}
 use Rattle.decided.specs.Words.{Word}
-use Rattle.erasure.specs.OutcomeLaws.{part-joined, tally-lost, none-lost}
+use Rattle.erasure.specs.OutcomeLaws.{part-joined, tally-lost}
 use Rattle.erasure.specs.Restoring.{isLost, lostPlaces, tally, AgreeThere}
+use Rattle.erasure.specs.LostLaws.{none-lost}
 use Rattle.lists.specs.ListLaws.{all-append, all-take, all-drop, all-map}
 use Rattle.lists.specs.Lists.{All, All.nil, All.cons}
 use Rattle.table.specs.Codewords.{IsCodeword}

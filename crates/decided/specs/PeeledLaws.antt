@@ -101,7 +101,7 @@ module _ (t b map : List ℕ) (ok : refusal t ≡ 0) (fits : length b ≡ places
     -- a codeword agrees, so the old repair finds nothing that contradicts
     pub calm-agrees : agreeing t b map ≡ true
     calm-agrees = let e = word-exists (places t) (size t) (checks t) given given-block map calm in
-        no-contradiction (places t) (size t) (checks t) (good .low) (e .0) (e .1 .long) (e .1 .sized) (e .1 .zeros) given map (packets-length (size t) (places t) b) (λ p h k. sym (e .1 .agree p h k))
+        no-contradiction (places t) (size t) (checks t) (good .low) (e .0) (e .1 .long) (e .1 .sized) given map (packets-length (size t) (places t) b) (λ p h k. sym (e .1 .agree p h k)) (e .1 .zeros)
 
   -- what the old repair finds to contradict clashes
   pub contradicted-clashes : agreeing t b map ≡ false → clashes (size t) (checks t) given map ≡ true

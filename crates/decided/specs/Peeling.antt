@@ -4,10 +4,9 @@ use mathlib.Core.Bool.{false, true≢false}
 use mathlib.Core.List.{List}
 use Prim.Native.Nat.{ℕ}
 use Rattle.decided.specs.Words.{Block, Same}
-use Rattle.erasure.specs.Largest.{restoring-within}
 use Rattle.erasure.specs.OutcomeLaws.{zeroLost-sized}
 use Rattle.erasure.specs.Restoring.{isLost, repaired}
-use Rattle.erasure.specs.RestoringLaws.{restoring-length, restoring-sized}
+use Rattle.erasure.specs.RestoringLaws.{restoring-length, restoring-sized, restoring-within}
 use Rattle.erasure.specs.Values.{zeroLost-length, received-kept, restored}
 use Rattle.lists.specs.Tests.{byBool}
 
@@ -34,7 +33,7 @@ module _ (n s : ℕ) (cs b : List (List ℕ)) (lost : List ℕ) where
         long = d .long;
         sized = d .sized;
         zeros = d .zeros;
-        agree = λ p h e. sym (restored n s cs (ok .low) w (d .long) (d .sized) (d .zeros) b lost (ok .long) (λ p h e. sym (d .agree p h e)) p h e);
+        agree = λ p h e. sym (restored n s cs (ok .low) w (d .long) (d .sized) b lost (ok .long) (λ p h e. sym (d .agree p h e)) (d .zeros) p h e);
       };
       back = λ w d. record {
         long = d .long;

@@ -6,11 +6,10 @@ use Prim.Native.Nat.{ℕ, _*_, _<_}
 use lib.ListN.{length, getD, replicate}
 use Rattle.entering.specs.Entering.{markOf, packetOf, carriedMark, entryAt, entered}
 use Rattle.entering.specs.EntryLaws.{entry-missing, packet-sized, lost-zero, lost-is}
-use Rattle.erasure.specs.LostLaws.{is-lost}
+use Rattle.erasure.specs.LostLaws.{is-lost, lost-inside}
 use Rattle.erasure.specs.Offered.{Held}
 use Rattle.erasure.specs.PlaceByPlace.{part-sized, block-length, block-part}
 use Rattle.erasure.specs.Restoring.{isLost}
-use Rattle.erasure.specs.RestoringLaws.{lost-inside}
 use Rattle.lists.specs.Numbers.{map-from-at, each-length}
 use Rattle.lists.specs.Tests.{eqb-true}
 use Rattle.table.specs.PacketCall.{partAt}

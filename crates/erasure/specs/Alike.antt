@@ -8,22 +8,34 @@ use Rattle.lists.specs.Tests.{byOpt}
 use Rattle.table.specs.AnySize.{places-at, checks-at}
 use Rattle.table.specs.Packets.{packets}
 use Rattle.table.specs.Table.{places, size, atSize, checks}
-use Rattle.erasure.specs.Restoring.{State, lostPlaces, ready, restoring, zeroLost, outcome}
+use Rattle.erasure.specs.Orders.{Ready, Turns, Turns.stay, Turns.more}
+use Rattle.erasure.specs.Restoring.{State, lostPlaces, ready, turn, restoring, start, outcome}
 
 pub record Alike (m n : State) : Type 0 where
   pub map-alike : m .map ≡ n .map
   pub adds-alike : m .adds ≡ n .adds
 
--- turns keep two states alike
+-- a turn keeps two states alike
+pub turn-alike : (s r : ℕ) (c : List ℕ) (m n : State) → Alike m n → Alike (turn s c m) (turn r c n)
+turn-alike s r c m n a = record {
+  map-alike = ap (λ l. set l (getD (lostPlaces l c) 0 0) 2) (a .map-alike);
+  adds-alike = ap (λ x. x + (length c - 1)) (a .adds-alike);
+}
+
+-- so do all turns ..
 pub restoring-alike : (k s r : ℕ) (cs : List (List ℕ)) (m n : State) → Alike m n → Alike (restoring k s cs m) (restoring k r cs n)
 restoring-alike zero s r cs m n a = a
 restoring-alike (suc k) s r cs m n a = byOpt (ready (m .map) cs)
     (λ c e. let f : ready (n .map) cs ≡ some c = ap (λ l. ready l cs) (sym (a .map-alike)) ∙ e in
-    rw (e, restoring, f) (restoring-alike k s r cs _ _ (record {
-      map-alike = ap (λ l. set l (getD (lostPlaces l c) 0 0) 2) (a .map-alike);
-      adds-alike = ap (λ x. x + (length c - 1)) (a .adds-alike);
-    })))
+    rw (e, restoring, f) (restoring-alike k s r cs (turn s c m) (turn r c n) (turn-alike s r c m n a)))
     (λ e. let f : ready (n .map) cs ≡ none = ap (λ l. ready l cs) (sym (a .map-alike)) ∙ e in rw (e, restoring, f) a)
+
+-- .. in any order: the same can be taken from the other
+pub turns-alike : {s : ℕ} {cs : List (List ℕ)} {m e : State} (r : ℕ) (n : State) → Turns s cs m e → Alike m n → (f : State) × (Turns r cs n f × Alike e f)
+turns-alike r n stay a = (n, (stay, a))
+turns-alike {s} {m} r n (more c i one t) a =
+    let u = turns-alike r (turn r c n) t (turn-alike s r c m n a) in
+    (u .0, (more c i (subst (λ l. Ready l c) (a .map-alike) one) (u .1 .0), u .1 .1))
 
 -- blocks b and c, tables t and u alike in places and checks
 pub outcome-alike : (t u b c map : List ℕ) → places t ≡ places u → checks t ≡ checks u → Alike (outcome t b map) (outcome u c map)
@@ -33,7 +45,7 @@ outcome-alike t u b c map n cs =
     (restoring-alike (places t) (size t) (size u) (checks t) _ end (record { map-alike = refl; adds-alike = refl })))
   where
     end : State
-    end = record { block = zeroLost (size u) map (packets (size u) (places u) c); map = map; adds = 0 }
+    end = start (size u) (packets (size u) (places u) c) map
 
 -- one matrix at two sizes
 pub size-alike : (s : ℕ) (t b c map : List ℕ) → Alike (outcome (atSize s t) c map) (outcome t b map)

@@ -20,8 +20,7 @@ use Rattle.table.specs.Table.{places, size, atSize, checks, refusal}
 use Rattle.table.specs.TableLaws.{accepted}
 use Rattle.erasure.specs.ContradictionLaws.{Sums, sums-of, of-sums}
 use Rattle.erasure.specs.OutcomeLaws.{outcome-length, outcome-sized}
-use Rattle.erasure.specs.Restoring.{State, lostPlaces, ready, restoring, zeroLost, consistent, outcome, agreeing}
-use Rattle.erasure.specs.Turns.{turn}
+use Rattle.erasure.specs.Restoring.{State, lostPlaces, ready, turn, restoring, zeroLost, consistent, outcome, agreeing}
 
 -- byte position j of a state
 abbrev pub stateAt : ℕ → State → State

@@ -1,4 +1,6 @@
+pub mod Additions
 pub mod Alike
+pub mod AnyOrder
 pub mod ContradictionLaws
 pub mod EachByte
 pub mod Largest
@@ -7,11 +9,15 @@ pub mod Offered
 pub mod OfferedLaws
 pub mod OldBytes
 pub mod OldRepair
+pub mod OrderLaws
+pub mod Orders
 pub mod OutcomeLaws
+pub mod Passing
 pub mod PlaceByPlace
 pub mod Restoring
 pub mod RestoringLaws
-pub mod Stopping
 pub mod Tally
+pub mod Turn
+pub mod TurnValues
 pub mod Turns
 pub mod Values

@@ -8,7 +8,8 @@ use Prim.Native.Nat.{ℕ, _+_, _*_, _<_}
 use lib.ListN.{length, getD, replicate}
 use Rattle.erasure.specs.ContradictionLaws.{Sums, sums-of}
 use Rattle.erasure.specs.Largest.{stays-lost}
-use Rattle.erasure.specs.OutcomeLaws.{tally-lost, tally-restored, start-length, start-sized, outcome-length, outcome-sized, none-lost, part-joined}
+use Rattle.erasure.specs.LostLaws.{none-lost}
+use Rattle.erasure.specs.OutcomeLaws.{tally-lost, tally-restored, start-length, start-sized, outcome-length, outcome-sized, part-joined}
 use Rattle.erasure.specs.Restoring.{lostPlaces, zeroLost, tally, outcome, agreeing, blockIf, isLost, AgreeThere, Largest}
 use Rattle.erasure.specs.RestoringLaws.{restoring-same, restoring-mark}
 use Rattle.erasure.specs.Tally.{repaired-tally}
@@ -89,11 +90,11 @@ module _ (t b map : List ℕ) (ok : refusal t ≡ 0) (fits : length b ≡ places
     -- it meets no contradiction
     pub word-agrees : agreeing t b map ≡ true
     word-agrees = no-contradiction (places t) (size t) (checks t) (accepted t ok .low) (packets (size t) (places t) w)
-        (packets-length (size t) (places t) w) (packets-sized (size t) (places t) w (word .size-fits)) (word .sums)
-        (packets (size t) (places t) b) map (packets-length (size t) (places t) b) packets-agree
+        (packets-length (size t) (places t) w) (packets-sized (size t) (places t) w (word .size-fits))
+        (packets (size t) (places t) b) map (packets-length (size t) (places t) b) packets-agree (word .sums)
 
     -- every restored packet is the codeword's, and every other that isn't lost afterwards
     pub word-values : (p : ℕ) → p < places t → isLost (outcome t b map .map) p ≡ false → partAt (size t) p (joined (outcome t b map .block)) ≡ partAt (size t) p w
     word-values p h e = part-is p h ∙ restored (places t) (size t) (checks t) (accepted t ok .low) (packets (size t) (places t) w)
-        (packets-length (size t) (places t) w) (packets-sized (size t) (places t) w (word .size-fits)) (word .sums)
-        (packets (size t) (places t) b) map (packets-length (size t) (places t) b) packets-agree p h e ∙ packet-at (size t) (places t) w p h
+        (packets-length (size t) (places t) w) (packets-sized (size t) (places t) w (word .size-fits))
+        (packets (size t) (places t) b) map (packets-length (size t) (places t) b) packets-agree (word .sums) p h e ∙ packet-at (size t) (places t) w p h

@@ -2,20 +2,20 @@
 use mathlib.Core.Path.{_≡_, refl, sym, ap, _∙_}
 use mathlib.Core.Bool.{cond}
 use mathlib.Core.List.{List, [], _∷_}
-use Prim.Native.Nat.{ℕ, zero, suc, _-_, _*_, _<_, _≤_}
+use Prim.Native.Nat.{ℕ, suc, _-_, _*_, _<_, _≤_}
 use native.Mathlib.Omega.{arith}
 use lib.Dec.{eqb}
 use lib.ListN.{length, getD, replicate, length-replicate}
-use Rattle.lists.specs.Tests.{eqb-comm, byOpt, byBool}
+use Rattle.lists.specs.Tests.{eqb-comm, byBool}
 use Rattle.lists.specs.Lists.{filter, All, All.nil, All.cons}
 use Rattle.table.specs.PacketCall.{partAt}
 use Rattle.table.specs.PacketLaws.{packets-length, packets-sized, packets-of, packet-at}
 use Rattle.table.specs.Packets.{Packets, packets, joined}
 use Rattle.table.specs.Table.{places, size, checks, refusal}
 use Rattle.table.specs.TableLaws.{accepted}
-use Rattle.erasure.specs.Restoring.{State, lostPlaces, ready, restoring, zeroLost, tally, outcome}
-use Rattle.erasure.specs.RestoringLaws.{ready-lost, restoring-length, restoring-sized}
-use Rattle.erasure.specs.Stopping.{lostIn, no-lost, restore-one}
+use Rattle.erasure.specs.LostLaws.{lostIn}
+use Rattle.erasure.specs.Restoring.{zeroLost, tally, outcome}
+use Rattle.erasure.specs.RestoringLaws.{restoring-length, restoring-sized, restoring-fewer}
 use Rattle.erasure.specs.Tally.{restoredIn, restored-and-lost}
 use Rattle.erasure.specs.Values.{zeroLost-length}
 
@@ -55,15 +55,6 @@ module _ (t b map : List ℕ) (ok : refusal t ≡ 0) (fits : length b ≡ places
 
 -- ---- the counts
 -- no turn makes a place lost
-pub restoring-fewer : (k s : ℕ) (cs : List (List ℕ)) (m : State) → lostIn (restoring k s cs m .map) ≤ lostIn (m .map)
-restoring-fewer zero s cs m = omega arith
-restoring-fewer (suc k) s cs m = byOpt (ready (m .map) cs)
-    (λ c r. rw (r, restoring) (less _ _ _ (restore-one (m .map) _ (ready-lost (m .map) cs c r)) (restoring-fewer k s cs _)))
-    (λ r. rw (r, restoring) (omega arith))
-  where
-    less : (a b c : ℕ) → suc b ≡ c → a ≤ b → a ≤ c
-    less a b c e h = omega arith
-
 pub tally-fewer : (t b map : List ℕ) → tally 1 (outcome t b map .map) ≤ tally 1 map
 tally-fewer t b map = rw (tally-lost (outcome t b map .map), tally-lost map) (restoring-fewer (places t) (size t) (checks t) _)
 
@@ -71,11 +62,6 @@ tally-fewer t b map = rw (tally-lost (outcome t b map .map), tally-lost map) (re
 pub tally-two : (t b map : List ℕ) → All (λ x. x ≤ 1) map → tally 1 map - tally 1 (outcome t b map .map) ≡ tally 2 (outcome t b map .map)
 tally-two t b map a = rw (tally-lost map, tally-lost (outcome t b map .map), tally-restored (outcome t b map .map))
     (omega (arith, restored-and-lost (places t) (size t) (checks t) (packets (size t) (places t) b) map a))
-
--- no lost place among none
-pub none-lost : (lost c : List ℕ) → lostIn lost ≡ 0 → length (lostPlaces lost c) ≡ 0
-none-lost lost [] h = refl
-none-lost lost (p ∷ c) h = rw (no-lost lost h p) (none-lost lost c h)
 
 -- the packet of a place among packets in a row
 pub part-joined : (s n : ℕ) (ps : List (List ℕ)) → length ps ≡ n → Packets s ps → (p : ℕ) → p < n → partAt s p (joined ps) ≡ getD ps p []

@@ -33,15 +33,16 @@ abbrev pub ready : List ℕ → List (List ℕ) → Option (List ℕ)
 ready map [] = none
 ready map (c ∷ cs) = elim (eqb (length (lostPlaces map c)) 1) [ true ↦ some c | false ↦ ready map cs ]
 
--- "While some check has exactly one lost place, the lowest such check restores it": its packet is the sum of the check's
--- others, at weight − 1 additions. The first argument bounds the number of turns.
+-- check c restores its one lost place, as the sum of its others; the additions are "weight − 1 for each check used"
+abbrev pub turn : ℕ → List ℕ → State → State
+turn s c m =
+    let p = getD (lostPlaces (m .map) c) 0 0 in
+    record { block = set (m .block) p (packetSum s (m .block) (minus c (p ∷ []))); map = set (m .map) p 2; adds = m .adds + (length c - 1) }
+
+-- "While some check has exactly one lost place, the lowest such check restores it". The first argument bounds the number of turns.
 abbrev pub restoring : ℕ → ℕ → List (List ℕ) → State → State
 restoring zero s cs m = m
-restoring (suc k) s cs m = elim (ready (m .map) cs) [
-  | none ↦ m
-  | some c ↦ let p = getD (lostPlaces (m .map) c) 0 0 in
-      restoring k s cs (record { block = set (m .block) p (packetSum s (m .block) (minus c (p ∷ []))); map = set (m .map) p 2; adds = m .adds + (length c - 1) })
-]
+restoring (suc k) s cs m = elim (ready (m .map) cs) [ none ↦ m | some c ↦ restoring k s cs (turn s c m) ]
 
 -- "Old bytes at lost places never count": zero at every lost place
 abbrev pub zeroLost : ℕ → List ℕ → List (List ℕ) → List (List ℕ)
@@ -49,9 +50,13 @@ zeroLost s [] b = b
 zeroLost s (l ∷ ls) [] = []
 zeroLost s (l ∷ ls) (p ∷ b) = cond (eqb l 1) (replicate s 0) p ∷ zeroLost s ls b
 
+-- the state before the first turn
+abbrev pub start : ℕ → List (List ℕ) → List ℕ → State
+start s b map = record { block = zeroLost s map b; map = map; adds = 0 }
+
 -- each turn restores one of the n places, so n turns are all
 abbrev pub repaired : ℕ → ℕ → List (List ℕ) → List (List ℕ) → List ℕ → State
-repaired n s cs b map = restoring n s cs (record { block = zeroLost s map b; map = map; adds = 0 })
+repaired n s cs b map = restoring n s cs (start s b map)
 
 -- a check without a lost place
 abbrev pub noneLost : List ℕ → List ℕ → Bool

@@ -6,11 +6,13 @@ use Prim.Native.Nat.{ℕ, zero, suc, _+_, _≤_}
 use native.Mathlib.Omega.{arith}
 use lib.Dec.{eqb}
 use lib.ListN.{set}
-use Rattle.lists.specs.Tests.{eqb-true, byOpt, byBool}
-use Rattle.erasure.specs.Restoring.{State, ready, restoring, repaired, isLost}
-use Rattle.erasure.specs.Stopping.{lostIn, ready-all, first-lost, restore-one}
+use Rattle.erasure.specs.LostLaws.{lostIn}
+use Rattle.erasure.specs.OrderLaws.{restoring-turns}
+use Rattle.erasure.specs.Orders.{Turns, Turns.stay, Turns.more}
+use Rattle.erasure.specs.Restoring.{State, isLost, start, repaired}
+use Rattle.erasure.specs.Turn.{place-lost, turn-one}
 use Rattle.lists.specs.Lists.{All, All.nil, All.cons}
-use Rattle.lists.specs.ListLaws.{all-of}
+use Rattle.lists.specs.Tests.{eqb-true, byBool}
 
 -- places whose map byte is 2
 abbrev pub restoredIn : List ℕ → ℕ
@@ -24,18 +26,16 @@ restore-two (x ∷ l) zero h = let f : eqb x 2 ≡ false = ap (λ y. eqb y 2) (e
 restore-two (x ∷ l) (suc p) h = let ih = restore-two l p h in byBool (eqb x 2) (λ e. rw (e, restoredIn) (omega arith)) (λ e. rw (e, restoredIn) ih)
 
 -- no turn changes the sum
-restoring-tally : (k s : ℕ) (cs : List (List ℕ)) (m : State) → restoredIn (restoring k s cs m .map) + lostIn (restoring k s cs m .map) ≡ restoredIn (m .map) + lostIn (m .map)
-restoring-tally zero s cs m = refl
-restoring-tally (suc k) s cs m = byOpt (ready (m .map) cs)
-    (λ c r. let w = ready-all (m .map) (all-of {P = λ c. Unit {0}} (λ c. tt) cs) c r in
-    let lost = first-lost (isLost (m .map)) c (w .1) in
-    let a = restore-one (m .map) _ lost in let b = restore-two (m .map) _ lost in
-    rw (r, restoring) (restoring-tally k s cs _ ∙ (omega arith)))
-    (λ r. rw (r, restoring))
+pub turns-tally : {s : ℕ} {cs : List (List ℕ)} {m e : State} → Turns s cs m e → restoredIn (e .map) + lostIn (e .map) ≡ restoredIn (m .map) + lostIn (m .map)
+turns-tally stay = refl
+turns-tally {s} {m} (more c i one t) =
+    let less = turn-one s c m one in
+    let two = restore-two (m .map) _ (place-lost s c m one) in
+    turns-tally t ∙ (omega arith)
 
 pub repaired-tally : (n s : ℕ) (cs b : List (List ℕ)) (lost : List ℕ)
     → restoredIn (repaired n s cs b lost .map) + lostIn (repaired n s cs b lost .map) ≡ restoredIn lost + lostIn lost
-repaired-tally n s cs b lost = restoring-tally n s cs _
+repaired-tally n s cs b lost = turns-tally (restoring-turns n s cs (start s b lost))
 
 -- at the start there is none
 pub none-restored : {l : List ℕ} → All (λ x. x ≤ 1) l → restoredIn l ≡ 0

@@ -19,11 +19,10 @@ use Rattle.decided.specs.PeeledLaws.{calm-agrees, contradicted-clashes}
 use Rattle.erasure.specs.OfferedLaws.{bytes-all, byte-at, agree-there}
 use Rattle.erasure.specs.Offered.{wrongLengths, byteOver, Agree}
 use Rattle.erasure.specs.OldBytes.{old-bytes-cleared}
-use Rattle.erasure.specs.LostLaws.{not-lost, is-lost}
+use Rattle.erasure.specs.LostLaws.{not-lost, is-lost, no-lost}
 use Rattle.erasure.specs.OldRepair.{part-is as old-part, cleared-kept, cleared-zero}
 use Rattle.erasure.specs.OutcomeLaws.{tally-lost}
 use Rattle.erasure.specs.Restoring.{isLost, lostPlaces, zeroLost, tally, outcome, agreeing, blockIf, mapIf}
-use Rattle.erasure.specs.Stopping.{no-lost}
 use Rattle.full.specs.AgreeLaws.{clash-word, calm-one, has-value, exactly-decided, old-decided}
 use Rattle.full.specs.Full.{clashing, fullRefusal, fullAnswerAt, fullAnswer, fullBlockAfter, fullMapAfter, fullWorkAfter, FittingAll, Possible, OneThere}
 use Rattle.full.specs.FullLaws.{fitting-refusal, accepted-fits, clashing-fits, block-accepted, block-clashing, block-refused, map-accepted, map-refused, answer-accepted, answer-refused, work-accepted, work-clashing, work-refused}

@@ -12,13 +12,12 @@ use lib.ListN.{length, getD}
 use Rattle.entering.specs.EnteredLaws.{Lacking, lost-lacks, lacks-lost}
 use Rattle.entering.specs.EntryLaws.{carried-old, carried-new}
 use Rattle.erasure.specs.Largest.{stays-lost, largest-within}
-use Rattle.erasure.specs.LostLaws.{is-lost}
+use Rattle.erasure.specs.LostLaws.{is-lost, lost-inside}
 use Rattle.erasure.specs.Offered.{Held, Fitting, Agree}
 use Rattle.erasure.specs.OfferedLaws.{bytes-all, lost-byte, agree-there}
 use Rattle.erasure.specs.OldRepair.{RestoredBy, old-repair, word-agrees, word-values}
 use Rattle.erasure.specs.OutcomeLaws.{outcome-length, outcome-sized}
 use Rattle.erasure.specs.Restoring.{AgreeThere, outcome, agreeing, isLost, Stopping, Largest}
-use Rattle.erasure.specs.RestoringLaws.{lost-inside}
 use Rattle.lengthen.specs.Carrying.{Carried, SoFar}
 use Rattle.lengthen.specs.FirstPackets.{firstOf, first-part, first-codeword, first-agrees, so-far-agrees}
 use Rattle.lengthen.specs.Lengthen.{start, lengthenOutcome, lengthenRefusal, lengthenAfter, calm, LengthenFitting}

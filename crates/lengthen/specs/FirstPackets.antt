@@ -8,7 +8,7 @@ use native.Mathlib.Omega.{arith}
 use lib.ListN.{length, getD, take, replicate}
 use lib.Seq.{length-take-le}
 use Rattle.erasure.specs.Offered.{Held, Agree}
-use Rattle.erasure.specs.Values.{sum-agree}
+use Rattle.erasure.specs.TurnValues.{sum-agree}
 use Rattle.lengthen.specs.Carrying.{SoFar}
 use Rattle.lists.specs.ListLaws.{all-map, all-zip}
 use Rattle.lists.specs.Lists.{All}

@@ -7,7 +7,7 @@ use lib.Dec.{eqb}
 use lib.ListN.{length, getD, set, replicate, take, drop, length-append}
 use mathlib.Core.Bool.{Bool, true, false, false≢true, cond, true≢false, not, _||_, _&&_}
 use mathlib.Core.Option.{Option, none, some}
-use Rattle.lists.specs.Lists.{All, All.nil, All.cons, allDiffer, allPass, anyOf, below, bxor, has, par, filter, highest, Distinct, Distinct.dnil, Distinct.dnew, rev, sameList}
+use Rattle.lists.specs.Lists.{In, In.here, In.there, All, All.nil, All.cons, allDiffer, allPass, anyOf, below, bxor, has, par, filter, highest, Distinct, Distinct.dnil, Distinct.dnew, rev, sameList}
 use Rattle.lists.specs.Tests.{eqb-true, eqb-false, byBool, or-false-l, or-false-r, eqb-self, eqb-comm, eqb-lt, eqb-gt, or-assoc, or-l, or-r, and-l, and-r}
 
 pub all-map : {X : Type 0} {P Q : X → Type 0} → ((x : X) → P x → Q x) → {l : List X} → All P l → All Q l
@@ -17,6 +17,11 @@ all-map h (cons {x = x} p a) = cons (h x p) (all-map h a)
 pub all-of : {X : Type 0} {P : X → Type 0} → ((x : X) → P x) → (l : List X) → All P l
 all-of h [] = nil
 all-of h (x ∷ l) = cons (h x) (all-of h l)
+
+-- of one member
+pub all-member : {X : Type 0} {P : X → Type 0} {x : X} {l : List X} → All P l → In x l → P x
+all-member (cons p a) here = p
+all-member (cons p a) (there i) = all-member a i
 
 pub length-below : (k : ℕ) → length (below k) ≡ k
 length-below zero = refl

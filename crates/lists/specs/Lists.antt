@@ -57,6 +57,11 @@ abbrev pub par : ℕ → List ℕ → Bool
 par p [] = false
 par p (q ∷ c) = bxor (eqb p q) (par p c)
 
+-- x is a member
+pub data In {X : Type 0} (x : X) : List X → Type 0 where
+  here : {l : List X} → In x (x ∷ l)
+  there : {y : X} {l : List X} → In x l → In x (y ∷ l)
+
 -- P holds of every member
 pub data All {X : Type 0} (P : X → Type 0) : List X → Type 0 where
   nil : All P []

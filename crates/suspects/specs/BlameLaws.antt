@@ -16,8 +16,8 @@ use Rattle.erasure.specs.Largest.{stays-lost}
 use Rattle.erasure.specs.OldBytes.{old-bytes}
 use Rattle.erasure.specs.OutcomeLaws.{tally-lost, outcome-length, outcome-sized}
 use Rattle.erasure.specs.Restoring.{isLost, tally, outcome, consistent, agreeing, AgreeThere, Largest}
-use Rattle.erasure.specs.Stopping.{lostIn}
 use Rattle.erasure.specs.Values.{received-kept, near-agrees}
+use Rattle.erasure.specs.LostLaws.{lostIn}
 use Rattle.lists.specs.ListLaws.{all-map, all-of, filter-in, filter-same, distinct-rev, distinct-filter, distinct-below}
 use Rattle.lists.specs.Lists.{All, All.cons, Distinct, Distinct.dnew, anyOf, filter, from, has}
 use Rattle.lists.specs.Numbers.{from-all, from-below, filter-has}
@@ -202,10 +202,11 @@ suspect-changes t b map p ok fits long bad s kept = true≢false (sym agrees ∙
         (ap (λ x. eqb x 1) (getD-set-other map p q 1 0 (eqb-false q p z)) ∙ e)))
 
     agrees : agreeing t b map ≡ true
-    agrees = near-agrees (places t) (size t) (checks t) (accepted t ok .low) (isLost (outcome t b (lostToo map p) .map)) (stays-without t b map p long s .among .stopping)
+    agrees = near-agrees (places t) (size t) (checks t) (accepted t ok .low)
         (outcome t b (lostToo map p) .block) (outcome-length t b (lostToo map p) ok fits) (outcome-sized t b (lostToo map p) ok fits)
+        (packets (size t) (places t) b) map (packets-length (size t) (places t) b) agree
+        (isLost (outcome t b (lostToo map p) .map)) (stays-without t b map p long s .among .stopping) (stays-without t b map p long s .among .lost)
         (sums-of (size t) (outcome t b (lostToo map p)) (checks t) (s .agrees))
-        (packets (size t) (places t) b) map (stays-without t b map p long s .among .lost) (packets-length (size t) (places t) b) agree
 
 -- ---- "Old bytes at lost places never count": blocks with the same packets at every place that isn't lost
 module _ (t b c map : List ℕ) (same : AgreeThere t b map c) where

@@ -30,6 +30,7 @@ pub record Good (t : List ℕ) : Type 0 where
   pub some-bytes : 1 ≤ size t
   pub few-bytes : size t ≤ 1024
   pub few-checks : length (checks t) ≤ 512
+  pub all-ones : ones (checks t) ≡ onesCount t
   pub few-ones : ones (checks t) ≤ 6144
   pub light : All (λ c. length c ≤ 64) (checks t)
   pub distinct : All Distinct (checks t)
@@ -106,6 +107,7 @@ accepted t h =
     let e : onesCount t ≡ total (weights t) = eqb-true (onesCount t) (total (weights t)) (not-false _ (c .1 .1 .0)) in
     let l : length t ≡ 5 + number t + onesCount t = eqb-true (length t) (5 + number t + onesCount t) (not-false _ (c .1 .1 .1)) in
     let rest : length (drop (5 + number t) t) ≡ onesCount t = length-drop (5 + number t) t ∙ (omega arith) in
+    let all : ones (checks t) ≡ onesCount t = let a = cut-ones (weights t) (drop (5 + number t) t) (omega arith) in omega arith in
     let ups = pass-all (rising (places t) 0) (checks t) (not-false _ (r .1 .1 .1)) in
     let n0 = eqb-false (places t) 0 (b .0) in
     let s0 = eqb-false (size t) 0 (b .1 .1 .0) in
@@ -115,7 +117,8 @@ accepted t h =
       some-bytes = omega arith;
       few-bytes = ltb-false 1024 (size t) (b .1 .1 .1 .0);
       few-checks = let a = cut-length (weights t) (drop (5 + number t) t) in let b = length-take (number t) (drop 4 t) in omega arith;
-      few-ones = let a = cut-ones (weights t) (drop (5 + number t) t) (omega arith) in omega arith;
+      all-ones = all;
+      few-ones = omega arith;
       light = cut-light (weights t) _ (c .0);
       distinct = all-map (λ c u. rising-distinct (places t) 0 c u) ups;
       low = all-map (λ c u. all-map (λ p q. q .1) (rising-all (places t) 0 c u)) ups;

@@ -6,6 +6,8 @@ pub mod Demands
 pub mod LongerTable
 pub mod NothingLost
 pub mod OwnPlan
+pub mod Rain
+pub mod RainCases
 pub mod Refusals
 pub mod Restoring
 pub mod SideBySide

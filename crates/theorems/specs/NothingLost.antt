@@ -5,16 +5,17 @@ use mathlib.Core.Bool.{true, false}
 use mathlib.Core.List.{List, [], _∷_}
 use mathlib.Core.Logic.{_⊎_, inl, inr, _↔_}
 use mathlib.Core.Option.{Option, none, some}
-use Prim.Native.Nat.{ℕ, zero, suc}
+use Prim.Native.Nat.{ℕ, suc}
 use native.Mathlib.Omega.{arith}
 use lib.Seq.{ext-getD}
 use Rattle.suspects.specs.Blame.{blamed}
 use Rattle.suspects.specs.BlameLaws.{agreed-none}
 use Rattle.lists.specs.Tests.{byBool, byOpt}
 use Rattle.erasure.specs.Offered.{handedOn, Fitting}
-use Rattle.erasure.specs.OutcomeLaws.{none-lost, tally-lost}
-use Rattle.erasure.specs.Restoring.{State, ready, restoring, zeroLost, noneLost, contradiction, tally, contradicting, agreeing}
-use Rattle.erasure.specs.Stopping.{lostIn, no-lost}
+use Rattle.erasure.specs.LostLaws.{lostIn, no-lost, none-lost}
+use Rattle.erasure.specs.OutcomeLaws.{tally-lost}
+use Rattle.erasure.specs.Restoring.{ready, zeroLost, noneLost, contradiction, tally, contradicting, agreeing}
+use Rattle.erasure.specs.RestoringLaws.{restoring-none}
 use Rattle.erasure.specs.Values.{zeroLost-length, zeroLost-kept}
 use Rattle.faults.specs.Faults.{Fault, noFault, checkOf, byteOf, failing, everyCheck}
 use Rattle.repair.specs.Repair.{repairOutcome, repairRefusal, repairAnswerAt, repairAnswer}
@@ -30,10 +31,6 @@ none-ready : (map : List ℕ) (cs : List (List ℕ)) → lostIn map ≡ 0 → re
 none-ready map [] h = refl
 none-ready map (c ∷ cs) h = rw (none-lost map c h, ready) (none-ready map cs h)
 
-no-turn : (k s : ℕ) (cs : List (List ℕ)) (m : State) → ready (m .map) cs ≡ none → restoring k s cs m ≡ m
-no-turn zero s cs m e = refl
-no-turn (suc k) s cs m e = rw (e, restoring)
-
 all-judged : (map : List ℕ) (s : ℕ) (b : List (List ℕ)) (i : ℕ) (cs : List (List ℕ)) → lostIn map ≡ 0 → failing (noneLost map) s b i cs ≡ failing everyCheck s b i cs
 all-judged map s b i [] h = refl
 all-judged map s b i (c ∷ cs) h = byBool (zeroSum s b c)
@@ -45,7 +42,7 @@ kept s map b h = ext-getD [] _ _ (zeroLost-length s map b) (λ p l. zeroLost-kep
 
 same-fault : (t b map : List ℕ) → lostIn map ≡ 0 → contradicting t b map ≡ lowest t b
 same-fault t b map h =
-    ap (contradiction (size t) (checks t)) (no-turn (places t) (size t) (checks t) _ (none-ready map (checks t) h)
+    ap (contradiction (size t) (checks t)) (restoring-none (places t) (size t) (checks t) _ (none-ready map (checks t) h)
     ∙ ap (λ (x : List (List ℕ)). record { block = x; map = map; adds = 0 }) (kept (size t) map (packets (size t) (places t) b) h))
     ∙ all-judged map (size t) (packets (size t) (places t) b) 0 (checks t) h
 

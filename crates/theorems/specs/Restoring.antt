@@ -15,9 +15,8 @@ use Rattle.table.specs.Table.{places, size}
 use Rattle.erasure.specs.Offered.{Fitting, Agree}
 use Rattle.erasure.specs.Restoring.{Largest, isLost}
 use Rattle.erasure.specs.Largest.{largest-only}
-use Rattle.erasure.specs.LostLaws.{not-lost, is-lost}
+use Rattle.erasure.specs.LostLaws.{not-lost, is-lost, no-lost}
 use Rattle.erasure.specs.OutcomeLaws.{tally-lost}
-use Rattle.erasure.specs.Stopping.{no-lost}
 use Rattle.repair.specs.Repair.{repairRefusal, repairAnswer, repairBlockAfter, repairMapAfter}
 use Rattle.repair.specs.RepairTheorems.{AcceptedRepair, Repairing, accepted-plainly, repairing}
 

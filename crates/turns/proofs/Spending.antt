@@ -17,9 +17,9 @@ use Rattle.table.specs.PacketLaws.{packets-length}
 use Rattle.table.specs.Packets.{packets, packetSum}
 use Rattle.turns.specs.Spent.{Spent}
 use Rattle.erasure.specs.Restoring.{lostPlaces, isLost}
-use Rattle.erasure.specs.Stopping.{first-lost}
 use Rattle.table.specs.Accepted.{Accepted}
 use Rattle.erasure.specs.LostLaws.{lost-less}
+use Rattle.erasure.specs.Passing.{first-lost}
 use Rattle.turns.proofs.Ordering.{distinct-check}
 
 -- the one that passes a test is in the list

@@ -3,7 +3,7 @@ use mathlib.Core.Path.{_≡_, refl, sym, ap, ap₂, _∙_, subst}
 use mathlib.Core.Bool.{true, false, not}
 use mathlib.Core.List.{List, [], _∷_}
 use mathlib.Core.Option.{none, some}
-use Prim.Native.Nat.{ℕ, zero, suc, _+_, _-_, _*_, _<_, _≤_}
+use Prim.Native.Nat.{ℕ, suc, _+_, _-_, _*_, _<_, _≤_}
 use native.Mathlib.Omega.{arith}
 use lib.Dec.{eqb}
 use lib.ListN.{length, getD, take, drop, length-set}
@@ -16,12 +16,12 @@ use Rattle.table.specs.PacketLaws.{packets-length, packets-sized, packets-joine
 use Rattle.table.specs.Packets.{packets, packetSum}
 use Rattle.table.specs.SumLaws.{places-in, check-below}
 use Rattle.table.specs.Table.{checks}
-use Rattle.erasure.specs.Largest.{lost-most}
-use Rattle.erasure.specs.Restoring.{State, lostPlaces, ready, restoring, isLost}
-use Rattle.erasure.specs.RestoringLaws.{lost-inside, ready-one, ready-lost, restoring-enough}
-use Rattle.erasure.specs.Stopping.{first-lost, lostIn, restore-one}
+use Rattle.erasure.specs.Restoring.{State, lostPlaces, ready, restoring, isLost, turn}
+use Rattle.erasure.specs.RestoringLaws.{ready-one, ready-lost, restoring-none, restoring-enough}
 use Rattle.table.specs.Accepted.{Accepted, check-count, places-at, check-is, light}
-use Rattle.erasure.specs.Turns.{Holds, Restored, stateOf, turn}
+use Rattle.erasure.specs.Turns.{Holds, Restored, stateOf}
+use Rattle.erasure.specs.LostLaws.{lost-most, lost-inside, lostIn, restore-one}
+use Rattle.erasure.specs.Passing.{first-lost}
 use Rattle.packets.specs.SetLaws.{packets-set, bytes-set}
 
 -- the number of the lowest check with exactly one lost place; the number of checks if there is none
@@ -65,10 +65,6 @@ pub turns-more : (s : ℕ) (cs : List (List ℕ)) (st : State) (c : List ℕ) �
     → restoring (lostIn (st .map)) s cs st ≡ restoring (lostIn (turn s c st .map)) s cs (turn s c st)
 turns-more s cs st c r = let one = restore-one (st .map) _ (ready-lost (st .map) cs c r) in rw (← one) (rw (r, restoring))
 
-pub turns-end : (k s : ℕ) (cs : List (List ℕ)) (st : State) → ready (st .map) cs ≡ none → restoring k s cs st ≡ st
-turns-end zero s cs st r = refl
-turns-end (suc k) s cs st r = rw (r, restoring)
-
 -- from block b₀ and map l₀ the loop has come to b and l: the rest decides
 pub record Going (n s : ℕ) (cs : List (List ℕ)) (b₀ l₀ b l : List ℕ) (adds : ℕ) : Type 0 where
   pub bytes : length b ≡ n * s
@@ -82,7 +78,7 @@ going-start n s cs b l e f = record { bytes = e; places = f; few = omega arith; 
 pub going-end : (n s : ℕ) (cs : List (List ℕ)) (b₀ l₀ b l : List ℕ) (adds : ℕ) → length l₀ ≡ n → n ≤ 1024 → Going n s cs b₀ l₀ b l adds → ready l cs ≡ none → Restored n s cs b₀ l₀ b l adds
 going-end n s cs b₀ l₀ b l adds long small g r =
     let most = lost-most l₀ in
-    let e : restoring n s cs (stateOf s n b₀ l₀ 0) ≡ stateOf s n b l adds = restoring-enough n s cs (stateOf s n b₀ l₀ 0) (omega arith) ∙ g .rest ∙ turns-end (lostIn l) s cs (stateOf s n b l adds) r in
+    let e : restoring n s cs (stateOf s n b₀ l₀ 0) ≡ stateOf s n b l adds = restoring-enough n s cs (stateOf s n b₀ l₀ 0) (omega arith) ∙ g .rest ∙ restoring-none (lostIn l) s cs (stateOf s n b l adds) r in
     record {
       holds = record { block-is = rw e (sym (packets-joined s n b (g .bytes))); map-is = rw e };
       adds-are = rw e;

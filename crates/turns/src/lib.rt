@@ -7,8 +7,8 @@ ghost use Rattle.table.specs.Checks.{Places, Starts};
 ghost use Rattle.table.specs.Table.{checks};
 ghost use Rattle.table.specs.Accepted.{Accepted};
 ghost use Rattle.chains.specs.Linked.{Linked, Counted};
-ghost use Rattle.erasure.specs.Restoring.{lostPlaces};
-ghost use Rattle.erasure.specs.Turns.{Holds, Restored, stateOf, turn};
+ghost use Rattle.erasure.specs.Restoring.{lostPlaces, turn};
+ghost use Rattle.erasure.specs.Turns.{Holds, Restored, stateOf};
 ghost use Rattle.turns.specs.Spent.{Spent};
 
 // the first lost place of a check, 0 if there is none

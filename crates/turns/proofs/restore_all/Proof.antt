@@ -1,6 +1,6 @@
 -- `turns::restore_all` meets its contract.
 use Rattle.table.specs.Table.{checks}
-use Rattle.erasure.specs.Stopping.{lostIn}
+use Rattle.erasure.specs.LostLaws.{lostIn}
 use Rattle.turns.specs.Spent.{Spent}
 use Rattle.turns.proofs.Spending.{spent-turn}
 use Rattle.turns.specs.TurnLaws.{at-check}
