@@ -14,7 +14,7 @@ use Rattle.erasure.specs.Alike.{Alike, outcome-alike}
 use Rattle.erasure.specs.AnyOrder.{end-within, end-map, end-block, end-judged}
 use Rattle.erasure.specs.Largest.{repaired-ends}
 use Rattle.erasure.specs.LostLaws.{is-lost, lost-fewer}
-use Rattle.erasure.specs.Offered.{Fitting, Agree}
+use Rattle.erasure.specs.Offered.{handedOn, Fitting, Agree}
 use Rattle.erasure.specs.OfferedLaws.{bytes-all, lost-byte}
 use Rattle.erasure.specs.OrderLaws.{restoring-turns, goes-on, turns-taken}
 use Rattle.erasure.specs.Orders.{Ready, taken, Ended, nonEmpty, FromStart}
@@ -23,8 +23,9 @@ use Rattle.erasure.specs.Restoring.{State, isLost, consistent, tally, outcome, 
 use Rattle.faults.specs.Faults.{Fault, noFault}
 use Rattle.lists.specs.Lists.{In}
 use Rattle.lists.specs.Tests.{eqb-true, byBool}
-use Rattle.repair.specs.Repair.{repairOutcome, repairRefusal, repairAnswerAt, repairAnswer, repairBlockAfter, repairMapAfter}
+use Rattle.repair.specs.Repair.{believed, repairRefusal, repairAnswerAt, repairAnswer, repairBlockAfter, repairMapAfter}
 use Rattle.repair.specs.RepairTheorems.{AsOld, answerBy, accepted-plainly, plainly, repairing}
+use Rattle.suspects.specs.Blame.{blamed}
 use Rattle.suspects.specs.BlameLaws.{agreed-none}
 use Rattle.table.specs.Codewords.{IsCodeword}
 use Rattle.table.specs.PacketCall.{partAt}
@@ -94,11 +95,11 @@ additions-most t b map ok = order-additions t b map ok (old-order t b map)
 
 -- .. and what the call reports, for every block and map, blamed and refused ones too
 pub reported-most : (t b map : List ℕ) → refusal t ≡ 0 → repairAnswer t b map .additions + nonEmpty (checks t) ≤ onesCount t
-reported-most t b map ok = at (repairRefusal t b map) _
+reported-most t b map ok = at (repairRefusal t b map) (believed (blamed t b map) map) (handedOn (repairRefusal t b map) (contradicting t b map))
   where
-    at : (r : ℕ) (f : Option Fault) → repairAnswerAt r (repairOutcome t b map) f .additions + nonEmpty (checks t) ≤ onesCount t
-    at zero f = additions-most t b _ ok
-    at (suc r) f = let h = additions-most t b map ok in omega arith
+    at : (r : ℕ) (map : List ℕ) (f : Option Fault) → repairAnswerAt r (outcome t b map) f .additions + nonEmpty (checks t) ≤ onesCount t
+    at zero map f = additions-most t b map ok
+    at (suc r) map f = let h = additions-most t b map ok in omega arith
 
 -- ---- "and depend on table and map only"; restored and lost too: two repairs by tables alike in places and checks, with the same map, whatever
 -- the packets and their size, if packets contradict in neither

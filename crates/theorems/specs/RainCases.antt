@@ -9,6 +9,7 @@ use lib.ListN.{getD}
 use Rattle.erasure.specs.Orders.{Turns.stay, Turns.more, Ended, nonEmpty, FromStart}
 use Rattle.erasure.specs.Restoring.{State, contradiction, outcome}
 use Rattle.lists.specs.Lists.{In.here, In.there, All.nil, All.cons}
+use Rattle.table.specs.Packets.{lowestNonzero}
 use Rattle.table.specs.Table.{checks, onesCount, refusal}
 
 -- ---- the bound is met, with packets of any content; an empty check doesn't count: checks 0 1 2, none, 0 and 1, places 0 and 1 lost
@@ -26,6 +27,9 @@ pub record TwoOrders (t b map : List ℕ) (e f : State) : Type 0 where
   pub other : FromStart t b map f
   pub other-ended : Ended (checks t) f
 
+none : _≡_ {A = ℕ} 0 1 → ⊥
+none z = omega arith
+
 -- where packets contradict, another order may end with another block: checks 0 1 and 0 2, place 0 lost, packets 1 and 2 received
 abbrev halves : List ℕ
 halves = 2 ∷ 3 ∷ 1 ∷ 2 ∷ 2 ∷ 2 ∷ 4 ∷ 0 ∷ 1 ∷ 0 ∷ 2 ∷ []
@@ -38,15 +42,16 @@ blocks-differ = (
   record {
     accepted = refl;
     one = more (0 ∷ 1 ∷ []) here refl stay;
-    one-ended = cons (λ z. omega arith) (cons (λ z. omega arith) nil);
+    one-ended = cons none (cons none nil);
     other = more (0 ∷ 2 ∷ []) (there here) refl stay;
-    other-ended = cons (λ z. omega arith) (cons (λ z. omega arith) nil);
+    other-ended = cons none (cons none nil);
   },
   λ z. let k : _≡_ {A = ℕ} 1 2 = ap (λ b. getD (getD b 0 []) 0 0) z in omega arith,
 )
 
 -- .. and another check fails
 pub faults-differ : (contradiction 1 (checks halves) (endedWith 1) ≡ some (record { check = 1; byte = 0 })) × (contradiction 1 (checks halves) (endedWith 2) ≡ some (record { check = 0; byte = 0 }))
+unfolding lowestNonzero
 faults-differ = (refl, refl)
 
 -- another order may cost other additions: checks 0 and 0 1, place 0 lost
@@ -60,7 +65,7 @@ pub additions-differ : TwoOrders alone (9 ∷ 0 ∷ []) (1 ∷ 0 ∷ []) (endedA
 additions-differ = record {
   accepted = refl;
   one = more (0 ∷ []) here refl stay;
-  one-ended = cons (λ z. omega arith) (cons (λ z. omega arith) nil);
+  one-ended = cons none (cons none nil);
   other = more (0 ∷ 1 ∷ []) (there here) refl stay;
-  other-ended = cons (λ z. omega arith) (cons (λ z. omega arith) nil);
+  other-ended = cons none (cons none nil);
 }
