@@ -10,16 +10,16 @@ use Prim.Native.Nat.{ℕ, zero, suc, _+_, _-_, _*_, _<_, _≤_}
 use native.Mathlib.Omega.{arith}
 use lib.ListN.{length, getD}
 use Rattle.erasure.specs.Additions.{turns-most}
-use Rattle.erasure.specs.Alike.{Alike, outcome-alike}
+use Rattle.erasure.specs.Alike.{Alike, outcome-alike, turns-alike}
 use Rattle.erasure.specs.AnyOrder.{end-within, end-map, end-block, end-judged}
 use Rattle.erasure.specs.Largest.{repaired-ends}
-use Rattle.erasure.specs.LostLaws.{is-lost, lost-fewer}
+use Rattle.erasure.specs.LostLaws.{is-lost, lost-most, lost-fewer}
 use Rattle.erasure.specs.Offered.{handedOn, Fitting, Agree}
 use Rattle.erasure.specs.OfferedLaws.{bytes-all, lost-byte}
-use Rattle.erasure.specs.OrderLaws.{restoring-turns, goes-on, turns-taken}
-use Rattle.erasure.specs.Orders.{Ready, taken, Ended, nonEmpty, FromStart}
+use Rattle.erasure.specs.OrderLaws.{ended-stays, goes-on, restoring-turns, restoring-ends, turns-then, turns-map, turns-taken}
+use Rattle.erasure.specs.Orders.{Ready, Turns, taken, Ended, nonEmpty, FromStart}
 use Rattle.erasure.specs.OutcomeLaws.{tally-lost, start-length, start-sized}
-use Rattle.erasure.specs.Restoring.{State, isLost, consistent, tally, outcome, contradicting, agreeing, countsIf, blockIf, mapIf}
+use Rattle.erasure.specs.Restoring.{State, isLost, restoring, start, consistent, tally, outcome, contradicting, agreeing, countsIf, blockIf, mapIf}
 use Rattle.faults.specs.Faults.{Fault, noFault}
 use Rattle.lists.specs.Lists.{In}
 use Rattle.lists.specs.Tests.{eqb-true, byBool}
@@ -29,7 +29,7 @@ use Rattle.suspects.specs.Blame.{blamed}
 use Rattle.suspects.specs.BlameLaws.{agreed-none}
 use Rattle.table.specs.Codewords.{IsCodeword}
 use Rattle.table.specs.PacketCall.{partAt}
-use Rattle.table.specs.Packets.{joined}
+use Rattle.table.specs.Packets.{packets, joined}
 use Rattle.table.specs.Table.{places, size, checks, onesCount, refusal}
 use Rattle.table.specs.TableLaws.{accepted}
 
@@ -64,6 +64,10 @@ every-order-ends t b map {e} u = ap (λ k. taken u + k) (tally-lost (e .map)) �
 pub order-goes-on : (t b map : List ℕ) {e : State} → FromStart t b map e → ((c : List ℕ) × (In c (checks t) × Ready (e .map) c)) ⊎ Ended (checks t) e
 order-goes-on t b map {e} u = goes-on (checks t) e
 
+-- .. and then no further
+pub order-stops : (t b map : List ℕ) {e f : State} → FromStart t b map e → Ended (checks t) e → Turns (size t) (checks t) e f → f ≡ e
+order-stops t b map u end more = ended-stays end more
+
 -- the end e of an order, against the old repair's
 pub record SameEnd (t b map : List ℕ) (e : State) : Type 0 where
   -- the same marks, so the same lost places, whatever the packets
@@ -84,6 +88,14 @@ any-order t b map ok fits long u end =
       judged = end-judged (places t) (size t) (checks t) low _ begins sized u end (old-order t b map) (old-ends t b map long);
       block = λ calm. sym (end-block (places t) (size t) (checks t) low _ begins sized (old-order t b map) (old-ends t b map long) u end calm);
     }
+
+-- and wherever an order stands, the old repair goes on from there to the same end
+pub from-anywhere : (t b map : List ℕ) → refusal t ≡ 0 → length b ≡ places t * size t → length map ≡ places t
+    → {e : State} → FromStart t b map e → SameEnd t b map (restoring (places t) (size t) (checks t) e)
+from-anywhere t b map ok fits long {e} u =
+    let most = lost-most (e .map) in
+    let same = turns-map u in
+    any-order t b map ok fits long (turns-then u (restoring-turns (places t) (size t) (checks t) e)) (restoring-ends (places t) (size t) (checks t) e (omega arith))
 
 -- ---- "Repair additions are at most W0 less the number of checks that aren't empty": of every order, ended or not
 pub order-additions : (t b map : List ℕ) → refusal t ≡ 0 → {e : State} → FromStart t b map e → e .adds + nonEmpty (checks t) ≤ onesCount t
@@ -117,6 +129,10 @@ module _ (t u b c map : List ℕ) (same-places : places t ≡ places u) (same-ch
 
   pub additions-alike : outcome t b map .adds ≡ outcome u c map .adds
   additions-alike = alike .adds-alike
+
+  -- and of every order: the same turns can be taken, at the same cost
+  pub order-alike : {e : State} → FromStart t b map e → (f : State) × (FromStart u c map f × Alike e f)
+  order-alike w = rw same-checks at (turns-alike (size u) (start (size u) (packets (size u) (places u) c) map) w (record { map-alike = refl; adds-alike = refl }))
 
   module _ (calm : agreeing t b map ≡ true) (calm-too : agreeing u c map ≡ true) where
     -- what is told
