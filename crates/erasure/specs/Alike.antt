@@ -1,6 +1,6 @@
 -- Map and additions after restoring depend on checks and map alone, whatever the packets and their size.
 use mathlib.Core.Path.{_≡_, refl, sym, ap, _∙_, subst}
-use mathlib.Core.List.{List}
+use mathlib.Core.List.{List, _∷_}
 use mathlib.Core.Option.{none, some}
 use Prim.Native.Nat.{ℕ, zero, suc, _+_, _-_}
 use lib.ListN.{length, getD, set}
@@ -8,7 +8,7 @@ use Rattle.lists.specs.Tests.{byOpt}
 use Rattle.table.specs.AnySize.{places-at, checks-at}
 use Rattle.table.specs.Packets.{packets}
 use Rattle.table.specs.Table.{places, size, atSize, checks}
-use Rattle.erasure.specs.Orders.{Ready, Turns, Turns.stay, Turns.more}
+use Rattle.erasure.specs.Orders.{Ready, Turns, Turns.stay, Turns.more, taken}
 use Rattle.erasure.specs.Restoring.{State, lostPlaces, ready, turn, restoring, start, outcome}
 
 pub record Alike (m n : State) : Type 0 where
@@ -30,12 +30,19 @@ restoring-alike (suc k) s r cs m n a = byOpt (ready (m .map) cs)
     rw (e, restoring, f) (restoring-alike k s r cs (turn s c m) (turn r c n) (turn-alike s r c m n a)))
     (λ e. let f : ready (n .map) cs ≡ none = ap (λ l. ready l cs) (sym (a .map-alike)) ∙ e in rw (e, restoring, f) a)
 
--- .. in any order: the same can be taken from the other
-pub turns-alike : {s : ℕ} {cs : List (List ℕ)} {m e : State} (r : ℕ) (n : State) → Turns s cs m e → Alike m n → (f : State) × (Turns r cs n f × Alike e f)
-turns-alike r n stay a = (n, (stay, a))
-turns-alike {s} {m} r n (more c i one t) a =
-    let u = turns-alike r (turn r c n) t (turn-alike s r c m n a) in
-    (u .0, (more c i (subst (λ l. Ready l c) (a .map-alike) one) (u .1 .0), u .1 .1))
+-- turns from m by checks of ds that take cs, to a state alike to e
+pub record TakesAlike (s : ℕ) (ds : List (List ℕ)) (m : State) (cs : List (List ℕ)) (e : State) : Type 0 where
+  pub to : State
+  pub turns : Turns s ds m to
+  pub same-checks : taken turns ≡ cs
+  pub alike : Alike e to
+
+-- .. in any order: from the other state the same checks can be taken
+pub turns-alike : {s : ℕ} {ds : List (List ℕ)} {m e : State} (t : Turns s ds m e) (r : ℕ) (n : State) → Alike m n → TakesAlike r ds n (taken t) e
+turns-alike stay r n a = record { to = n; turns = stay; same-checks = refl; alike = a }
+turns-alike {s} {m} (more c i one t) r n a =
+    let u = turns-alike t r (turn r c n) (turn-alike s r c m n a) in
+    record { to = u .to; turns = more c i (subst (λ l. Ready l c) (a .map-alike) one) (u .turns); same-checks = ap (λ l. c ∷ l) (u .same-checks); alike = u .alike }
 
 -- blocks b and c, tables t and u alike in places and checks
 pub outcome-alike : (t u b c map : List ℕ) → places t ≡ places u → checks t ≡ checks u → Alike (outcome t b map) (outcome u c map)

@@ -1,35 +1,33 @@
 -- The end is the same in every order of turns (document 02, C-23): the map and whether packets contradict, always; the block, where they
 -- don't.
 use mathlib.Core.Path.{_≡_, refl, sym, ap, _∙_, subst}
-use mathlib.Core.Bool.{true, false, true≢false}
+use mathlib.Core.Bool.{true}
 use mathlib.Core.List.{List, []}
 use Prim.Native.Nat.{ℕ, _<_}
 use lib.ListN.{length, getD}
 use lib.Seq.{ext-getD}
-use Rattle.erasure.specs.ContradictionLaws.{sums-of, of-sums}
+use Rattle.erasure.specs.ContradictionLaws.{Zeros, sums-of, of-sums}
 use Rattle.erasure.specs.OrderLaws.{turns-length, turns-map, turns-sized, turns-within, turns-same, turns-kept, turns-left, turns-mark, turns-never}
 use Rattle.erasure.specs.Orders.{Turns, Ended}
 use Rattle.erasure.specs.Restoring.{State, isLost, lostPlaces, consistent}
-use Rattle.erasure.specs.TurnValues.{Agrees, Zeros, agrees-sums, turns-agrees}
+use Rattle.erasure.specs.TurnValues.{Agrees, agrees-sums, turns-agrees}
 use Rattle.lists.specs.ListLaws.{all-map}
 use Rattle.lists.specs.Lists.{All}
-use Rattle.lists.specs.Tests.{eqb-true, byBool}
+use Rattle.lists.specs.Tests.{eqb-true, byBool, both-ways}
 use Rattle.table.specs.Packets.{Packets}
 
--- ---- the map: by turns t from m to their end e, and turns u from n to f, with packets of any content and size
-module _ {s r : ℕ} {cs : List (List ℕ)} {m e n f : State} (t : Turns s cs m e) (end : Ended cs e) (u : Turns r cs n f) where
+-- ---- the map: turns t from m to their end e, and turns u from h to f, with packets of any content and size
+module _ {s r : ℕ} {cs : List (List ℕ)} {m e h f : State} (t : Turns s cs m e) (end : Ended cs e) (u : Turns r cs h f) where
   -- with fewer places lost no other place is lost in the end
-  pub end-within : ((p : ℕ) → isLost (m .map) p ≡ true → isLost (n .map) p ≡ true) → (p : ℕ) → isLost (e .map) p ≡ true → isLost (f .map) p ≡ true
-  end-within h = turns-never u (isLost (e .map)) end (λ p z. h p (turns-within t p z))
+  pub end-within : ((p : ℕ) → isLost (m .map) p ≡ true → isLost (h .map) p ≡ true) → (p : ℕ) → isLost (e .map) p ≡ true → isLost (f .map) p ≡ true
+  end-within within = turns-never u (isLost (e .map)) end (λ p z. within p (turns-within t p z))
 
--- with the same places lost the same are, and the maps are the same
-module _ {s r : ℕ} {cs : List (List ℕ)} {m e n f : State} (t : Turns s cs m e) (end : Ended cs e) (u : Turns r cs n f) (stop : Ended cs f) (alike : m .map ≡ n .map) where
+-- from the same map both come to the same
+module _ {s r : ℕ} {cs : List (List ℕ)} {m e h f : State} (t : Turns s cs m e) (end : Ended cs e) (u : Turns r cs h f) (stop : Ended cs f) (alike : m .map ≡ h .map) where
   lost-alike : (p : ℕ) → isLost (e .map) p ≡ isLost (f .map) p
-  lost-alike p = byBool (isLost (e .map) p)
-      (λ y. y ∙ sym (end-within t end u (λ q h. ap (λ l. isLost l q) (sym alike) ∙ h) p y))
-      (λ y. byBool (isLost (f .map) p)
-      (λ z. absurd (true≢false (sym (end-within u stop t (λ q h. ap (λ l. isLost l q) alike ∙ h) p z) ∙ y)))
-      (λ z. y ∙ sym z))
+  lost-alike p = both-ways (isLost (e .map) p) (isLost (f .map) p)
+      (end-within t end u (λ q z. ap (λ l. isLost l q) (sym alike) ∙ z) p)
+      (end-within u stop t (λ q z. ap (λ l. isLost l q) alike ∙ z) p)
 
   mark-alike : (p : ℕ) → getD (e .map) p 0 ≡ getD (f .map) p 0
   mark-alike p = byBool (isLost (e .map) p)
@@ -48,7 +46,7 @@ module _ (n s : ℕ) (cs : List (List ℕ)) (low : All (λ c. All (λ p. p < n) 
     same-map = end-map t end u stop refl
 
     -- what the one restored sums to zero over every check that the other took
-    zeros : Zeros n s (e .block) cs f
+    zeros : Zeros s (e .block) cs f
     zeros = all-map (λ c z none. z (ap (λ l. length (lostPlaces l c)) same-map ∙ none)) (sums-of s e cs calm)
 
     -- so the other restored the same
@@ -70,8 +68,4 @@ module _ (n s : ℕ) (cs : List (List ℕ)) (low : All (λ c. All (λ p. p < n) 
 
   -- and then those of no other do
   pub end-judged : {e f : State} → Turns s cs m e → Ended cs e → Turns s cs m f → Ended cs f → consistent s cs e ≡ consistent s cs f
-  end-judged {e} {f} t end u stop = byBool (consistent s cs e)
-      (λ y. y ∙ sym (also-calm t end u stop y))
-      (λ y. byBool (consistent s cs f)
-      (λ z. absurd (true≢false (sym (also-calm u stop t end z) ∙ y)))
-      (λ z. y ∙ sym z))
+  end-judged {e} {f} t end u stop = both-ways (consistent s cs e) (consistent s cs f) (also-calm t end u stop) (also-calm u stop t end)

@@ -14,9 +14,13 @@ use Rattle.lists.specs.Tests.{eqb-true}
 use Rattle.table.specs.Packets.{packetSum}
 use Rattle.erasure.specs.Restoring.{State, lostPlaces, noneLost, contradiction, consistent, countsIf}
 
--- every check without a lost place sums to zero
+-- every check without a lost place in state m sums to zero, over the packets w ..
+abbrev pub Zeros : ℕ → List (List ℕ) → List (List ℕ) → State → Type 0
+Zeros s w cs m = All (λ c. length (lostPlaces (m .map) c) ≡ 0 → packetSum s w c ≡ replicate s 0) cs
+
+-- .. over the state's own
 abbrev pub Sums : ℕ → List (List ℕ) → State → Type 0
-Sums s cs m = All (λ c. length (lostPlaces (m .map) c) ≡ 0 → packetSum s (m .block) c ≡ replicate s 0) cs
+Sums s cs m = Zeros s (m .block) cs m
 
 pub sums-of : (s : ℕ) (m : State) (cs : List (List ℕ)) → consistent s cs m ≡ true → Sums s cs m
 sums-of s m cs h = all-map (λ c z e. z (ap (λ k. eqb k 0) e)) (none-fails (noneLost (m .map)) s (m .block) 0 cs (no-fault (contradiction s cs m) h))

@@ -1,6 +1,6 @@
 -- The largest stopping set among the lost places: there is one and only one, and it is what stays lost.
 use mathlib.Core.Path.{_≡_, refl, sym, ap, _∙_}
-use mathlib.Core.Bool.{Bool, true, true≢false}
+use mathlib.Core.Bool.{Bool, true}
 use mathlib.Core.List.{List, []}
 use Prim.Native.Nat.{ℕ}
 use native.Mathlib.Omega.{arith}
@@ -10,7 +10,7 @@ use Rattle.erasure.specs.OrderLaws.{restoring-turns, restoring-ends, tur
 use Rattle.erasure.specs.Orders.{Turns, Ended}
 use Rattle.erasure.specs.Restoring.{State, start, repaired, outcome, isLost, Largest}
 use Rattle.lists.specs.ListLaws.{all-map, all-of, filter-same}
-use Rattle.lists.specs.Tests.{byBool}
+use Rattle.lists.specs.Tests.{both-ways}
 use Rattle.table.specs.Packets.{packets}
 use Rattle.table.specs.Table.{places, size, checks}
 
@@ -45,9 +45,7 @@ largest-same t map L K e l = record {
 
 -- and only one
 pub largest-only : (t map : List ℕ) (L K : ℕ → Bool) → Largest t map L → Largest t map K → (p : ℕ) → L p ≡ K p
-largest-only t map L K l k p = byBool (L p)
-    (λ e. e ∙ sym (k .holds L (l .among) p e))
-    (λ e. byBool (K p) (λ f. absurd (true≢false (sym (l .holds K (k .among) p f) ∙ e))) (λ f. e ∙ sym f))
+largest-only t map L K l k p = both-ways (L p) (K p) (k .holds L (l .among) p) (l .holds K (k .among) p)
 
 -- with fewer places lost no other place stays lost
 pub largest-within : (t few many : List ℕ) (L K : ℕ → Bool) → Largest t few L → Largest t many K → ((p : ℕ) → isLost few p ≡ true → isLost many p ≡ true) → (p : ℕ) → L p ≡ true → K p ≡ true

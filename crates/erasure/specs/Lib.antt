@@ -16,8 +16,8 @@ pub mod Passing
 pub mod PlaceByPlace
 pub mod Restoring
 pub mod RestoringLaws
+pub mod States
 pub mod Tally
 pub mod Turn
 pub mod TurnValues
-pub mod Turns
 pub mod Values

@@ -9,7 +9,7 @@ use native.Mathlib.Omega.{arith}
 use lib.Dec.{eqb}
 use lib.ListN.{length, getD}
 use Rattle.erasure.specs.LostLaws.{lostIn, no-lost}
-use Rattle.erasure.specs.Orders.{Ready, Turns, Turns.stay, Turns.more, taken, Ended}
+use Rattle.erasure.specs.Orders.{Ready, Turns, Turns.stay, Turns.more, taken, spent, Ended}
 use Rattle.erasure.specs.Restoring.{State, isLost, lostPlaces, ready, turn, restoring, Stopping}
 use Rattle.erasure.specs.Turn.{turn-length, turn-map, turn-sized, turn-within, turn-left, place-lost, turn-kept, turn-same, turn-mark, turn-one, turn-never}
 use Rattle.lists.specs.ListLaws.{all-member}
@@ -122,6 +122,11 @@ module _ {s : ℕ} {cs : List (List ℕ)} where
   turns-never {m} (more c i one t) S st h = turns-never t S st (turn-never s c m one S (all-member st i) h)
 
   -- every turn restores one lost place
-  pub turns-taken : {m e : State} (t : Turns s cs m e) → taken t + lostIn (e .map) ≡ lostIn (m .map)
+  pub turns-taken : {m e : State} (t : Turns s cs m e) → length (taken t) + lostIn (e .map) ≡ lostIn (m .map)
   turns-taken stay = omega arith
   turns-taken {m} (more c i one t) = let h = turns-taken t in let k = turn-one s c m one in omega arith
+
+  -- and costs its check's weight less 1
+  pub turns-spend : {m e : State} (t : Turns s cs m e) → e .adds ≡ m .adds + spent (taken t)
+  turns-spend stay = omega arith
+  turns-spend (more c i one t) = let h = turns-spend t in omega arith

@@ -1,8 +1,8 @@
 -- Turns in any order (document 02, C-23): "Whichever check with one lost place is taken at each turn".
 use mathlib.Core.Path.{_≡_}
 use mathlib.Core.Bool.{not}
-use mathlib.Core.List.{List}
-use Prim.Native.Nat.{ℕ, suc}
+use mathlib.Core.List.{List, [], _∷_}
+use Prim.Native.Nat.{ℕ, _+_, _-_}
 use lib.Dec.{eqb}
 use lib.ListN.{length}
 use Rattle.erasure.specs.Restoring.{State, isLost, lostPlaces, turn, start, Stopping}
@@ -19,10 +19,15 @@ pub data Turns (s : ℕ) (cs : List (List ℕ)) : State → State → Type 0 whe
   stay : {m : State} → Turns s cs m m
   more : {m e : State} (c : List ℕ) → In c cs → Ready (m .map) c → Turns s cs (turn s c m) e → Turns s cs m e
 
--- how many they are
-abbrev pub taken : {s : ℕ} {cs : List (List ℕ)} {m e : State} → Turns s cs m e → ℕ
-taken stay = 0
-taken (more c i one t) = suc (taken t)
+-- the checks that are taken, one a turn
+abbrev pub taken : {s : ℕ} {cs : List (List ℕ)} {m e : State} → Turns s cs m e → List (List ℕ)
+taken stay = []
+taken (more c i one t) = c ∷ taken t
+
+-- their additions: "weight − 1 for each check used"
+abbrev pub spent : List (List ℕ) → ℕ
+spent [] = 0
+spent (c ∷ cs) = (length c - 1) + spent cs
 
 -- no check has exactly one lost place: the turns have come to their end
 abbrev pub Ended : List (List ℕ) → State → Type 0

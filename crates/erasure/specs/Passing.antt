@@ -1,8 +1,8 @@
--- How many places of a check pass a test: none, one, and no more than pass a weaker test.
+-- How many places of a check pass a test: none, exactly one, and no more than pass a weaker test.
 use mathlib.Core.Path.{_≡_, refl, sym, ap, ap₂, _∙_}
 use mathlib.Core.Bool.{Bool, true, false, cond, true≢false}
 use mathlib.Core.List.{List, [], _∷_}
-use Prim.Native.Nat.{ℕ, suc, _≤_}
+use Prim.Native.Nat.{ℕ, suc, _<_, _≤_}
 use native.Mathlib.Nat.{suc-inj}
 use native.Mathlib.Omega.{arith}
 use lib.Dec.{eqb}
@@ -24,13 +24,13 @@ none-passes f (x ∷ c) l = byBool (f x)
     (λ t. absurd (omega (arith, rw (t, filter) at l)))
     (λ t. cons t (none-passes f c (rw (t, filter) at l)))
 
--- ---- one passes
--- the one
-pub first-lost : (f : ℕ → Bool) (c : List ℕ) → length (filter f c) ≡ 1 → f (getD (filter f c) 0 0) ≡ true
-first-lost f [] l = absurd (omega arith)
-first-lost f (x ∷ c) l = byBool (f x) (λ t. rw (t, filter) t) (λ t. rw (t, filter) (first-lost f c (rw (t, filter) at l)))
+-- the first that passes, if one does
+pub first-passes : (f : ℕ → Bool) (c : List ℕ) → 0 < length (filter f c) → f (getD (filter f c) 0 0) ≡ true
+first-passes f [] l = absurd (omega arith)
+first-passes f (x ∷ c) l = byBool (f x) (λ t. rw (t, filter) t) (λ t. rw (t, filter) (first-passes f c (rw (t, filter) at l)))
 
--- of a stronger test it alone can pass
+-- ---- exactly one passes f
+-- where g is stronger, that one passes g or none does
 pub filter-one : (f g : ℕ → Bool) (c : List ℕ) → length (filter f c) ≡ 1 → ((p : ℕ) → g p ≡ true → f p ≡ true) → length (filter g c) ≡ cond (g (getD (filter f c) 0 0)) 1 0
 filter-one f g [] l h = absurd (omega arith)
 filter-one f g (x ∷ c) l h = byBool (f x)
@@ -55,5 +55,5 @@ one-passes f (x ∷ c) l = byBool (f x)
     (λ t. let l′ : length (filter f c) ≡ 1 = rw (t, filter) at l in
     let r = one-passes f c l′ in
     let q = getD (filter f c) 0 0 in
-    let ne : eqb q x ≡ false = byBool (eqb q x) (λ e. absurd (true≢false (sym (first-lost f c l′) ∙ ap f (eqb-true q x e) ∙ t))) (λ e. e) in
+    let ne : eqb q x ≡ false = byBool (eqb q x) (λ e. absurd (true≢false (sym (first-passes f c (omega arith)) ∙ ap f (eqb-true q x e) ∙ t))) (λ e. e) in
     rw (t, filter) (ap₂ bxor ne (r .0), cons (λ e. t) (r .1)))

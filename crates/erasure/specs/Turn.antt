@@ -1,5 +1,5 @@
--- One turn, by any check with exactly one lost place: what stays lost, what is kept, what is restored. The laws of restoring and of every
--- order of turns cite these; so may those of other lists of checks.
+-- One turn, by any check with exactly one lost place: what stays lost, what is kept, what is restored. The laws of every order of turns cite
+-- these, and restoring is one of the orders.
 use mathlib.Core.Path.{_≡_, sym, ap, _∙_, subst}
 use mathlib.Core.Bool.{Bool, true, false, cond, not, true≢false}
 use mathlib.Core.List.{List, [], _∷_}
@@ -11,13 +11,13 @@ use lib.ListN.{length, getD, set, length-set}
 use lib.Seq.{getD-set-same, getD-set-other}
 use Rattle.erasure.specs.LostLaws.{lostIn, lost-inside, set-gone, set-lost, restore-one}
 use Rattle.erasure.specs.Orders.{Ready}
-use Rattle.erasure.specs.Passing.{first-lost, filter-one}
+use Rattle.erasure.specs.Passing.{first-passes, filter-one}
 use Rattle.erasure.specs.Restoring.{State, isLost, lostPlaces, turn}
 use Rattle.lists.specs.ListLaws.{all-filter, all-set}
-use Rattle.lists.specs.Lists.{has, filter, All}
+use Rattle.lists.specs.Lists.{has, filter, minus, All}
 use Rattle.lists.specs.Tests.{eqb-true, eqb-false, byBool}
 use Rattle.table.specs.PacketLaws.{sum-view}
-use Rattle.table.specs.Packets.{Packets}
+use Rattle.table.specs.Packets.{Packets, packetSum}
 
 module _ (s : ℕ) (c : List ℕ) (m : State) where
   -- as many packets and map bytes
@@ -27,9 +27,12 @@ module _ (s : ℕ) (c : List ℕ) (m : State) where
   pub turn-map : length (turn s c m .map) ≡ length (m .map)
   turn-map = length-set (m .map) _ 2
 
-  -- packets of s bytes
+  -- packets of s bytes: the one that is restored, and all
+  pub turn-packet : All (λ p. p < length (m .block)) c → Packets s (m .block) → length (packetSum s (m .block) (minus c (getD (lostPlaces (m .map) c) 0 0 ∷ []))) ≡ s
+  turn-packet low w = sum-view s w (all-filter (λ p. not (has p (getD (lostPlaces (m .map) c) 0 0 ∷ []))) low) .0
+
   pub turn-sized : All (λ p. p < length (m .block)) c → Packets s (m .block) → Packets s (turn s c m .block)
-  turn-sized low w = all-set w _ _ (sum-view s w (all-filter (λ p. not (has p (getD (lostPlaces (m .map) c) 0 0 ∷ []))) low) .0)
+  turn-sized low w = all-set w _ _ (turn-packet low w)
 
   -- nothing becomes lost
   pub turn-within : (p : ℕ) → isLost (turn s c m .map) p ≡ true → isLost (m .map) p ≡ true
@@ -45,7 +48,7 @@ module _ (s : ℕ) (c : List ℕ) (m : State) where
     place = getD (lostPlaces (m .map) c) 0 0
 
     pub place-lost : isLost (m .map) (getD (lostPlaces (m .map) c) 0 0) ≡ true
-    place-lost = first-lost (isLost (m .map)) c (omega (arith, one))
+    place-lost = first-passes (isLost (m .map)) c (omega (arith, one))
 
     -- a known place is another
     known-other : (p : ℕ) → isLost (m .map) p ≡ false → p ≢ place
@@ -70,7 +73,7 @@ module _ (s : ℕ) (c : List ℕ) (m : State) where
 
     -- and none is left in the check
     pub turn-none : length (lostPlaces (turn s c m .map) c) ≡ 0
-    turn-none = filter-one (isLost (m .map)) (isLost (turn s c m .map)) c one turn-within ∙ ap (λ v. cond v 1 0) (set-gone (m .map) place)
+    turn-none = filter-one (isLost (m .map)) (isLost (turn s c m .map)) c (omega (arith, one)) turn-within ∙ ap (λ v. cond v 1 0) (set-gone (m .map) place)
 
     -- a set within the lost places that the check doesn't meet in exactly one stays lost
     pub turn-never : (S : ℕ → Bool) → length (filter S c) ≢ 1 → ((p : ℕ) → S p ≡ true → isLost (m .map) p ≡ true)
@@ -78,4 +81,4 @@ module _ (s : ℕ) (c : List ℕ) (m : State) where
     turn-never S ne h p e = ap (λ v. eqb v 1) (getD-set-other (m .map) place p 2 0 (λ z. true≢false (sym e ∙ ap S z ∙ out))) ∙ h p e
       where
         out : S place ≡ false
-        out = byBool (S place) (λ t. absurd (ne (filter-one (isLost (m .map)) S c one h ∙ ap (λ v. cond v 1 0) t))) (λ t. t)
+        out = byBool (S place) (λ t. absurd (ne (filter-one (isLost (m .map)) S c (omega (arith, one)) h ∙ ap (λ v. cond v 1 0) t))) (λ t. t)

@@ -1,5 +1,5 @@
--- A turn restores the packet of the word behind the block, if its check sums to zero over the word; and so do turns in any order, if every
--- check does that has no lost place in the end: no other is taken.
+-- Packets restored from a word: a turn restores the word's packet, if its check sums to zero over the word. So do turns in any order, if
+-- every check without a lost place in the end does: no other check is taken.
 use mathlib.Core.Path.{_≡_, refl, sym, ap, ap₂, _∙_, subst}
 use mathlib.Core.Bool.{false, cond, not, true, false≢true}
 use mathlib.Core.List.{List, [], _∷_}
@@ -9,7 +9,7 @@ use lib.Bits.{bitXor}
 use lib.Dec.{eqb}
 use lib.ListN.{length, getD, set, replicate}
 use lib.Seq.{ext-getD, getD-set-same, getD-set-other}
-use Rattle.erasure.specs.ContradictionLaws.{Sums}
+use Rattle.erasure.specs.ContradictionLaws.{Zeros, Sums}
 use Rattle.erasure.specs.OrderLaws.{turns-within}
 use Rattle.erasure.specs.Orders.{Ready, Turns, Turns.stay, Turns.more}
 use Rattle.erasure.specs.Passing.{filter-mono, none-passes, one-passes}
@@ -39,12 +39,8 @@ module _ (n s : ℕ) (word : List (List ℕ)) where
     pub size : length (m .block) ≡ n
     pub same : (p : ℕ) → p < n → isLost (m .map) p ≡ false → getD (m .block) p [] ≡ getD word p []
 
-  -- every check sums to zero over the word that has no lost place in state m
-  abbrev pub Zeros : List (List ℕ) → State → Type 0
-  Zeros cs m = All (λ c. length (lostPlaces (m .map) c) ≡ 0 → packetSum s word c ≡ replicate s 0) cs
-
-  -- and so over the block
-  pub agrees-sums : {cs : List (List ℕ)} → All (λ c. All (λ p. p < n) c) cs → (m : State) → Zeros cs m → Agrees m → Sums s cs m
+  -- checks without a lost place sum to the same over the block as over the word
+  pub agrees-sums : {cs : List (List ℕ)} → All (λ c. All (λ p. p < n) c) cs → (m : State) → Zeros s word cs m → Agrees m → Sums s cs m
   agrees-sums low m zeros g = all-map (λ c r h. sum-agree s (m .block) word
       (all-map (λ p t. g .same p (t .0) (t .1)) (all-zip (r .0) (none-passes (isLost (m .map)) c h))) ∙ r .1 h) (all-zip low zeros)
 
@@ -75,7 +71,7 @@ module _ (n s : ℕ) (word : List (List ℕ)) where
         }
 
     -- turns in any order
-    pub turns-agrees : {cs : List (List ℕ)} {m e : State} → All (λ c. All (λ p. p < n) c) cs → Zeros cs e → Turns s cs m e → Agrees m → Agrees e
+    pub turns-agrees : {cs : List (List ℕ)} {m e : State} → All (λ c. All (λ p. p < n) c) cs → Zeros s word cs e → Turns s cs m e → Agrees m → Agrees e
     turns-agrees low zeros stay g = g
     turns-agrees {m} {e} low zeros (more c i one t) g =
         let none = turn-none s c m one in

@@ -5,12 +5,12 @@ use mathlib.Core.List.{List, [], _∷_}
 use Prim.Native.Nat.{ℕ, zero, suc, _<_}
 use native.Mathlib.Omega.{arith}
 use lib.ListN.{length, getD, replicate}
-use Rattle.erasure.specs.ContradictionLaws.{of-sums}
+use Rattle.erasure.specs.ContradictionLaws.{Zeros, of-sums}
 use Rattle.erasure.specs.OrderLaws.{restoring-turns, turns-never}
 use Rattle.erasure.specs.Passing.{filter-mono}
 use Rattle.erasure.specs.Restoring.{isLost, zeroLost, start, repaired, consistent, Stopping}
 use Rattle.erasure.specs.RestoringLaws.{restoring-within, restoring-kept, restoring-left}
-use Rattle.erasure.specs.TurnValues.{Agrees, Zeros, agrees-sums, turns-agrees}
+use Rattle.erasure.specs.TurnValues.{Agrees, agrees-sums, turns-agrees}
 use Rattle.lists.specs.ListLaws.{all-map}
 use Rattle.lists.specs.Lists.{filter, All}
 use Rattle.table.specs.Packets.{packetSum, Packets}
@@ -53,7 +53,7 @@ module _ (n s : ℕ) (cs : List (List ℕ)) (low : All (λ c. All (λ p. p < n) 
   start-agrees = record { size = zeroLost-length s lost b ∙ size; same = λ p l h. zeroLost-kept s lost b p h ∙ agree p l h }
 
   -- after the last, if the word sums to zero over the checks without a lost place
-  module _ (zeros : Zeros n s word cs (repaired n s cs b lost)) where
+  module _ (zeros : Zeros s word cs (repaired n s cs b lost)) where
     end : Agrees n s word (repaired n s cs b lost)
     end = turns-agrees n s word long sized low zeros (restoring-turns n s cs (start s b lost)) start-agrees
 

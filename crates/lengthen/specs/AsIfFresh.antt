@@ -23,7 +23,7 @@ use Rattle.lengthen.specs.FirstPackets.{firstOf, first-part, first-codew
 use Rattle.lengthen.specs.Lengthen.{start, lengthenOutcome, lengthenRefusal, lengthenAfter, calm, LengthenFitting}
 use Rattle.lengthen.specs.LengthenLaws.{agreed-refusal, after-accepted, start-block, start-map, entered-there}
 use Rattle.lists.specs.ListLaws.{all-map, all-zip, filter-same}
-use Rattle.lists.specs.Tests.{eqb-true, byBool, and-l, and-r, side}
+use Rattle.lists.specs.Tests.{eqb-true, byBool, both-ways, and-l, and-r, side}
 use Rattle.longer.specs.Longer.{Lengthens}
 use Rattle.longer.specs.LongerLaws.{lengthens-facts, old-checks}
 use Rattle.table.specs.Codewords.{IsCodeword}
@@ -41,11 +41,6 @@ pub record AsIfFresh (old new : List ℕ) (carried arrivals all : Held) : Type 0
   -- the same block, and the same places are lost
   pub block : lengthenAfter old new carried arrivals .block ≡ joined (outcome new (all .block) (all .map) .block)
   pub lost : (p : ℕ) → isLost (lengthenAfter old new carried arrivals .map) p ≡ isLost (outcome new (all .block) (all .map) .map) p
-
-both-ways : (x y : Bool) → (x ≡ true → y ≡ true) → (y ≡ true → x ≡ true) → x ≡ y
-both-ways true y h k = sym (h refl)
-both-ways false true h k = k refl
-both-ways false false h k = refl
 
 drop-and : (x : Bool) {y : Bool} → y ≡ true → x ≡ (x && y)
 drop-and true e = sym e

@@ -79,6 +79,12 @@ and-exchange true false c = refl
 and-exchange false true c = refl
 and-exchange false false c = refl
 
+-- two tests that imply each other
+pub both-ways : (a b : Bool) → (a ≡ true → b ≡ true) → (b ≡ true → a ≡ true) → a ≡ b
+both-ways true b h k = sym (h refl)
+both-ways false true h k = k refl
+both-ways false false h k = refl
+
 -- the second of two fails
 pub and-false : (a b : Bool) → b ≡ false → (a && b) ≡ false
 and-false true b e = e

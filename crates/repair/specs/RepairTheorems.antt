@@ -103,6 +103,9 @@ pub record Repairing (t b map w : List ℕ) : Type 0 where
   -- the old repair accepts, and nobody is blamed
   pub agrees : agreeing t b map ≡ true
   pub nobody-blamed : blamed t b map ≡ none
+  -- block and map are the old repair's
+  pub block : repairBlockAfter t b map ≡ joined (outcome t b map .block)
+  pub marks : repairMapAfter t b map ≡ outcome t b map .map
   -- every restored packet is the codeword's, and every received one
   pub values : (p : ℕ) → p < places t → getD (repairMapAfter t b map) p 0 ≢ 1 → partAt (size t) p (repairBlockAfter t b map) ≡ partAt (size t) p w
 
@@ -328,18 +331,25 @@ module _ (t b map w : List ℕ) (f : Fitting t b map) (word : IsCodeword t w) (a
   calm : agreeing t b map ≡ true
   calm = word-agrees t b map (f .table) (f .block) w word there
 
+  old : AsOld t b map
+  old = plainly t b map f (agreed-none t b map calm)
+
+  block-is : repairBlockAfter t b map ≡ joined (outcome t b map .block)
+  block-is = old .block ∙ ap (λ v. blockIf v t b map) calm
+
+  map-is : repairMapAfter t b map ≡ outcome t b map .map
+  map-is = old .marks ∙ ap (λ v. mapIf v t b map) calm
+
   pub repairing : Repairing t b map w
   repairing = record {
     not-refused = agreed-refusal t b map f calm;
     agrees = calm;
     nobody-blamed = agreed-none t b map calm;
-    values = λ p h e. ap (partAt (size t) p) (old .block ∙ ap (λ v. blockIf v t b map) calm)
-        ∙ word-values t b map (f .table) (f .block) w word there p h (byBool (isLost (outcome t b map .map) p)
-        (λ z. absurd (e (ap (λ l. getD l p 0) (old .marks ∙ ap (λ v. mapIf v t b map) calm) ∙ eqb-true _ 1 z))) (λ z. z));
+    block = block-is;
+    marks = map-is;
+    values = λ p h e. ap (partAt (size t) p) block-is ∙ word-values t b map (f .table) (f .block) w word there p h
+        (byBool (isLost (outcome t b map .map) p) (λ z. absurd (e (ap (λ l. getD l p 0) map-is ∙ eqb-true _ 1 z))) (λ z. z));
   }
-    where
-      old : AsOld t b map
-      old = plainly t b map f (agreed-none t b map calm)
 
 -- ---- refusal 8
 pub contradicted-repair : (t b map : List ℕ) → repairRefusal t b map ≡ 8 → Contradicted t b map

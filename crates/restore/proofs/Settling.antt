@@ -15,7 +15,7 @@ use Rattle.erasure.specs.Restoring.{zeroLost, restoring, contradiction, tally, 
 use Rattle.restore.specs.Mending.{Tells, Mends}
 use Rattle.faults.specs.FaultLaws.{no-fault, some-fault}
 use Rattle.faults.specs.Faults.{noFault, checkOf, byteOf}
-use Rattle.erasure.specs.Turns.{Restored, stateOf}
+use Rattle.erasure.specs.States.{Restored, stateOf}
 use Rattle.erasure.specs.Values.{received-kept}
 use Rattle.restore.specs.declared.Judged.{Judged}
 use Rattle.restore.specs.declared.Mended.{Mended}

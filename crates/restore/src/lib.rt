@@ -12,7 +12,7 @@ ghost use Rattle.table.specs.Table.{checks};
 ghost use Rattle.table.specs.Accepted.{Accepted};
 ghost use Rattle.chains.specs.Linked.{Counted};
 ghost use Rattle.erasure.specs.Restoring.{contradiction};
-ghost use Rattle.erasure.specs.Turns.{Restored, stateOf};
+ghost use Rattle.erasure.specs.States.{Restored, stateOf};
 ghost use Rattle.turns.specs.Spent.{Spent};
 ghost use Rattle.restore.specs.Mending.{Tells, Mends};
 

@@ -13,7 +13,7 @@ use lib.Seq.{getD-take}
 use Rattle.erasure.specs.Offered.{Held, held, Fitting, Agree}
 use Rattle.erasure.specs.OfferedLaws.{bytes-all, lost-byte}
 use Rattle.erasure.specs.OldRepair.{RestoredBy, old-repair}
-use Rattle.erasure.specs.Restoring.{outcome, blockIf, mapIf, isLost}
+use Rattle.erasure.specs.Restoring.{outcome, isLost}
 use Rattle.lengthen.specs.AsIfFresh.{as-if-fresh, word-then}
 use Rattle.lengthen.specs.Carrying.{Carried, SoFar, Grown}
 use Rattle.lengthen.specs.FirstPackets.{firstOf, first-codeword, first-agrees, so-far-agrees}
@@ -25,7 +25,7 @@ use Rattle.lists.specs.Tests.{byBool}
 use Rattle.longer.specs.Longer.{lengthens}
 use Rattle.longer.specs.LongerLaws.{lengthens-facts}
 use Rattle.repair.specs.Repair.{repairRefusal, repairBlockAfter, repairMapAfter}
-use Rattle.repair.specs.RepairTheorems.{repairing, plainly}
+use Rattle.repair.specs.RepairTheorems.{repairing}
 use Rattle.table.specs.Codewords.{IsCodeword}
 use Rattle.table.specs.PacketCall.{partAt}
 use Rattle.table.specs.Packets.{joined}
@@ -50,12 +50,10 @@ pub record LongerTable (old new : List ℕ) (carried arrivals all : Held) (w : L
 -- ---- where packets are a codeword's, the call of repair leaves what the old repair leaves
 module _ (t : List ℕ) (h : Held) (w : List ℕ) (f : Fitting t (h .block) (h .map)) (word : IsCodeword t w) (right : Agree t (h .block) (h .map) w) where
   block-is : afterRepair t h .block ≡ joined (outcome t (h .block) (h .map) .block)
-  block-is = let r = repairing t (h .block) (h .map) w f word right in
-      plainly t (h .block) (h .map) f (r .nobody-blamed) .block ∙ ap (λ v. blockIf v t (h .block) (h .map)) (r .agrees)
+  block-is = repairing t (h .block) (h .map) w f word right .block
 
   map-is : afterRepair t h .map ≡ outcome t (h .block) (h .map) .map
-  map-is = let r = repairing t (h .block) (h .map) w f word right in
-      plainly t (h .block) (h .map) f (r .nobody-blamed) .marks ∙ ap (λ v. mapIf v t (h .block) (h .map)) (r .agrees)
+  map-is = repairing t (h .block) (h .map) w f word right .marks
 
   -- so it can be carried over
   repaired-carried : Carried t (afterRepair t h) h

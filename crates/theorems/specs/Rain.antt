@@ -1,7 +1,7 @@
--- For the planning desk (document 02, C-23, "What more rain can't do"): facts about the old repair, which is the call of repair wherever the
--- received packets don't contradict. Lost places, turns and additions depend on no packet. Of the block it must be known that received packets
--- don't contradict; those of one codeword never do.
-use mathlib.Core.Path.{_≡_, refl, sym, ap, ap₂, _∙_}
+-- For the planning desk (document 02, C-23, "What more rain can't do"): facts about the old repair: `outcome`, what restoring comes to, before it
+-- is judged whether packets contradict. Lost places, turns and additions depend on no packet. The block is the same in every order where packets
+-- don't contradict; those of one codeword never do, and then the call of repair leaves what the old repair comes to.
+use mathlib.Core.Path.{_≡_, refl, sym, ap, ap₂, _∙_, subst}
 use mathlib.Core.Bool.{true, false, true≢false}
 use mathlib.Core.List.{List}
 use mathlib.Core.Logic.{_≢_, _⊎_}
@@ -10,21 +10,25 @@ use Prim.Native.Nat.{ℕ, zero, suc, _+_, _-_, _*_, _<_, _≤_}
 use native.Mathlib.Omega.{arith}
 use lib.ListN.{length, getD}
 use Rattle.erasure.specs.Additions.{turns-most}
-use Rattle.erasure.specs.Alike.{Alike, outcome-alike, turns-alike}
+use Rattle.erasure.specs.Alike.{Alike, TakesAlike, outcome-alike, turns-alike}
 use Rattle.erasure.specs.AnyOrder.{end-within, end-map, end-block, end-judged}
 use Rattle.erasure.specs.Largest.{repaired-ends}
 use Rattle.erasure.specs.LostLaws.{is-lost, lost-most, lost-fewer}
-use Rattle.erasure.specs.Offered.{handedOn, Fitting, Agree}
+use Rattle.erasure.specs.Offered.{Held, handedOn, Fitting, Agree}
 use Rattle.erasure.specs.OfferedLaws.{bytes-all, lost-byte}
-use Rattle.erasure.specs.OrderLaws.{ended-stays, goes-on, restoring-turns, restoring-ends, turns-then, turns-map, turns-taken}
-use Rattle.erasure.specs.Orders.{Ready, Turns, taken, Ended, nonEmpty, FromStart}
+use Rattle.erasure.specs.OrderLaws.{ended-stays, goes-on, restoring-turns, restoring-ends, turns-then, turns-map, turns-taken, turns-spend}
+use Rattle.erasure.specs.Orders.{Ready, Turns, taken, spent, Ended, nonEmpty, FromStart}
 use Rattle.erasure.specs.OutcomeLaws.{tally-lost, start-length, start-sized}
-use Rattle.erasure.specs.Restoring.{State, isLost, restoring, start, consistent, tally, outcome, contradicting, agreeing, countsIf, blockIf, mapIf}
+use Rattle.erasure.specs.Restoring.{State, isLost, restoring, start, consistent, tally, outcome, contradicting, agreeing, countsIf, mapIf}
+use Rattle.aerials.specs.Aerials.{kinds}
+use Rattle.entering.specs.Entering.{entered}
 use Rattle.faults.specs.Faults.{Fault, noFault}
+use Rattle.lengthen.specs.Lengthen.{lengthenOutcome, lengthenFault, lengthenRefusal, lengthenAnswerAt, lengthenAnswer}
 use Rattle.lists.specs.Lists.{In}
 use Rattle.lists.specs.Tests.{eqb-true, byBool}
-use Rattle.repair.specs.Repair.{believed, repairRefusal, repairAnswerAt, repairAnswer, repairBlockAfter, repairMapAfter}
-use Rattle.repair.specs.RepairTheorems.{AsOld, answerBy, accepted-plainly, plainly, repairing}
+use Rattle.merge.specs.Merge.{third, mergeOutcome, mergeFault, mergeRefusal, mergeAnswerAt, mergeAnswer}
+use Rattle.repair.specs.Repair.{believed, repairOutcome, repairRefusal, repairAnswerAt, repairAnswer, repairBlockAfter, repairMapAfter}
+use Rattle.repair.specs.RepairTheorems.{Repairing, answerBy, accepted-plainly, plainly, repairing}
 use Rattle.suspects.specs.Blame.{blamed}
 use Rattle.suspects.specs.BlameLaws.{agreed-none}
 use Rattle.table.specs.Codewords.{IsCodeword}
@@ -42,11 +46,10 @@ module _ (t b map : List ℕ) where
   old-ends = repaired-ends (places t) (size t) (checks t) _ map
 
 -- ---- "Receiving more places never leaves a place lost that was known with fewer": whatever the packets b and c, if every place that is lost with
--- more received is lost with fewer, then it is so after the old repair
-module _ (t b c fewer more : List ℕ) (long : length fewer ≡ places t) (long-too : length more ≡ places t)
-    (within : (p : ℕ) → isLost more p ≡ true → isLost fewer p ≡ true) where
+-- more received is lost with fewer, then it is so after restoring
+module _ (t b c fewer more : List ℕ) (long : length more ≡ places t) (within : (p : ℕ) → isLost more p ≡ true → isLost fewer p ≡ true) where
   still-within : (p : ℕ) → isLost (outcome t c more .map) p ≡ true → isLost (outcome t b fewer .map) p ≡ true
-  still-within = end-within (old-order t c more) (old-ends t c more long-too) (old-order t b fewer) within
+  still-within = end-within (old-order t c more) (old-ends t c more long) (old-order t b fewer) within
 
   pub more-received : (p : ℕ) → isLost (outcome t b fewer .map) p ≡ false → isLost (outcome t c more .map) p ≡ false
   more-received p known = byBool (isLost (outcome t c more .map) p) (λ z. absurd (true≢false (sym (still-within p z) ∙ known))) (λ z. z)
@@ -57,22 +60,30 @@ module _ (t b c fewer more : List ℕ) (long : length fewer ≡ places t) (long-
 
 -- ---- "Whichever check with one lost place is taken at each turn"
 -- every order ends: each turn restores a lost place, so no order has more turns than places were lost ..
-pub every-order-ends : (t b map : List ℕ) {e : State} (u : FromStart t b map e) → taken u + tally 1 (e .map) ≡ tally 1 map
-every-order-ends t b map {e} u = ap (λ k. taken u + k) (tally-lost (e .map)) ∙ turns-taken u ∙ sym (tally-lost map)
+pub every-order-ends : (t b map : List ℕ) {e : State} (u : FromStart t b map e) → length (taken u) + tally 1 (e .map) ≡ tally 1 map
+every-order-ends t b map {e} u = ap (λ k. length (taken u) + k) (tally-lost (e .map)) ∙ turns-taken u ∙ sym (tally-lost map)
 
--- .. and it goes on until no check has exactly one lost place
-pub order-goes-on : (t b map : List ℕ) {e : State} → FromStart t b map e → ((c : List ℕ) × (In c (checks t) × Ready (e .map) c)) ⊎ Ended (checks t) e
-order-goes-on t b map {e} u = goes-on (checks t) e
+-- .. in every state a turn can be taken, or no check has exactly one lost place ..
+pub order-goes-on : (t : List ℕ) (e : State) → ((c : List ℕ) × (In c (checks t) × Ready (e .map) c)) ⊎ Ended (checks t) e
+order-goes-on t e = goes-on (checks t) e
 
--- .. and then no further
-pub order-stops : (t b map : List ℕ) {e f : State} → FromStart t b map e → Ended (checks t) e → Turns (size t) (checks t) e f → f ≡ e
-order-stops t b map u end more = ended-stays end more
+-- .. and then none can
+pub order-stops : (t : List ℕ) (s : ℕ) {e f : State} → Ended (checks t) e → Turns s (checks t) e f → f ≡ e
+order-stops t s end u = ended-stays end u
+
+-- at its end every order has the old repair's map, so the same lost places ..
+pub same-marks : (t b map : List ℕ) → length map ≡ places t → {e : State} → FromStart t b map e → Ended (checks t) e → e .map ≡ outcome t b map .map
+same-marks t b map long u end = end-map u end (old-order t b map) (old-ends t b map long) refl
+
+-- .. and the same number of turns: one for each place that is restored
+pub same-turns : (t b map : List ℕ) → length map ≡ places t → {e : State} (u : FromStart t b map e) → Ended (checks t) e → length (taken u) + tally 1 (outcome t b map .map) ≡ tally 1 map
+same-turns t b map long u end = ap (λ l. length (taken u) + tally 1 l) (sym (same-marks t b map long u end)) ∙ every-order-ends t b map u
 
 -- the end e of an order, against the old repair's
 pub record SameEnd (t b map : List ℕ) (e : State) : Type 0 where
-  -- the same marks, so the same lost places, whatever the packets
+  -- the same marks, so the same lost places
   pub marks : e .map ≡ outcome t b map .map
-  -- packets contradict, or they don't
+  -- packets contradict exactly if they do in the old repair
   pub judged : consistent (size t) (checks t) e ≡ agreeing t b map
   -- "the final block is the same", where they don't
   pub block : agreeing t b map ≡ true → e .block ≡ outcome t b map .block
@@ -84,7 +95,7 @@ any-order t b map ok fits long u end =
     let begins = start-length t b map ok fits in
     let sized = start-sized t b map ok fits in
     record {
-      marks = end-map u end (old-order t b map) (old-ends t b map long) refl;
+      marks = same-marks t b map long u end;
       judged = end-judged (places t) (size t) (checks t) low _ begins sized u end (old-order t b map) (old-ends t b map long);
       block = λ calm. sym (end-block (places t) (size t) (checks t) low _ begins sized (old-order t b map) (old-ends t b map long) u end calm);
     }
@@ -97,21 +108,40 @@ from-anywhere t b map ok fits long {e} u =
     let same = turns-map u in
     any-order t b map ok fits long (turns-then u (restoring-turns (places t) (size t) (checks t) e)) (restoring-ends (places t) (size t) (checks t) e (omega arith))
 
--- ---- "Repair additions are at most W0 less the number of checks that aren't empty": of every order, ended or not
+-- ---- "Repair additions are at most W0 less the number of checks that aren't empty"
+-- the additions of an order are "weight − 1 for each check used" ..
+pub order-spends : (t b map : List ℕ) {e : State} (u : FromStart t b map e) → e .adds ≡ spent (taken u)
+order-spends t b map u = turns-spend u
+
+-- .. and within the bound, at its end and before
 pub order-additions : (t b map : List ℕ) → refusal t ≡ 0 → {e : State} → FromStart t b map e → e .adds + nonEmpty (checks t) ≤ onesCount t
 order-additions t b map ok u = let h = turns-most u in let w = accepted t ok .all-ones in omega arith
 
--- so the old repair's
+-- so are the old repair's
 pub additions-most : (t b map : List ℕ) → refusal t ≡ 0 → outcome t b map .adds + nonEmpty (checks t) ≤ onesCount t
 additions-most t b map ok = order-additions t b map ok (old-order t b map)
 
--- .. and what the call reports, for every block and map, blamed and refused ones too
+-- and what calls report, for every block and map, refused or not: repair, with a blamed place too; merging; lengthening, by the new table
+by-number : (P : ℕ → Type 0) → P 0 → ((r : ℕ) → P (suc r)) → (r : ℕ) → P r
+by-number P z h zero = z
+by-number P z h (suc r) = h r
+
 pub reported-most : (t b map : List ℕ) → refusal t ≡ 0 → repairAnswer t b map .additions + nonEmpty (checks t) ≤ onesCount t
-reported-most t b map ok = at (repairRefusal t b map) (believed (blamed t b map) map) (handedOn (repairRefusal t b map) (contradicting t b map))
-  where
-    at : (r : ℕ) (map : List ℕ) (f : Option Fault) → repairAnswerAt r (outcome t b map) f .additions + nonEmpty (checks t) ≤ onesCount t
-    at zero map f = additions-most t b map ok
-    at (suc r) map f = let h = additions-most t b map ok in omega arith
+reported-most t b map ok = let h = additions-most t b (believed (blamed t b map) map) ok in
+    by-number (λ r. repairAnswerAt r (repairOutcome t b map) (handedOn (repairRefusal t b map) (contradicting t b map)) .additions + nonEmpty (checks t) ≤ onesCount t)
+    h (λ r. omega arith) (repairRefusal t b map)
+
+pub merged-most : (t : List ℕ) (one two out : Held) → refusal t ≡ 0 → mergeAnswer t one two out .additions + nonEmpty (checks t) ≤ onesCount t
+merged-most t one two out ok = let h = additions-most t (third t one two .block) (third t one two .map) ok in
+    by-number (λ r. mergeAnswerAt r (kinds (size t) one two (places t)) (mergeOutcome t one two) (handedOn (mergeRefusal t one two out) (mergeFault t one two)) .additions + nonEmpty (checks t) ≤ onesCount t)
+    h (λ r. omega arith) (mergeRefusal t one two out)
+
+pub lengthened-most : (old new : List ℕ) (carried arrivals : Held) → refusal new ≡ 0 → lengthenAnswer old new carried arrivals .additions + nonEmpty (checks new) ≤ onesCount new
+lengthened-most old new carried arrivals ok =
+    let first = entered (size new) (places old) carried arrivals (places new) in
+    let h = additions-most new (first .block) (first .map) ok in
+    by-number (λ r. lengthenAnswerAt r (first .map) (lengthenOutcome old new carried arrivals) (handedOn (lengthenRefusal old new carried arrivals) (lengthenFault old new carried arrivals)) .additions + nonEmpty (checks new) ≤ onesCount new)
+    h (λ r. omega arith) (lengthenRefusal old new carried arrivals)
 
 -- ---- "and depend on table and map only"; restored and lost too: two repairs by tables alike in places and checks, with the same map, whatever
 -- the packets and their size, if packets contradict in neither
@@ -130,9 +160,11 @@ module _ (t u b c map : List ℕ) (same-places : places t ≡ places u) (same-ch
   pub additions-alike : outcome t b map .adds ≡ outcome u c map .adds
   additions-alike = alike .adds-alike
 
-  -- and of every order: the same turns can be taken, at the same cost
-  pub order-alike : {e : State} → FromStart t b map e → (f : State) × (FromStart u c map f × Alike e f)
-  order-alike w = rw same-checks at (turns-alike (size u) (start (size u) (packets (size u) (places u) c) map) w (record { map-alike = refl; adds-alike = refl }))
+  -- and of every order: the same checks can be taken, with the same map and additions after them
+  pub order-alike : {e : State} (w : FromStart t b map e) → TakesAlike (size u) (checks u) (start (size u) (packets (size u) (places u) c) map) (taken w) e
+  order-alike {e} w =
+      let other = start (size u) (packets (size u) (places u) c) map in
+      subst (λ ds. TakesAlike (size u) ds other (taken w) e) same-checks (turns-alike w (size u) other (record { map-alike = refl; adds-alike = refl }))
 
   module _ (calm : agreeing t b map ≡ true) (calm-too : agreeing u c map ≡ true) where
     -- what is told
@@ -152,24 +184,13 @@ module _ (t u b c map : List ℕ) (same-places : places t ≡ places u) (same-ch
 
 -- ---- "for packets from one codeword", in the words of the call
 module _ (t w : List ℕ) (word : IsCodeword t w) where
-  -- the call leaves what the old repair comes to
-  module _ (b map : List ℕ) (fits : Fitting t b map) (agree : Agree t b map w) where
-    old : AsOld t b map
-    old = plainly t b map fits (repairing t b map w fits word agree .nobody-blamed)
-
-    calm : agreeing t b map ≡ true
-    calm = repairing t b map w fits word agree .agrees
-
-    block-is : repairBlockAfter t b map ≡ joined (outcome t b map .block)
-    block-is = old .block ∙ ap (λ v. blockIf v t b map) calm
-
-    map-is : repairMapAfter t b map ≡ outcome t b map .map
-    map-is = old .marks ∙ ap (λ v. mapIf v t b map) calm
-
-    -- any order of turns gives its block and its map
-    pub any-order-sent : {e : State} → FromStart t b map e → Ended (checks t) e → (joined (e .block) ≡ repairBlockAfter t b map) × (e .map ≡ repairMapAfter t b map)
-    any-order-sent u end = let same = any-order t b map (fits .table) (fits .block) (fits .map-length) u end in
-        (ap joined (same .block calm) ∙ sym block-is, same .marks ∙ sym map-is)
+  -- any order of turns gives the call's block and map
+  pub any-order-sent : (b map : List ℕ) → Fitting t b map → Agree t b map w → {e : State} → FromStart t b map e → Ended (checks t) e
+      → (joined (e .block) ≡ repairBlockAfter t b map) × (e .map ≡ repairMapAfter t b map)
+  any-order-sent b map fits agree u end =
+      let r = repairing t b map w fits word agree in
+      let same = any-order t b map (fits .table) (fits .block) (fits .map-length) u end in
+      (ap joined (same .block (r .agrees)) ∙ sym (r .block), same .marks ∙ sym (r .marks))
 
   -- a place known with fewer received is known with more, as it was sent; and no more stay lost
   module _ (b fewer c more : List ℕ) (fits : Fitting t b fewer) (agree : Agree t b fewer w) (fits-too : Fitting t c more) (agree-too : Agree t c more w)
@@ -179,17 +200,23 @@ module _ (t w : List ℕ) (word : IsCodeword t w) where
         (λ y. let received = within p (lost-byte (bytes-all fewer (fits .map-bytes)) p y) in
         let one = eqb-true (getD more p 0) 1 z in absurd (omega arith))
 
+    r : Repairing t b fewer w
+    r = repairing t b fewer w fits word agree
+
+    r-too : Repairing t c more w
+    r-too = repairing t c more w fits-too word agree-too
+
     pub more-received-sent : (p : ℕ) → p < places t → getD (repairMapAfter t b fewer) p 0 ≢ 1
         → (getD (repairMapAfter t c more) p 0 ≢ 1) × (partAt (size t) p (repairBlockAfter t c more) ≡ partAt (size t) p w)
-    more-received-sent p h known = (still, repairing t c more w fits-too word agree-too .values p h still)
+    more-received-sent p h known = (still, r-too .values p h still)
       where
         still : getD (repairMapAfter t c more) p 0 ≢ 1
-        still one = known (ap (λ l. getD l p 0) (map-is b fewer fits agree) ∙ eqb-true _ 1 (still-within t b c fewer more (fits .map-length) (fits-too .map-length) lost-within p
-            (is-lost (outcome t c more .map) p (ap (λ l. getD l p 0) (sym (map-is c more fits-too agree-too)) ∙ one))))
+        still one = known (ap (λ l. getD l p 0) (r .marks) ∙ eqb-true _ 1 (still-within t b c fewer more (fits-too .map-length) lost-within p
+            (is-lost (outcome t c more .map) p (ap (λ l. getD l p 0) (sym (r-too .marks)) ∙ one))))
 
     pub fewer-lost-sent : repairAnswer t c more .lost ≤ repairAnswer t b fewer .lost
     fewer-lost-sent =
-        let less = fewer-lost t b c fewer more (fits .map-length) (fits-too .map-length) lost-within in
-        let one = accepted-plainly t b fewer fits (calm b fewer fits agree) .lost ∙ ap (tally 1) (map-is b fewer fits agree) in
-        let two = accepted-plainly t c more fits-too (calm c more fits-too agree-too) .lost ∙ ap (tally 1) (map-is c more fits-too agree-too) in
+        let less = fewer-lost t b c fewer more (fits-too .map-length) lost-within in
+        let one = accepted-plainly t b fewer fits (r .agrees) .lost ∙ ap (tally 1) (r .marks) in
+        let two = accepted-plainly t c more fits-too (r-too .agrees) .lost ∙ ap (tally 1) (r-too .marks) in
         omega arith

@@ -12,7 +12,7 @@ use Rattle.lists.specs.Lists.{In.here, In.there, All.nil, All.cons}
 use Rattle.table.specs.Packets.{lowestNonzero}
 use Rattle.table.specs.Table.{checks, onesCount, refusal}
 
--- ---- the bound is met, with packets of any content; an empty check doesn't count: checks 0 1 2, none, 0 and 1, places 0 and 1 lost
+-- ---- the bound is met, with packets of any content: of the checks {0, 1, 2}, {}, {0} and {1} three aren't empty; places 0 and 1 are lost
 abbrev fourChecks : List ℕ
 fourChecks = 2 ∷ 3 ∷ 1 ∷ 4 ∷ 3 ∷ 0 ∷ 1 ∷ 1 ∷ 5 ∷ 0 ∷ 1 ∷ 2 ∷ 0 ∷ 1 ∷ []
 
@@ -27,10 +27,11 @@ pub record TwoOrders (t b map : List ℕ) (e f : State) : Type 0 where
   pub other : FromStart t b map f
   pub other-ended : Ended (checks t) f
 
-none : _≡_ {A = ℕ} 0 1 → ⊥
-none z = omega arith
+-- a check without a lost place hasn't exactly one
+not-one : _≡_ {A = ℕ} 0 1 → ⊥
+not-one z = omega arith
 
--- where packets contradict, another order may end with another block: checks 0 1 and 0 2, place 0 lost, packets 1 and 2 received
+-- where packets contradict, another order may end with another block: checks {0, 1} and {0, 2}, place 0 lost, packets 1 and 2 received
 abbrev halves : List ℕ
 halves = 2 ∷ 3 ∷ 1 ∷ 2 ∷ 2 ∷ 2 ∷ 4 ∷ 0 ∷ 1 ∷ 0 ∷ 2 ∷ []
 
@@ -42,19 +43,20 @@ blocks-differ = (
   record {
     accepted = refl;
     one = more (0 ∷ 1 ∷ []) here refl stay;
-    one-ended = cons none (cons none nil);
+    one-ended = cons not-one (cons not-one nil);
     other = more (0 ∷ 2 ∷ []) (there here) refl stay;
-    other-ended = cons none (cons none nil);
+    other-ended = cons not-one (cons not-one nil);
   },
   λ z. let k : _≡_ {A = ℕ} 1 2 = ap (λ b. getD (getD b 0 []) 0 0) z in omega arith,
 )
 
 -- .. and another check fails
-pub faults-differ : (contradiction 1 (checks halves) (endedWith 1) ≡ some (record { check = 1; byte = 0 })) × (contradiction 1 (checks halves) (endedWith 2) ≡ some (record { check = 0; byte = 0 }))
+pub faults-differ : (contradiction 1 (checks halves) (endedWith 1) ≡ some (record { check = 1; byte = 0 }))
+    × (contradiction 1 (checks halves) (endedWith 2) ≡ some (record { check = 0; byte = 0 }))
 unfolding lowestNonzero
 faults-differ = (refl, refl)
 
--- another order may cost other additions: checks 0 and 0 1, place 0 lost
+-- another order may cost other additions: checks {0} and {0, 1}, place 0 lost
 abbrev alone : List ℕ
 alone = 2 ∷ 2 ∷ 1 ∷ 2 ∷ 1 ∷ 2 ∷ 3 ∷ 0 ∷ 0 ∷ 1 ∷ []
 
@@ -65,7 +67,14 @@ pub additions-differ : TwoOrders alone (9 ∷ 0 ∷ []) (1 ∷ 0 ∷ []) (endedA
 additions-differ = record {
   accepted = refl;
   one = more (0 ∷ []) here refl stay;
-  one-ended = cons none (cons none nil);
+  one-ended = cons not-one (cons not-one nil);
   other = more (0 ∷ 1 ∷ []) (there here) refl stay;
-  other-ended = cons none (cons none nil);
+  other-ended = cons not-one (cons not-one nil);
 }
+
+-- ---- with more received repair may cost more: one check {0, 1, 2, 3}, places 0 and 1 lost, or 0 alone
+abbrev oneCheck : List ℕ
+oneCheck = 2 ∷ 4 ∷ 1 ∷ 1 ∷ 4 ∷ 4 ∷ 0 ∷ 1 ∷ 2 ∷ 3 ∷ []
+
+pub more-may-cost : (b : List ℕ) → (outcome oneCheck b (1 ∷ 1 ∷ 0 ∷ 0 ∷ []) .adds ≡ 0) × (outcome oneCheck b (1 ∷ 0 ∷ 0 ∷ 0 ∷ []) .adds ≡ 3)
+more-may-cost b = (refl, refl)

@@ -1,19 +1,18 @@
 -- Two aerials over the calls (document 02, C-19): two listeners to one sent codeword, each with the call of repair alone, and both with the call
 -- of merging; and the same of the block that planning and then encoding gives.
-use mathlib.Core.Path.{_≡_, sym, ap, _∙_}
+use mathlib.Core.Path.{_≡_, ap, _∙_}
 use mathlib.Core.Bool.{false}
 use mathlib.Core.List.{List}
 use mathlib.Core.Logic.{_≢_}
 use Prim.Native.Nat.{ℕ, _*_, _<_}
-use lib.Dec.{eqb}
 use lib.ListN.{length, getD}
 use Rattle.erasure.specs.Offered.{Held, Fitting, Agree}
-use Rattle.erasure.specs.Restoring.{outcome, mapIf, isLost}
+use Rattle.erasure.specs.Restoring.{outcome, isLost}
 use Rattle.lists.specs.Tests.{byBool, eqb-true}
 use Rattle.merge.specs.Merge.{mergeAfter, FittingThree}
 use Rattle.merge.specs.MergeTheorems.{OneSent, one-sent}
 use Rattle.repair.specs.Repair.{repairMapAfter}
-use Rattle.repair.specs.RepairTheorems.{repairing, plainly}
+use Rattle.repair.specs.RepairTheorems.{repairing}
 use Rattle.table.specs.Codewords.{IsCodeword}
 use Rattle.table.specs.PacketCall.{partAt}
 use Rattle.table.specs.Table.{places, size, atSize}
@@ -32,10 +31,8 @@ pub record TwoAerials (t : List ℕ) (one two out : Held) (w : List ℕ) : Type 
 
 -- what repair alone doesn't leave lost, the old repair doesn't
 known-alone : (t b map w : List ℕ) → Fitting t b map → IsCodeword t w → Agree t b map w → (p : ℕ) → getD (repairMapAfter t b map) p 0 ≢ 1 → isLost (outcome t b map .map) p ≡ false
-known-alone t b map w f word right p ne =
-    let r = repairing t b map w f word right in
-    byBool (isLost (outcome t b map .map) p)
-    (λ z. absurd (ne (ap (λ l. getD l p 0) (plainly t b map f (r .nobody-blamed) .marks ∙ ap (λ v. mapIf v t b map) (r .agrees)) ∙ eqb-true (getD (outcome t b map .map) p 0) 1 z)))
+known-alone t b map w f word right p ne = byBool (isLost (outcome t b map .map) p)
+    (λ z. absurd (ne (ap (λ l. getD l p 0) (repairing t b map w f word right .marks) ∙ eqb-true (getD (outcome t b map .map) p 0) 1 z)))
     (λ z. z)
 
 pub two-aerials : (t : List ℕ) (one two out : Held) (w : List ℕ) → FittingThree t one two out → IsCodeword t w

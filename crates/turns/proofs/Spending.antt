@@ -2,13 +2,14 @@
 use mathlib.Core.Path.{_≡_, refl, sym, ap, ap₂, _∙_, subst}
 use mathlib.Core.Bool.{Bool, true, false, not, true≢false, false≢true}
 use mathlib.Core.List.{List, [], _∷_}
-use Prim.Native.Nat.{ℕ, suc, _<_}
+use Prim.Native.Nat.{ℕ, _<_}
 use native.Mathlib.Omega.{arith}
 use borrow.Author.Tests.{eq-eqb, ne-eqb}
 use lib.Dec.{eqb}
 use lib.ListN.{length, getD, set, replicate, length-set}
 use lib.Seq.{getD-set-same, getD-set-other}
-use Rattle.lists.specs.Tests.{eqb-true, eqb-false, eqb-self, or-false-l, or-false-r, byBool, or-l, or-r}
+use Rattle.lists.specs.ListLaws.{all-in, par-has}
+use Rattle.lists.specs.Tests.{eqb-true, eqb-false, or-false-l, or-false-r, byBool}
 use Rattle.gf2.specs.Gf2.{XorGroup, add}
 use Rattle.lists.specs.Lists.{Distinct, Distinct.dnil, Distinct.dnew, has, filter, minus}
 use Rattle.gf2.specs.Vectors.{add-assoc, add-comm, add-self}
@@ -18,16 +19,10 @@ use Rattle.table.specs.Packets.{packets, packetSum}
 use Rattle.turns.specs.Spent.{Spent}
 use Rattle.erasure.specs.Restoring.{lostPlaces, isLost}
 use Rattle.table.specs.Accepted.{Accepted}
-use Rattle.erasure.specs.LostLaws.{lost-less}
-use Rattle.erasure.specs.Passing.{first-lost}
+use Rattle.erasure.specs.Passing.{filter-mono, none-passes, one-passes}
+use Rattle.erasure.specs.States.{stateOf}
+use Rattle.erasure.specs.Turn.{turn-within, place-lost, turn-none}
 use Rattle.turns.proofs.Ordering.{distinct-check}
-
--- the one that passes a test is in the list
-first-in : (f : ℕ → Bool) (c : List ℕ) → length (filter f c) ≡ 1 → has (getD (filter f c) 0 0) c ≡ true
-first-in f [] h = absurd (omega arith)
-first-in f (x ∷ c) h = byBool (f x)
-    (λ e. rw (e, filter) (or-l (eqb x x) (has x c) (eqb-self x)))
-    (λ e. rw (e, filter) (or-r (eqb (getD (filter f c) 0 0) x) (has (getD (filter f c) 0 0) c) (first-in f c (rw (e, filter) at h))))
 
 -- ---- sums
 -- a packet that isn't summed may be any
@@ -83,18 +78,17 @@ module _ (t : List ℕ) (m n s : ℕ) (k : Accepted t m n s) (l b used : List �
   q = getD (lostPlaces l c) 0 0
 
   lost-q : isLost l q ≡ true
-  lost-q = first-lost (isLost l) c one
+  lost-q = place-lost s c (stateOf s n b l 0) one
 
   distinct : Distinct c
   distinct = subst Distinct (sym is) (distinct-check t m n s k j in-m)
 
   in-c : has q c ≡ true
-  in-c = first-in (isLost l) c one
+  in-c = par-has q c (one-passes (isLost l) c one .0)
 
   -- the check itself
   own-lost : length (lostPlaces l′ c) ≡ 0
-  own-lost = let z : length (lostPlaces l c) ≡ suc (length (lostPlaces (set l q 2) c)) = lost-less l q lost-q distinct ∙ rw in-c in
-      ap (λ x. length (lostPlaces x c)) map ∙ (omega (arith, z, one))
+  own-lost = ap (λ x. length (lostPlaces x c)) map ∙ turn-none s c (stateOf s n b l 0) one
 
   own-sum : packetSum s (packets s n b′) c ≡ replicate s 0
   own-sum =
@@ -104,15 +98,12 @@ module _ (t : List ℕ) (m n s : ℕ) (k : Accepted t m n s) (l b used : List �
   -- another one
   absent : (i : ℕ) → i < m → length (lostPlaces l (check t m i)) ≡ 0 → has q (check t m i) ≡ false
   absent i h e = byBool (has q (check t m i))
-      (λ g. let z : length (lostPlaces l (check t m i)) ≡ suc (length (lostPlaces (set l q 2) (check t m i))) = lost-less l q lost-q (distinct-check t m n s k i h) ∙ rw g in
-      absurd (omega (arith, z, e)))
+      (λ g. absurd (true≢false (sym lost-q ∙ all-in (λ p. isLost l p ≡ false) q g (none-passes (isLost l) (check t m i) e))))
       (λ g. g)
 
   other-lost : (i : ℕ) → i < m → length (lostPlaces l (check t m i)) ≡ 0 → length (lostPlaces l′ (check t m i)) ≡ 0
-  other-lost i h e =
-      let g = absent i h e in
-      let z : length (lostPlaces l (check t m i)) ≡ length (lostPlaces (set l q 2) (check t m i)) = lost-less l q lost-q (distinct-check t m n s k i h) ∙ rw g in
-      ap (λ x. length (lostPlaces x (check t m i))) map ∙ sym z ∙ e
+  other-lost i h e = let k = filter-mono (isLost (set l q 2)) (isLost l) (turn-within s c (stateOf s n b l 0)) (check t m i) in
+      ap (λ x. length (lostPlaces x (check t m i))) map ∙ (omega arith)
 
   pub spent-turn : Spent t m n s b′ l′ (set used j 1)
   spent-turn = record {

@@ -1,6 +1,6 @@
 -- The turns of repair: one turn on bytes, and the loop over them.
 use mathlib.Core.Path.{_≡_, refl, sym, ap, ap₂, _∙_, subst}
-use mathlib.Core.Bool.{true, false, not}
+use mathlib.Core.Bool.{true, false}
 use mathlib.Core.List.{List, [], _∷_}
 use mathlib.Core.Option.{none, some}
 use Prim.Native.Nat.{ℕ, suc, _+_, _-_, _*_, _<_, _≤_}
@@ -8,20 +8,21 @@ use native.Mathlib.Omega.{arith}
 use lib.Dec.{eqb}
 use lib.ListN.{length, getD, take, drop, length-set}
 use Rattle.lists.specs.Tests.{byBool}
-use Rattle.lists.specs.ListLaws.{all-filter, all-map, filter-less}
-use Rattle.lists.specs.Lists.{has, minus, All}
+use Rattle.lists.specs.ListLaws.{all-map, filter-less}
+use Rattle.lists.specs.Lists.{minus, All}
 use Rattle.lists.specs.Buffers.{part-length}
 use Rattle.table.specs.Checks.{Places, Starts}
-use Rattle.table.specs.PacketLaws.{packets-length, packets-sized, packets-joined, sum-view}
+use Rattle.table.specs.PacketLaws.{packets-length, packets-sized, packets-joined}
 use Rattle.table.specs.Packets.{packets, packetSum}
 use Rattle.table.specs.SumLaws.{places-in, check-below}
 use Rattle.table.specs.Table.{checks}
 use Rattle.erasure.specs.Restoring.{State, lostPlaces, ready, restoring, isLost, turn}
 use Rattle.erasure.specs.RestoringLaws.{ready-one, ready-lost, restoring-none, restoring-enough}
 use Rattle.table.specs.Accepted.{Accepted, check-count, places-at, check-is, light}
-use Rattle.erasure.specs.Turns.{Holds, Restored, stateOf}
-use Rattle.erasure.specs.LostLaws.{lost-most, lost-inside, lostIn, restore-one}
-use Rattle.erasure.specs.Passing.{first-lost}
+use Rattle.erasure.specs.States.{Holds, Restored, stateOf}
+use Rattle.erasure.specs.LostLaws.{lost-most, lost-inside, lostIn}
+use Rattle.erasure.specs.Passing.{first-passes}
+use Rattle.erasure.specs.Turn.{turn-packet, turn-one}
 use Rattle.packets.specs.SetLaws.{packets-set, bytes-set}
 
 -- the number of the lowest check with exactly one lost place; the number of checks if there is none
@@ -31,11 +32,11 @@ readyNumber lost (c ∷ cs) = elim (eqb (length (lostPlaces lost c)) 1) [ true �
 
 -- the one lost place of a check is a place
 pub lost-place-in : (lost c : List ℕ) (n p : ℕ) → length lost ≡ n → length (lostPlaces lost c) ≡ 1 → p ≡ getD (lostPlaces lost c) 0 0 → p < n
-lost-place-in lost c n p long one e = rw (e, ← long) (lost-inside lost _ (first-lost (isLost lost) c one))
+lost-place-in lost c n p long one e = rw (e, ← long) (lost-inside lost _ (first-passes (isLost lost) c (omega arith)))
 
 -- and lost
 pub lost-place : (lost c : List ℕ) (p : ℕ) → length (lostPlaces lost c) ≡ 1 → p ≡ getD (lostPlaces lost c) 0 0 → isLost lost p ≡ true
-lost-place lost c p one e = rw e (first-lost (isLost lost) c one)
+lost-place lost c p one e = rw e (first-passes (isLost lost) c (omega arith))
 
 -- ---- by number or by check
 number-least : (lost : List ℕ) (cs : List (List ℕ)) → readyNumber lost cs ≤ length cs
@@ -63,7 +64,7 @@ number-none lost (c ∷ cs) h = byBool (eqb (length (lostPlaces lost c)) 1)
 -- ---- the loop's start, turn and end
 pub turns-more : (s : ℕ) (cs : List (List ℕ)) (st : State) (c : List ℕ) → ready (st .map) cs ≡ some c
     → restoring (lostIn (st .map)) s cs st ≡ restoring (lostIn (turn s c st .map)) s cs (turn s c st)
-turns-more s cs st c r = let one = restore-one (st .map) _ (ready-lost (st .map) cs c r) in rw (← one) (rw (r, restoring))
+turns-more s cs st c r = let one = turn-one s c st (ready-one (st .map) cs c r) in rw (← one) (rw (r, restoring))
 
 -- from block b₀ and map l₀ the loop has come to b and l: the rest decides
 pub record Going (n s : ℕ) (cs : List (List ℕ)) (b₀ l₀ b l : List ℕ) (adds : ℕ) : Type 0 where
@@ -100,10 +101,10 @@ module _ (n s : ℕ) (cs : List (List ℕ)) (b₀ l₀ b l : List ℕ) (adds : �
 
   -- the packet that is restored
   pub v-long : length (packetSum s (packets s n b) (minus c (getD (lostPlaces l c) 0 0 ∷ []))) ≡ s
-  v-long = sum-view s (packets-sized s n b (g .bytes)) (all-filter (λ p. not (has p (getD (lostPlaces l c) 0 0 ∷ []))) (all-map (λ p k. subst (λ x. p < x) (sym (packets-length s n b)) k) low)) .0
+  v-long = turn-packet s c (stateOf s n b l 0) (all-map (λ p k. subst (λ x. p < x) (sym (packets-length s n b)) k) low) (packets-sized s n b (g .bytes))
 
   pub fewer-lost : suc (lostIn l′) ≡ lostIn l
-  fewer-lost = rw (h .map-is) (restore-one l _ lost-q)
+  fewer-lost = rw (h .map-is) (turn-one s c (stateOf s n b l 0) (ready-one l cs c r))
 
   pub packets-now : packets s n b′ ≡ turn s c (stateOf s n b l 0) .block
   packets-now = ap (packets s n) (h .block-is) ∙ packets-set s n b (g .bytes) _ _ q-in v-long

@@ -8,7 +8,7 @@ ghost use Rattle.table.specs.Table.{checks};
 ghost use Rattle.table.specs.Accepted.{Accepted};
 ghost use Rattle.chains.specs.Linked.{Linked, Counted};
 ghost use Rattle.erasure.specs.Restoring.{lostPlaces, turn};
-ghost use Rattle.erasure.specs.Turns.{Holds, Restored, stateOf};
+ghost use Rattle.erasure.specs.States.{Holds, Restored, stateOf};
 ghost use Rattle.turns.specs.Spent.{Spent};
 
 // the first lost place of a check, 0 if there is none

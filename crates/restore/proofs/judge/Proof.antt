@@ -3,7 +3,7 @@ use Rattle.table.specs.Checks.{offset}
 use Rattle.table.specs.Packets.{packets}
 use Rattle.table.specs.Table.{checks}
 use Rattle.erasure.specs.Restoring.{lostPlaces, noneLost, contradiction}
-use Rattle.erasure.specs.Turns.{stateOf}
+use Rattle.erasure.specs.States.{stateOf}
 use Rattle.turns.specs.TurnLaws.{at-check}
 use Rattle.restore.proofs.Passing.{passed, byte-fits, tells-fault, tells-none}
 use Rattle.faults.specs.FaultLaws.{fault-hit, fault-zero, fault-end}
