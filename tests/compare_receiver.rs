@@ -1,12 +1,13 @@
 //! The receiver's library against the model: repair, full repair, verification,
 //! packet. Cases of merging are in merge.rs, those of reasons in why.rs, those of a longer
-//! table in lengthen.rs.
+//! table in lengthen.rs, those of C-23's facts in rain.rs.
 
 mod gen;
 mod harness;
 mod lengthen;
 mod merge;
 mod model;
+mod rain;
 mod why;
 
 use gen::Rng;
@@ -119,6 +120,7 @@ fn holds_of_repair(
     let Repaired { restored, lost, additions, .. } = *answer;
     same("counts", &(restored, lost), &(marked(2) + marked(3), marked(1)))?;
     same("accepted", answer, &ok(restored, lost, additions))?;
+    rain::within_bound(table, additions)?;
     for (c, check) in model::look_over(table).unwrap().checks.iter().enumerate() {
         let mut sum = vec![0; s];
         for p in check {
@@ -822,7 +824,7 @@ fn brute_full_case(rng: &mut Rng) -> Result<(), String> {
 }
 
 fn random_case(rng: &mut Rng, number: u64) -> Result<(), String> {
-    match number % 42 {
+    match number % 48 {
         0..=6 => repair_case(rng),
         7..=9 => verify_case(rng),
         10..=12 => damaged_case(rng),
@@ -838,7 +840,8 @@ fn random_case(rng: &mut Rng, number: u64) -> Result<(), String> {
         24 => brute_blame_case(rng),
         25..=29 => merge::random_case(rng),
         30..=35 => why::random_case(rng),
-        _ => lengthen::random_case(rng),
+        36..=41 => lengthen::random_case(rng),
+        _ => rain::random_case(rng),
     }
 }
 
@@ -1805,13 +1808,15 @@ fn every_pattern(table: &[u16], block: &[u8]) -> Result<(), String> {
     Ok(())
 }
 
+/// Tables A, A with a fourth check, B and those of the vectors, each with a codeword.
+fn worked_tables() -> Vec<(Vec<u16>, Vec<u8>)> {
+    let worked: [(&[u16], &[u8]); 3] = [(A, &P2), (A4, &P2), (B, &[0, 0xa5, 0xa5, 0xa5])];
+    let all = worked.into_iter().chain(VECTORS);
+    all.map(|(table, block)| (table.to_vec(), block.to_vec())).collect()
+}
+
 fn pattern_cases(run: &mut Run) {
-    let mut tables: Vec<(Vec<u16>, Vec<u8>)> = vec![
-        (A.to_vec(), P2.to_vec()),
-        (A4.to_vec(), P2.to_vec()),
-        (B.to_vec(), vec![0, 0xa5, 0xa5, 0xa5]),
-    ];
-    tables.extend(VECTORS.map(|(table, block)| (table.to_vec(), block.to_vec())));
+    let mut tables = worked_tables();
     let two_b = gen::side_by_side(&vec![gen::table_b(); 2]);
     tables.push((model::table_words(two_b.0, 1, &two_b.1), vec![0, 1, 1, 1, 0, 0, 0, 0]));
     // Ways to say five times the same.
@@ -1887,7 +1892,7 @@ fn full_refusal_cases(run: &mut Run) {
 }
 
 fn main() {
-    let mut run = Run::from_arguments(13944);
+    let mut run = Run::from_arguments(15936);
     fixed_cases(&mut run);
     depth_cases(&mut run);
     told_cases(&mut run);
@@ -1905,8 +1910,10 @@ fn main() {
     merge::fixed_cases(&mut run);
     why::fixed_cases(&mut run);
     lengthen::fixed_cases(&mut run);
+    rain::fixed_cases(&mut run);
     run.random(random_case);
     run.met(&why::ALL_MET);
     run.met(&lengthen::ALL_MET);
+    run.met(&rain::ALL_MET);
     run.end()
 }

@@ -38,7 +38,7 @@ fault() {
         missed=$((missed + 1))
         return
     fi
-    if timeout 300 "$build/compare" 1 "${COUNT:-2100}" >/dev/null 2>&1; then
+    if timeout 300 "$build/compare" 1 "${COUNT:-2400}" >/dev/null 2>&1; then
         echo "missed: $2"
         missed=$((missed + 1))
     else
@@ -429,6 +429,39 @@ fault receiver "lengthening by ones: without the counts" 'as_many && old.s == ne
 fault receiver "lengthening by ones: places alone" 'check.iter().map(move |p| (c, \*p))' 'check.iter().map(move |p| (c * 0, *p))'
 fault receiver "packets at hand: the arrival first" 'carried.into_iter().chain(arrival).collect()' 'arrival.into_iter().chain(carried).collect()'
 fault receiver "packets at hand: what lay at new places" '(p < n && map\[p\] != 1).then' '(map[p] != 1).then'
+fault receiver "turns: a check with two lost places restores" 'lost(&t.checks\[\*c\]) == 1' '(1..=2).contains(\&lost(\&t.checks[*c]))'
+fault receiver "turns: a check without a lost place taken" 'lost(&t.checks\[\*c\]) == 1' 'lost(\&t.checks[*c]) <= 1'
+fault receiver "turns: a check of weight 1 not taken" 'lost(&t.checks\[\*c\]) == 1' 'lost(\&t.checks[*c]) == 1 \&\& t.checks[*c].len() > 1'
+fault receiver "turns: only the lowest check can be taken" 'lost(&t.checks\[\*c\]) == 1).collect()' 'lost(\&t.checks[*c]) == 1).take(1).collect()'
+fault receiver "turns: the highest check named first" '(0..t.checks.len()).filter(|c| lost' '(0..t.checks.len()).rev().filter(|c| lost'
+fault receiver "turns: checks from 256 on not taken" '(0..t.checks.len()).filter(|c| lost' '(0..t.checks.len().min(256)).filter(|c| lost'
+fault receiver "turns: kept checks only" '(0..t.checks.len()).filter(|c| lost' 'if t.n < 32 { kept_checks(t) } else { (0..t.checks.len()).collect() }.into_iter().filter(|c| lost'
+fault receiver "turns: checks of which a place came back not taken" 'lost(&t.checks\[\*c\]) == 1' 'lost(\&t.checks[*c]) == 1 \&\& t.checks[*c].iter().all(|p| self.map[*p] < 2)'
+fault receiver "turns: restored places marked 1" 'self.map\[p\] = 2;' 'self.map[p] = 1;'
+fault receiver "turns: restored places marked 0" 'self.map\[p\] = 2;' 'self.map[p] = 0;'
+fault receiver "turns: the sum of received places only" 'packet_sum(&self.block, t.s, others.into_iter())' 'packet_sum(\&self.block, t.s, others.into_iter().filter(|p| self.map[*p] == 0))'
+fault receiver "turns: the sum without the first other place" 'packet_sum(&self.block, t.s, others.into_iter())' 'packet_sum(\&self.block, t.s, others.into_iter().skip(1))'
+fault receiver "turns: the check's lowest place restored" 'for p in lost {' 'for p in lost.into_iter().map(|_| t.checks[check][0]) {'
+fault receiver "turns: old bytes stay at lost places" 'for_each(|(packet, _)| packet.fill(0));' 'for_each(drop);'
+fault receiver "turns: a turn costs the weight" 'self.additions += weight - 1;' 'self.additions += weight;'
+fault receiver "turns: a turn costs 1" 'self.additions += weight - 1;' 'self.additions += 1.min(weight);'
+fault receiver "turns: a turn costs the more the larger packets are" 'self.additions += weight - 1;' 'self.additions += (weight - 1) * t.s;'
+fault receiver "turns: adding zeros costs nothing" 'let weight = lost.len() + others.len();' 'let weight = lost.len() + others.iter().filter(|p| self.block[**p * t.s..][..t.s].iter().any(|b| *b != 0)).count();'
+fault receiver "turns: one turn less" 'while !ready.is_empty() && turns' 'while !ready.is_empty() \&\& turns.map.iter().filter(|mark| **mark == 1).count() > 1 \&\& turns'
+fault receiver "turns: they end when one check is left to take" 'while !ready.is_empty() && turns' 'while ready.len() > 1 \&\& turns'
+fault receiver "turns: one turn only" 'while !ready.is_empty() && turns.taken.len() <= t.n {' 'while !ready.is_empty() \&\& turns.taken.is_empty() {'
+fault receiver "turns: no check below one that was taken" '^        ready = turns.ready(t);' '        ready = turns.ready(t).into_iter().filter(|c| turns.taken.iter().all(|d| c > d)).collect();'
+fault receiver "turns: only checks that were ready at first" '^        ready = turns.ready(t);' '        let first = Turns::none(t, block, map).ready(t); ready = turns.ready(t).into_iter().filter(|c| first.contains(c)).collect();'
+fault receiver "turns: a contradiction where a place is still lost" 'check.iter().all(|p| self.map\[\*p\] != 1)' 'check.len() > 0'
+fault receiver "turns: contradictions of checks that were taken only" 'check.iter().all(|p| self.map\[\*p\] != 1)' 'self.taken.iter().any(|c| t.checks[*c] == check)'
+fault receiver "turns: contradictions of received places only" 'check.iter().all(|p| self.map\[\*p\] != 1)' 'check.iter().all(|p| self.map[*p] == 0)'
+fault receiver "bound: empty checks counted too" 'weights.iter().filter(|weight| \*\*weight > 0).count()' 'weights.len()'
+fault receiver "bound: checks of weight 1 not counted" '\*\*weight > 0).count()' '**weight > 1).count()'
+fault receiver "bound: no check counted" 'ones - weights.iter().filter(|weight| \*\*weight > 0).count()' 'ones + 0 * weights.len()'
+fault receiver "bound: one less" 'ones - weights' 'ones.saturating_sub(1) - weights'
+fault receiver "bound: by kept checks" 'ones - weights.iter().filter(|weight| \*\*weight > 0).count()' 'if ones > 100 { ones - weights.iter().filter(|weight| **weight > 0).count() } else { let t = look_over(table).unwrap(); kept_checks(\&t).iter().map(|c| t.checks[*c].len() - 1).sum() }'
+fault receiver "more: the maps the wrong way round" 'fewer\[\*p\] != 1 && more\[\*p\] == 1' 'fewer[*p] == 1 \&\& more[*p] != 1'
+fault receiver "more: every mark has to stay" 'fewer\[\*p\] != 1 && more\[\*p\] == 1' 'fewer[*p] != more[*p] \&\& fewer[*p] != 1'
 fault uplink "the lowest place taken" '(0..t.n).rev().find(|p| met' '(0..t.n).find(|p| met'
 fault uplink "fitted places scanned upwards" '(0..t.n).rev().filter(|p| !owned' '(0..t.n).filter(|p| !owned'
 fault uplink "scratch slots of the inverse added in descending order" 'filter(|i| row\[\*i\]).collect())' 'filter(|i| row[*i]).rev().collect())'

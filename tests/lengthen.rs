@@ -2,8 +2,9 @@
 
 use crate::gen::{self, Rng};
 use crate::harness::{bare, equal, holds, same, Lent, Met, Run};
-use crate::merge::{merge_alone, rained, repair_of, wrong, Held};
+use crate::merge::{rained, repair_of, with_deaf, wrong, Held};
 use crate::model::{self, Repaired, Table};
+use crate::rain::within_bound;
 use crate::{a_off, block_for, contradicts, corrupt, limit_checks, lose, map_of, ok};
 use crate::{packet_of, places_lost, repair_alone, zeroed, zeros_but, A, A4, B, P2};
 
@@ -192,6 +193,7 @@ fn holds_of_lengthen(
     let left = places_lost(&after.map);
     let counted = ok(back.len() as u32, left.len() as u32, answer.additions);
     same("accepted", answer, &counted)?;
+    within_bound(tables[1], answer.additions)?;
     holds("what is left is a stopping set", model::is_stopping_set(&t, &left))?;
     for (c, check) in t.checks.iter().enumerate() {
         let mut sum = vec![0; t.s];
@@ -229,8 +231,7 @@ fn as_merged(
 ) -> Result<(), String> {
     let (block, n) = (entered.block.clone(), entered.map.len());
     let first = Held { block, map: map_of(n, &places_lost(&entered.map)) };
-    let deaf = Held { block: vec![0x5a; first.block.len()], map: vec![1; n] };
-    let (merged, third) = merge_alone(rng, table, &first, &deaf, &deaf)?;
+    let (merged, third) = with_deaf(rng, table, &first)?;
     same("merged", answer, &repair_of(&merged))?;
     let mark = |p: usize| if entered.map[p] == 2 { 2 } else { third.map[p] };
     let map = (0..n).map(mark).collect();
@@ -1225,7 +1226,7 @@ fn mark_cases(run: &mut Run) {
 }
 
 /// A table at the limits.
-fn limit_table(rng: &mut Rng, name: &str, s: usize) -> Table {
+pub fn limit_table(rng: &mut Rng, name: &str, s: usize) -> Table {
     let checks = match name {
         "most words" => (0..512).map(|_| rng.some_below(1024, 12)).collect(),
         _ => limit_checks(rng, name),

@@ -4,8 +4,8 @@ use crate::gen::{self, Rng};
 use crate::harness::{bare, equal, holds, same, Lent, Run};
 use crate::model::{self, Merged, Repaired, Table};
 use crate::{a_off, age, aged, block_for, byte_of, contradicts, corrupt, holds_of_repair};
-use crate::{limit_checks, lose, map_of, ok, packet_of, places_lost, repair_alone, zeroed};
-use crate::{zeros_but, Byte, A, A4, B, P2, VECTORS};
+use crate::{limit_checks, lose, map_of, ok, packet_of, places_lost, repair_alone};
+use crate::{worked_tables, zeroed, zeros_but, Byte, A, A4, B, P2};
 use std::collections::BTreeSet;
 
 #[link(name = "receiver", kind = "static")]
@@ -38,7 +38,7 @@ pub struct Held {
 // ----------------------------------------------------- one call, both ways
 
 /// The library's answer, and the third block and map; it wrote nowhere else.
-pub fn merge_alone(
+fn merge_alone(
     rng: &mut Rng,
     table: &[u16],
     first: &Held,
@@ -75,6 +75,18 @@ pub fn merge_alone(
     block3.guarded("merge, third block")?;
     map3.guarded("merge, third map")?;
     Ok((answer, Held { block: block3.content().to_vec(), map: map3.content().to_vec() }))
+}
+
+/// A listener merged with one who heard nothing: the old repair of its block, without
+/// C-17's rule.
+pub fn with_deaf(
+    rng: &mut Rng,
+    table: &[u16],
+    listener: &Held,
+) -> Result<(Merged, Held), String> {
+    let Held { block, map } = listener;
+    let deaf = Held { block: vec![0x5a; block.len()], map: vec![1; map.len()] };
+    merge_alone(rng, table, listener, &deaf, &deaf)
 }
 
 fn same_held(name: &str, got: &Held, expected: &Held) -> Result<(), String> {
@@ -799,12 +811,7 @@ fn every_pair(table: &[u16], block1: &[u8], block2: &[u8]) -> Result<(), String>
 }
 
 fn pair_cases(run: &mut Run) {
-    let mut tables: Vec<(Vec<u16>, Vec<u8>)> = vec![
-        (A.to_vec(), P2.to_vec()),
-        (A4.to_vec(), P2.to_vec()),
-        (B.to_vec(), vec![0, 0xa5, 0xa5, 0xa5]),
-    ];
-    tables.extend(VECTORS.map(|(table, block)| (table.to_vec(), block.to_vec())));
+    let mut tables = worked_tables();
     let right = [vec![1, 2], vec![0, 1, 2, 3], vec![2, 3]];
     tables.push((model::table_words(4, 1, &right), vec![0; 4]));
     for (i, (table, block)) in tables.iter().enumerate() {

@@ -133,7 +133,7 @@ for part in $parts; do
             # shellcheck disable=SC2086
             cases "compare_$part" "$build/compare_$part" "$seed" ${COUNT:-}
             few=112
-            [ "$part" = receiver ] && few=168
+            [ "$part" = receiver ] && few=192
             [ "$part" = tables ] && few=960
             memory "compare_$part" "$few"
             example "$part"

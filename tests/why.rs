@@ -5,7 +5,8 @@ use crate::gen::{self, Rng};
 use crate::harness::{bare, equal, holds, same, Lent, Met, Run};
 use crate::model::{self, FullyRepaired, Reason, Table, LOST, RECEIVED, RESTORED};
 use crate::{a_off, age, aged, block_for, byte_of, dirty_work, full_repair_alone};
-use crate::{limit_checks, lose, map_of, packet_of, places_lost, zeros_but, A, A4, B, P2, VECTORS};
+use crate::{limit_checks, lose, map_of, packet_of, places_lost, worked_tables, zeros_but};
+use crate::{A, A4, P2};
 
 #[link(name = "receiver", kind = "static")]
 extern "C" {
@@ -393,7 +394,7 @@ fn reason_of(list: &[usize]) -> Vec<u16> {
 // ------------------------------------------------------------ random cases
 
 /// Any table; large ones are seldom.
-fn some_table(rng: &mut Rng) -> Table {
+pub fn some_table(rng: &mut Rng) -> Table {
     loop {
         let mut t = if rng.once_in(2) { gen::table(rng) } else { gen::half_rate(rng) };
         if t.n <= 128 || rng.once_in(12) {
@@ -875,12 +876,7 @@ fn every_pattern(table: &[u16], block: &[u8]) -> Result<(), String> {
 }
 
 fn pattern_cases(run: &mut Run) {
-    let mut tables: Vec<(Vec<u16>, Vec<u8>)> = vec![
-        (A.to_vec(), P2.to_vec()),
-        (A4.to_vec(), P2.to_vec()),
-        (B.to_vec(), vec![0, 0xa5, 0xa5, 0xa5]),
-    ];
-    tables.extend(VECTORS.map(|(table, block)| (table.to_vec(), block.to_vec())));
+    let mut tables = worked_tables();
     let copies: [&[usize]; 6] = [&[0, 1], &[1, 2], &[2, 3], &[3, 4], &[0, 4], &[0, 2]];
     tables.push((table_of(5, &copies), vec![0x5a; 5]));
     tables.push((table_of(3, &[&[1, 2], &[2]]), vec![7, 0, 0]));
