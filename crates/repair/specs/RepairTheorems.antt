@@ -334,21 +334,21 @@ module _ (t b map w : List ℕ) (f : Fitting t b map) (word : IsCodeword t w) (a
   old : AsOld t b map
   old = plainly t b map f (agreed-none t b map calm)
 
-  block-is : repairBlockAfter t b map ≡ joined (outcome t b map .block)
-  block-is = old .block ∙ ap (λ v. blockIf v t b map) calm
+  block-as-old : repairBlockAfter t b map ≡ joined (outcome t b map .block)
+  block-as-old = old .block ∙ ap (λ v. blockIf v t b map) calm
 
-  map-is : repairMapAfter t b map ≡ outcome t b map .map
-  map-is = old .marks ∙ ap (λ v. mapIf v t b map) calm
+  map-as-old : repairMapAfter t b map ≡ outcome t b map .map
+  map-as-old = old .marks ∙ ap (λ v. mapIf v t b map) calm
 
   pub repairing : Repairing t b map w
   repairing = record {
     not-refused = agreed-refusal t b map f calm;
     agrees = calm;
     nobody-blamed = agreed-none t b map calm;
-    block = block-is;
-    marks = map-is;
-    values = λ p h e. ap (partAt (size t) p) block-is ∙ word-values t b map (f .table) (f .block) w word there p h
-        (byBool (isLost (outcome t b map .map) p) (λ z. absurd (e (ap (λ l. getD l p 0) map-is ∙ eqb-true _ 1 z))) (λ z. z));
+    block = block-as-old;
+    marks = map-as-old;
+    values = λ p h e. ap (partAt (size t) p) block-as-old ∙ word-values t b map (f .table) (f .block) w word there p h
+        (byBool (isLost (outcome t b map .map) p) (λ z. absurd (e (ap (λ l. getD l p 0) map-as-old ∙ eqb-true _ 1 z))) (λ z. z));
   }
 
 -- ---- refusal 8

@@ -111,7 +111,7 @@ from-anywhere t b map ok fits long {e} u =
 -- ---- "Repair additions are at most W0 less the number of checks that aren't empty"
 -- the additions of an order are "weight − 1 for each check used" ..
 pub order-spends : (t b map : List ℕ) {e : State} (u : FromStart t b map e) → e .adds ≡ spent (taken u)
-order-spends t b map u = turns-spend u
+order-spends t b map u = let h = turns-spend u in omega arith
 
 -- .. and within the bound, at its end and before
 pub order-additions : (t b map : List ℕ) → refusal t ≡ 0 → {e : State} → FromStart t b map e → e .adds + nonEmpty (checks t) ≤ onesCount t
