@@ -153,7 +153,7 @@ module _ (t u b c map : List ℕ) (same-places : places t ≡ places u) (same-ch
   alike : Alike (outcome t b map) (outcome u c map)
   alike = outcome-alike t u b c map same-places same-checks
 
-  -- map and additions, even where they do
+  -- map and additions, also where they contradict
   pub map-alike : outcome t b map .map ≡ outcome u c map .map
   map-alike = alike .map-alike
 
@@ -181,6 +181,12 @@ module _ (t u b c map : List ℕ) (same-places : places t ≡ places u) (same-ch
           old .answer ∙ ap answerBy counts-alike ∙ sym (too .answer),
           old .marks ∙ ap (λ v. mapIf v t b map) calm ∙ map-alike ∙ sym (too .marks ∙ ap (λ v. mapIf v u c map) calm-too),
         )
+
+  -- so always with packets from codewords w of the one table and v of the other
+  pub report-alike-sent : (w v : List ℕ) → IsCodeword t w → IsCodeword u v → Fitting t b map → Agree t b map w → Fitting u c map → Agree u c map v
+      → (repairAnswer t b map ≡ repairAnswer u c map) × (repairMapAfter t b map ≡ repairMapAfter u c map)
+  report-alike-sent w v word word-too fits agree fits-too agree-too =
+      report-alike (repairing t b map w fits word agree .agrees) (repairing u c map v fits-too word-too agree-too .agrees) fits fits-too
 
 -- ---- "for packets from one codeword", in the words of the call
 module _ (t w : List ℕ) (word : IsCodeword t w) where
