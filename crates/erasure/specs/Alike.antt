@@ -2,8 +2,9 @@
 use mathlib.Core.Path.{_≡_, refl, sym, ap, _∙_, subst}
 use mathlib.Core.List.{List, _∷_}
 use mathlib.Core.Option.{none, some}
-use Prim.Native.Nat.{ℕ, zero, suc, _+_, _-_}
-use lib.ListN.{length, getD, set}
+use Prim.Native.Nat.{ℕ, zero, suc}
+use native.Mathlib.Omega.{arith}
+use lib.ListN.{getD, set}
 use Rattle.lists.specs.Tests.{byOpt}
 use Rattle.table.specs.AnySize.{places-at, checks-at}
 use Rattle.table.specs.Packets.{packets}
@@ -19,7 +20,7 @@ pub record Alike (m n : State) : Type 0 where
 pub turn-alike : (s r : ℕ) (c : List ℕ) (m n : State) → Alike m n → Alike (turn s c m) (turn r c n)
 turn-alike s r c m n a = record {
   map-alike = ap (λ l. set l (getD (lostPlaces l c) 0 0) 2) (a .map-alike);
-  adds-alike = ap (λ x. x + (length c - 1)) (a .adds-alike);
+  adds-alike = omega (arith, a .adds-alike);
 }
 
 -- so do all turns ..

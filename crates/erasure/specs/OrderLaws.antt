@@ -2,7 +2,7 @@
 use mathlib.Core.Path.{_≡_, refl, sym, ap, _∙_, subst}
 use mathlib.Core.Bool.{Bool, true, false, true≢false}
 use mathlib.Core.List.{List, [], _∷_}
-use mathlib.Core.Logic.{_≢_, _⊎_, inl, inr}
+use mathlib.Core.Logic.{_⊎_, inl, inr}
 use mathlib.Core.Option.{Option, none, some}
 use Prim.Native.Nat.{ℕ, zero, suc, _+_, _<_, _≤_}
 use native.Mathlib.Omega.{arith}
@@ -21,7 +21,7 @@ use Rattle.table.specs.Packets.{Packets}
 -- where every check has none or at least two lost places, no turn can be taken
 pub ended-stays : {s : ℕ} {cs : List (List ℕ)} {m e : State} → Ended cs m → Turns s cs m e → e ≡ m
 ended-stays end stay = refl
-ended-stays {m} end (more c i one t) = absurd (let none : length (lostPlaces (m .map) c) ≢ 1 = all-member end i in omega arith)
+ended-stays end (more c i one t) = absurd (omega (arith, all-member end i))
 
 -- the lowest ready check is one of the checks, and ready
 pub ready-is : (map : List ℕ) (cs : List (List ℕ)) (c : List ℕ) → ready map cs ≡ some c → In c cs × Ready map c
@@ -57,7 +57,7 @@ restoring-turns (suc k) s cs m = byOpt (ready (m .map) cs)
 -- with a turn for each lost place it comes to the end
 pub restoring-ends : (k s : ℕ) (cs : List (List ℕ)) (m : State) → lostIn (m .map) ≤ k → Ended cs (restoring k s cs m)
 restoring-ends zero s cs m h = byOpt (ready (m .map) cs)
-    (λ c r. absurd (true≢false (sym (place-lost s c m (ready-is (m .map) cs c r .1)) ∙ no-lost (m .map) (omega arith) _)))
+    (λ c r. absurd (true≢false (sym (place-lost (m .map) c (ready-is (m .map) cs c r .1)) ∙ no-lost (m .map) (omega arith) _)))
     (λ r. none-ended cs m r)
 restoring-ends (suc k) s cs m h = byOpt (ready (m .map) cs)
     (λ c r. let one = turn-one s c m (ready-is (m .map) cs c r .1) in rw (r, restoring) (restoring-ends k s cs (turn s c m) (omega arith)))

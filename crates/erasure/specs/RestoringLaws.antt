@@ -8,20 +8,15 @@ use native.Mathlib.Omega.{arith}
 use lib.ListN.{length, getD}
 use Rattle.erasure.specs.LostLaws.{lostIn}
 use Rattle.erasure.specs.OrderLaws.{ready-is, restoring-turns, turns-length, turns-map, turns-sized, turns-within, turns-same, turns-kept, turns-left, turns-mark, turns-taken}
-use Rattle.erasure.specs.Passing.{first-passes}
 use Rattle.erasure.specs.Restoring.{State, isLost, lostPlaces, ready, turn, restoring}
 use Rattle.erasure.specs.Turn.{turn-one}
 use Rattle.lists.specs.Lists.{All}
 use Rattle.lists.specs.Tests.{byOpt}
 use Rattle.table.specs.Packets.{Packets}
 
--- a ready check has one lost place ..
+-- a ready check has one lost place
 pub ready-one : (lost : List ℕ) (cs : List (List ℕ)) (c : List ℕ) → ready lost cs ≡ some c → length (lostPlaces lost c) ≡ 1
 ready-one lost cs c r = ready-is lost cs c r .1
-
--- .. and that place is lost
-pub ready-lost : (lost : List ℕ) (cs : List (List ℕ)) (c : List ℕ) → ready lost cs ≡ some c → isLost lost (getD (lostPlaces lost c) 0 0) ≡ true
-ready-lost lost cs c r = first-passes (isLost lost) c (let one = ready-one lost cs c r in omega arith)
 
 -- without a ready check no turn is taken
 pub restoring-none : (k s : ℕ) (cs : List (List ℕ)) (m : State) → ready (m .map) cs ≡ none → restoring k s cs m ≡ m

@@ -30,7 +30,7 @@ pub turns-tally : {s : ℕ} {cs : List (List ℕ)} {m e : State} → Turns s cs 
 turns-tally stay = refl
 turns-tally {s} {m} (more c i one t) =
     let less = turn-one s c m one in
-    let two = restore-two (m .map) _ (place-lost s c m one) in
+    let two = restore-two (m .map) _ (place-lost (m .map) c one) in
     turns-tally t ∙ (omega arith)
 
 pub repaired-tally : (n s : ℕ) (cs b : List (List ℕ)) (lost : List ℕ)

@@ -19,6 +19,10 @@ use Rattle.lists.specs.Tests.{eqb-true, eqb-false, byBool}
 use Rattle.table.specs.PacketLaws.{sum-view}
 use Rattle.table.specs.Packets.{Packets, packetSum}
 
+-- the place that a check restores is lost
+pub place-lost : (map c : List ℕ) → Ready map c → isLost map (getD (lostPlaces map c) 0 0) ≡ true
+place-lost map c one = first-passes (isLost map) c (omega (arith, one))
+
 module _ (s : ℕ) (c : List ℕ) (m : State) where
   -- as many packets and map bytes
   pub turn-length : length (turn s c m .block) ≡ length (m .block)
@@ -47,12 +51,9 @@ module _ (s : ℕ) (c : List ℕ) (m : State) where
     abbrev place : ℕ
     place = getD (lostPlaces (m .map) c) 0 0
 
-    pub place-lost : isLost (m .map) (getD (lostPlaces (m .map) c) 0 0) ≡ true
-    place-lost = first-passes (isLost (m .map)) c (omega (arith, one))
-
     -- a known place is another
     known-other : (p : ℕ) → isLost (m .map) p ≡ false → p ≢ place
-    known-other p h e = true≢false (sym place-lost ∙ ap (isLost (m .map)) (sym e) ∙ h)
+    known-other p h e = true≢false (sym (place-lost (m .map) c one) ∙ ap (isLost (m .map)) (sym e) ∙ h)
 
     -- a known place keeps its packet and its mark
     pub turn-kept : (p : ℕ) → isLost (m .map) p ≡ false → getD (turn s c m .block) p [] ≡ getD (m .block) p []
@@ -64,12 +65,12 @@ module _ (s : ℕ) (c : List ℕ) (m : State) where
     -- a lost place that is no longer lost is marked 2
     pub turn-mark : (p : ℕ) → isLost (m .map) p ≡ true → isLost (turn s c m .map) p ≡ false → getD (turn s c m .map) p 0 ≡ 2
     turn-mark p h e = byBool (eqb p place)
-        (λ z. subst (λ x. getD (set (m .map) place 2) x 0 ≡ 2) (sym (eqb-true p place z)) (getD-set-same (m .map) place 2 0 (lost-inside (m .map) place place-lost)))
+        (λ z. subst (λ x. getD (set (m .map) place 2) x 0 ≡ 2) (sym (eqb-true p place z)) (getD-set-same (m .map) place 2 0 (lost-inside (m .map) place (place-lost (m .map) c one))))
         (λ z. absurd (true≢false (sym h ∙ ap (λ v. eqb v 1) (sym (getD-set-other (m .map) place p 2 0 (eqb-false p place z))) ∙ e)))
 
     -- one lost place less
     pub turn-one : suc (lostIn (turn s c m .map)) ≡ lostIn (m .map)
-    turn-one = restore-one (m .map) place place-lost
+    turn-one = restore-one (m .map) place (place-lost (m .map) c one)
 
     -- and none is left in the check
     pub turn-none : length (lostPlaces (turn s c m .map) c) ≡ 0

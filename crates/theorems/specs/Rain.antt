@@ -5,7 +5,6 @@ use mathlib.Core.Path.{_≡_, refl, sym, ap, ap₂, _∙_, subst}
 use mathlib.Core.Bool.{true, false, true≢false}
 use mathlib.Core.List.{List}
 use mathlib.Core.Logic.{_≢_, _⊎_}
-use mathlib.Core.Option.{Option, none, some}
 use Prim.Native.Nat.{ℕ, zero, suc, _+_, _-_, _*_, _<_, _≤_}
 use native.Mathlib.Omega.{arith}
 use lib.ListN.{length, getD}
@@ -22,7 +21,7 @@ use Rattle.erasure.specs.OutcomeLaws.{tally-lost, start-length, start-sized}
 use Rattle.erasure.specs.Restoring.{State, isLost, restoring, start, consistent, tally, outcome, contradicting, agreeing, countsIf, mapIf}
 use Rattle.aerials.specs.Aerials.{kinds}
 use Rattle.entering.specs.Entering.{entered}
-use Rattle.faults.specs.Faults.{Fault, noFault}
+use Rattle.faults.specs.FaultLaws.{no-fault}
 use Rattle.lengthen.specs.Lengthen.{lengthenOutcome, lengthenFault, lengthenRefusal, lengthenAnswerAt, lengthenAnswer}
 use Rattle.lists.specs.Lists.{In}
 use Rattle.lists.specs.Tests.{eqb-true, byBool}
@@ -145,10 +144,6 @@ lengthened-most old new carried arrivals ok =
 
 -- ---- "and depend on table and map only"; restored and lost too: two repairs by tables alike in places and checks, with the same map, whatever
 -- the packets and their size, if packets contradict in neither
-counted : (f : Option Fault) (map : List ℕ) (m : State) → noFault f ≡ true → countsIf f map m ≡ countsIf none map m
-counted none map m h = refl
-counted (some f) map m h = absurd (true≢false (sym h))
-
 module _ (t u b c map : List ℕ) (same-places : places t ≡ places u) (same-checks : checks t ≡ checks u) where
   alike : Alike (outcome t b map) (outcome u c map)
   alike = outcome-alike t u b c map same-places same-checks
@@ -169,9 +164,9 @@ module _ (t u b c map : List ℕ) (same-places : places t ≡ places u) (same-ch
   module _ (calm : agreeing t b map ≡ true) (calm-too : agreeing u c map ≡ true) where
     -- what is told
     pub counts-alike : countsIf (contradicting t b map) map (outcome t b map) ≡ countsIf (contradicting u c map) map (outcome u c map)
-    counts-alike = counted (contradicting t b map) map (outcome t b map) calm
+    counts-alike = ap (λ f. countsIf f map (outcome t b map)) (no-fault (contradicting t b map) calm)
         ∙ ap₂ (λ l x. record { agrees = true; restored = tally 1 map - tally 1 l; lost = tally 1 l; additions = x; check = 0; byte = 0 }) map-alike additions-alike
-        ∙ sym (counted (contradicting u c map) map (outcome u c map) calm-too)
+        ∙ sym (ap (λ f. countsIf f map (outcome u c map)) (no-fault (contradicting u c map) calm-too))
 
     -- what the call answers, and the map that it leaves
     pub report-alike : Fitting t b map → Fitting u c map → (repairAnswer t b map ≡ repairAnswer u c map) × (repairMapAfter t b map ≡ repairMapAfter u c map)

@@ -78,7 +78,7 @@ module _ (t : List ℕ) (m n s : ℕ) (k : Accepted t m n s) (l b used : List �
   q = getD (lostPlaces l c) 0 0
 
   lost-q : isLost l q ≡ true
-  lost-q = place-lost s c (stateOf s n b l 0) one
+  lost-q = place-lost l c one
 
   distinct : Distinct c
   distinct = subst Distinct (sym is) (distinct-check t m n s k j in-m)

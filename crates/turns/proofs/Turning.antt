@@ -17,12 +17,11 @@ use Rattle.table.specs.Packets.{packets, packetSum}
 use Rattle.table.specs.SumLaws.{places-in, check-below}
 use Rattle.table.specs.Table.{checks}
 use Rattle.erasure.specs.Restoring.{State, lostPlaces, ready, restoring, isLost, turn}
-use Rattle.erasure.specs.RestoringLaws.{ready-one, ready-lost, restoring-none, restoring-enough}
+use Rattle.erasure.specs.RestoringLaws.{ready-one, restoring-none, restoring-enough}
 use Rattle.table.specs.Accepted.{Accepted, check-count, places-at, check-is, light}
 use Rattle.erasure.specs.States.{Holds, Restored, stateOf}
 use Rattle.erasure.specs.LostLaws.{lost-most, lost-inside, lostIn}
-use Rattle.erasure.specs.Passing.{first-passes}
-use Rattle.erasure.specs.Turn.{turn-packet, turn-one}
+use Rattle.erasure.specs.Turn.{place-lost, turn-packet, turn-one}
 use Rattle.packets.specs.SetLaws.{packets-set, bytes-set}
 
 -- the number of the lowest check with exactly one lost place; the number of checks if there is none
@@ -32,11 +31,11 @@ readyNumber lost (c ∷ cs) = elim (eqb (length (lostPlaces lost c)) 1) [ true �
 
 -- the one lost place of a check is a place
 pub lost-place-in : (lost c : List ℕ) (n p : ℕ) → length lost ≡ n → length (lostPlaces lost c) ≡ 1 → p ≡ getD (lostPlaces lost c) 0 0 → p < n
-lost-place-in lost c n p long one e = rw (e, ← long) (lost-inside lost _ (first-passes (isLost lost) c (omega arith)))
+lost-place-in lost c n p long one e = rw (e, ← long) (lost-inside lost _ (place-lost lost c one))
 
 -- and lost
 pub lost-place : (lost c : List ℕ) (p : ℕ) → length (lostPlaces lost c) ≡ 1 → p ≡ getD (lostPlaces lost c) 0 0 → isLost lost p ≡ true
-lost-place lost c p one e = rw e (first-passes (isLost lost) c (omega arith))
+lost-place lost c p one e = rw e (place-lost lost c one)
 
 -- ---- by number or by check
 number-least : (lost : List ℕ) (cs : List (List ℕ)) → readyNumber lost cs ≤ length cs
@@ -94,7 +93,7 @@ going-small n s cs b₀ l₀ b l adds long small g = let most = lost-most l₀ i
 module _ (n s : ℕ) (cs : List (List ℕ)) (b₀ l₀ b l : List ℕ) (adds : ℕ) (g : Going n s cs b₀ l₀ b l adds) (c : List ℕ) (r : ready l cs ≡ some c) (low : All (λ p. p < n) c)
     (w : ℕ) (weight : length c ≡ w) (light : w ≤ 64) (b′ l′ : List ℕ) (h : Holds (turn s c (stateOf s n b l 0)) b′ l′) where
   lost-q : isLost l (getD (lostPlaces l c) 0 0) ≡ true
-  lost-q = ready-lost l cs c r
+  lost-q = place-lost l c (ready-one l cs c r)
 
   q-in : getD (lostPlaces l c) 0 0 < n
   q-in = let z = lost-inside l _ lost-q in let e = g .places in omega arith
