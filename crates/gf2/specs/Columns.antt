@@ -70,7 +70,7 @@ module _ (E P : List ℕ) (ind : Indep xor_group E) (tells : Tells xor_group bit
 
   onto-all : {Q : ℕ → Type 0} {K xs : List ℕ} → All Q K → All (λ x. Q (column E x)) xs → All Q (onto xor_group is_zero (column E) K xs)
   onto-all a nil = a
-  onto-all a (cons h hs) = onto-all (cons h a) hs
+  onto-all {Q = Q} {K = K} a (cons {x = x} {l = l} h hs) = onto-all {K = column E x ∷ K} (cons h a) hs
 
   columns-told : Tells xor_group bit (below (length E)) taken
   columns-told = record {

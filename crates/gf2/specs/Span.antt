@@ -50,7 +50,7 @@ module _ {A : Type 0} (G : Group2 A) where
     none : Within S []
     more : {r : A} {R : List A} → Span S r → Within S R → Within S (r ∷ R)
 
-  within-comb : {R S : List A} → Within S R → (m : List Bool) → Span S (comb G m R)
+  within-comb : {S R : List A} → Within S R → (m : List Bool) → Span S (comb G m R)
   within-comb none m = span-zero
   within-comb (more p w) [] = span-zero
   within-comb (more p w) (true ∷ m) = span-add p (within-comb w m)
@@ -63,7 +63,7 @@ module _ {A : Type 0} (G : Group2 A) where
   within-trans w none = none
   within-trans w (more p v) = more (span-within w p) (within-trans w v)
 
-  pub within-tail : {R S : List A} {s : A} → Within S R → Within (s ∷ S) R
+  pub within-tail : {S R : List A} {s : A} → Within S R → Within (s ∷ S) R
   within-tail none = none
   within-tail (more p w) = more (span_tail p) (within-tail w)
 

@@ -18,6 +18,7 @@ all_of h (x ∷ l) = cons (h x) (all_of h l)
 pub all-member : {X : Type 0} {P : X → Type 0} {x : X} {l : List X} → All P l → In x l → P x
 all-member (cons p a) here = p
 all-member (cons p a) (there i) = all-member a i
+all-member {X = X} {P = P} nil x4 = elim x4 [ ]
 
 pub length-below : (k : ℕ) → length (below k) ≡ k
 length-below zero = refl

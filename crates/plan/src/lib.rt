@@ -8,7 +8,7 @@ ghost use Rattle.plan.specs.Layout.{info_at, info_count, info_in, step_count, st
 ghost use Rattle.plan.specs.Step.{SlotsBelow, pack, unpack, decoded_of};
 
 // clears a slot, or adds one slot into another: Add(to, from)
-#[derive(Drop)]
+#[derive(Clone, Copy)]
 pub enum Step {
     Clear(usize),
     Add(usize, usize),

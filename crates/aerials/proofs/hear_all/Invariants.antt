@@ -1,0 +1,20 @@
+-- `aerials::hear_all` meets its contract.
+use mathlib.Core.Path.{sym, ◌∙◌}
+use Prim.Native.Nat.{◌-◌, ◌≤◌}
+use native.Mathlib.Omega.{arith}
+use lib.ListN.{get_or}
+use Rattle.table.specs.BufferLaws.{place-fits}
+use Rattle.table.specs.PacketCall.{part_at}
+use Rattle.erasure.specs.Offered.{held}
+use Rattle.aerials.specs.HeardLaws.{packet-sized}
+use Rattle.aerials.specs.Aerials.{packet_of, kind_of, heard_at}
+use Rattle.erasure.specs.PlaceByPlace.{part-sized}
+use Rattle.packets.specs.Filling.{Filled, none_filled, one-filled, block-filled, map-filled}
+use Rattle.aerials.proofs.hear_all.Given as goal
+
+abbrev pub invariant-loop-p : goal.invariant-loop-p
+invariant-loop-p l =
+    (l.p ≤ l.n) × Filled l.n l.s (λ k. packet_of l.s (heard_at l.s (held l.block1 l.map1) (held l.block2 l.map2) k)) (λ k. kind_of (heard_at l.s (held l.block1 l.map1) (held l.block2 l.map2) k)) l.initial.block3 l.initial.map3 l.p l.block3 l.map3
+
+abbrev pub decreases-loop-p : goal.decreases-loop-p
+decreases-loop-p l = l.n - l.p

@@ -1,0 +1,27 @@
+-- `band_agrees` meets its contract.
+use mathlib.Core.Path.{◌≡◌, refl, sym, ◌∙◌, subst}
+use mathlib.Core.Bool.{false≢true, true≢false}
+use mathlib.Core.List.{List}
+use Prim.Native.Nat.{ℕ, ◌-◌, ◌≤◌}
+use native.Mathlib.Omega.{arith}
+use lib.ListN.{length, drop}
+use lib.Seq.{drop-drop}
+use borrow.Author.Tests.{not-true, not-false}
+use lib.Seq.{drop-drop}
+use borrow.Author.Tests.{not-true, not-false}
+use lib.Seq.{drop-drop}
+use borrow.Author.Tests.{not-true, not-false}
+use Rattle.numbers.specs.Cursor.{Ahead}
+use Rattle.walks.specs.Walks.{after, list_at, ListsAhead}
+use Rattle.walks.specs.WalksLaws.{after_more, lists-from, list-from}
+use Rattle.tiles.specs.Board.{Blank, BandAgrees}
+use Rattle.agreeing.proofs.Tile.{tile-blank, blank-tile, band-tile, tile-band}
+use Rattle.agreeing.proofs.band_agrees.Given as goal
+
+abbrev pub invariant-loop-c : goal.invariant-loop-c
+invariant-loop-c l = (l.c ≤ l.n) × (length l.board ≡ length l.initial.board) × (Blank l.initial.board → Blank l.board)
+    × (Blank l.initial.board → (ws l vs q : List ℕ) → ListsAhead l.text l.weights l.lists l.n l.a ws l → ListsAhead l.text l.others l.rows l.k l.b vs q
+    → Ahead l.text l.weight (drop l.c ws) × Ahead l.text l.next (after l.c l.a l) × BandAgrees l.c l.r l.k (list_at l.a ws l) (list_at l.b vs q))
+
+abbrev pub decreases-loop-c : goal.decreases-loop-c
+decreases-loop-c l = l.n - l.c

@@ -1,0 +1,90 @@
+-- `lists_agree` meets its contract.
+use mathlib.Core.Path.{◌≡◌, refl, sym, ◌∙◌, subst}
+use mathlib.Core.Bool.{false≢true, true≢false}
+use mathlib.Core.List.{List}
+use Prim.Native.Nat.{ℕ, ◌-◌, ◌*◌, ◌≤◌}
+use native.Mathlib.Nat.{mul-le-mul}
+use native.Mathlib.Omega.{arith}
+use lib.ListN.{length, drop}
+use lib.Seq.{drop-drop}
+use borrow.Author.Tests.{not-true, not-false}
+use lib.Seq.{drop-drop}
+use borrow.Author.Tests.{not-true, not-false}
+use lib.Seq.{drop-drop}
+use borrow.Author.Tests.{not-true, not-false}
+use Rattle.numbers.specs.Cursor.{Ahead}
+use Rattle.walks.specs.Walks.{after, list_at, ListsAhead}
+use Rattle.walks.specs.WalksLaws.{after_more, after_is, room-all, lists-from, list-from}
+use Rattle.tiles.specs.Board.{Blank, BandAgrees}
+use Rattle.agreeing.proofs.Tile.{rows-band, band-rows}
+use Rattle.agreeing.proofs.lists_agree.Goals as goal
+
+pub loop-r-init : goal.loop-r-init
+loop-r-init c = (omega arith, refl, λ z ws l vs q g h. (z, h.weights-ahead, h.lists-ahead, λ i j a b. absurd (omega arith)))
+
+pub lesser-k-requires : goal.lesser-k-requires
+lesser-k-requires c = tt
+
+pub band_agrees-requires : goal.band_agrees-requires
+band_agrees-requires c = let h = c.loop-r.invariant.1 in let g = c.requires in let e = c.lesser-k.ensures in (omega arith, omega arith)
+
+pub shape_of-board-then-not-band_agrees : goal.shape_of-board-then-not-band_agrees
+shape_of-board-then-not-band_agrees c = c.band_agrees.ensures.len ∙ c.loop-r.invariant.1
+
+pub returns-then-not-band_agrees : goal.returns-then-not-band_agrees
+returns-then-not-band_agrees c = let s = c.loop-r in let a = c.args in 
+    let q = record { len = c.band_agrees.ensures.len ∙ s.invariant.1; agrees = λ z ws l vs q g h.
+      let y = s.invariant.2 z ws l vs q g h in
+      let e = c.lesser-k.ensures in
+      let sub = lists-from h s.r c.lesser-k.result (omega arith) y.1 y.2 in
+      let d = c.band_agrees.ensures.agrees y.0 ws l (drop s.r vs) (after s.r a.b q) g sub in (
+        record {
+          yes = λ t. absurd (false≢true t);
+          no = λ p. absurd (true≢false (sym (d.0.no (rows-band a.n s.r c.lesser-k.result a.m (list_at a.a ws l) (list_at a.b vs q) (list_at a.b (drop s.r vs) (after s.r a.b q)) (λ i. list-from s.r i a.b vs q) (omega arith) p)) ∙ not-true _ c.if-not-band_agrees.true-raw));
+        },
+        λ t. absurd (false≢true t),
+      ) } in
+    record { len = q.0; agrees = q.1 }
+
+pub skip_numbers-weight-requires : goal.skip_numbers-weight-requires
+skip_numbers-weight-requires c = tt
+
+pub overflow_mul-k : goal.overflow_mul-k
+overflow_mul-k c = let e = c.lesser-k.ensures in let b = c.args.b in let g = c.requires.1 in
+    let p : c.lesser-k.result * b ≤ 1024 * 1000000 = mul-le-mul {n₁ = c.lesser-k.result} {m₁ = b} {n₂ = 1024} {m₂ = 1000000} (omega arith) (omega arith) in omega arith
+
+pub skip_numbers-next-requires : goal.skip_numbers-next-requires
+skip_numbers-next-requires c = tt
+
+pub overflow_add-r : goal.overflow_add-r
+overflow_add-r c = let e = c.lesser-k.ensures in omega arith
+
+pub loop-r-smaller : goal.loop-r-smaller
+loop-r-smaller c = let e = c.lesser-k.ensures in omega arith
+
+pub loop-r-preserved : goal.loop-r-preserved
+loop-r-preserved c = let s = c.loop-r in let a = c.args in let e = c.lesser-k.ensures in (
+  omega arith,
+  c.band_agrees.ensures.len ∙ s.invariant.1,
+  λ z ws l vs q g h.
+      let y = s.invariant.2 z ws l vs q g h in
+      let e = c.lesser-k.ensures in
+      let sub = lists-from h s.r c.lesser-k.result (omega arith) y.1 y.2 in
+      let d = c.band_agrees.ensures.agrees y.0 ws l (drop s.r vs) (after s.r a.b q) g sub in
+      let t = not-false _ c.if-not-band_agrees.false-raw in (
+        d.1 t,
+        subst (λ x. Ahead a.text.now c.skip_numbers-weight.result x) (drop-drop c.lesser-k.result s.r vs) (c.skip_numbers-weight.ensures (drop s.r vs) y.1 sub.enough),
+        subst (λ x. Ahead a.text.now c.skip_numbers-next.result x)
+            (sym (after_is c.lesser-k.result a.b (after s.r a.b q)) ∙ after_more s.r c.lesser-k.result a.b q)
+            (c.skip_numbers-next.ensures (after s.r a.b q) y.2 (room-all c.lesser-k.result a.b (after s.r a.b q) sub.room)),
+        band-rows a.n s.r c.lesser-k.result a.m (list_at a.a ws l) (list_at a.b vs q) (list_at a.b (drop s.r vs) (after s.r a.b q)) (λ i. list-from s.r i a.b vs q) y.3 (d.0.yes t),
+      ),
+)
+
+pub shape_of-board : goal.shape_of-board
+shape_of-board c = c.loop-r.invariant.1
+
+pub returns : goal.returns
+returns c = let s = c.loop-r in let a = c.args in 
+    let q = record { len = s.invariant.1; agrees = λ z ws l vs q g h. let y = s.invariant.2 z ws l vs q g h in (record { yes = λ t i j p r. y.3 i j (omega arith) r; no = λ p. refl }, λ t. y.0) } in
+    record { len = q.0; agrees = q.1 }

@@ -1,0 +1,28 @@
+-- `lists_agree` meets its contract.
+use mathlib.Core.Path.{◌≡◌, refl, sym, ◌∙◌, subst}
+use mathlib.Core.Bool.{false≢true, true≢false}
+use mathlib.Core.List.{List}
+use Prim.Native.Nat.{ℕ, ◌-◌, ◌*◌, ◌≤◌}
+use native.Mathlib.Nat.{mul-le-mul}
+use native.Mathlib.Omega.{arith}
+use lib.ListN.{length, drop}
+use lib.Seq.{drop-drop}
+use borrow.Author.Tests.{not-true, not-false}
+use lib.Seq.{drop-drop}
+use borrow.Author.Tests.{not-true, not-false}
+use lib.Seq.{drop-drop}
+use borrow.Author.Tests.{not-true, not-false}
+use Rattle.numbers.specs.Cursor.{Ahead}
+use Rattle.walks.specs.Walks.{after, list_at, ListsAhead}
+use Rattle.walks.specs.WalksLaws.{after_more, after_is, room-all, lists-from, list-from}
+use Rattle.tiles.specs.Board.{Blank, BandAgrees}
+use Rattle.agreeing.proofs.Tile.{rows-band, band-rows}
+use Rattle.agreeing.proofs.lists_agree.Given as goal
+
+abbrev pub invariant-loop-r : goal.invariant-loop-r
+invariant-loop-r l = (l.r ≤ l.m) × (length l.board ≡ length l.initial.board)
+    × (Blank l.initial.board → (ws l vs q : List ℕ) → ListsAhead l.text l.weights l.lists l.n l.a ws l → ListsAhead l.text l.others l.rows l.m l.b vs q
+    → Blank l.board × Ahead l.text l.weight (drop l.r vs) × Ahead l.text l.next (after l.r l.b q) × BandAgrees l.n 0 l.r (list_at l.a ws l) (list_at l.b vs q))
+
+abbrev pub decreases-loop-r : goal.decreases-loop-r
+decreases-loop-r l = l.m - l.r

@@ -1,0 +1,21 @@
+-- `put_weights` meets its contract: what is left to put are the weights of the rows left.
+use mathlib.Core.Path.{sym, ap, ◌∙◌}
+use mathlib.Core.List.{[], ◌∷◌, map}
+use Prim.Native.Nat.{◌+◌, ◌-◌, ◌*◌, ◌≤◌}
+use native.Mathlib.Omega.{arith}
+use lib.Dec.{eqb}
+use lib.ListN.{length}
+use Rattle.bits.specs.Row.{rows_in}
+use Rattle.making.specs.Rows.{rows_from, rows_all, rows_next, rows_none}
+use Rattle.alist_numbers.specs.Put.{Put, numbers_on}
+use Rattle.alist_numbers.specs.PutLaws.{put-none, on_both, put-line, Part, part_none, part-more, part-all}
+use Rattle.alist_lines.proofs.put_weights.Given as goal
+
+abbrev pub invariant-loop-c : goal.invariant-loop-c
+invariant-loop-c l =
+    (l.c ≤ l.count)
+    × (l.next ≤ l.at + 5 * l.c)
+    × Part (λ l. Put l.initial.text l.at (numbers_on (eqb l.at l.at) l) l.text l.next) (map length (rows_in l.w l.count)) (map length (rows_from l.w l.count l.c))
+
+abbrev pub decreases-loop-c : goal.decreases-loop-c
+decreases-loop-c l = l.count - l.c

@@ -1,0 +1,74 @@
+-- `good_lists` meets its contract.
+use mathlib.Core.Path.{◌≡◌, refl, sym, ap, ◌∙◌, subst}
+use mathlib.Core.Bool.{true, false≢true, true≢false}
+use mathlib.Core.List.{List}
+use Prim.Native.Nat.{ℕ, ◌-◌, ◌≤◌, ◌<◌}
+use native.Mathlib.Numerals.{add-one}
+use native.Mathlib.Omega.{arith}
+use borrow.Author.Tests.{not-true, not-false, ltb-true, ltb-false}
+use lib.Dec.{ltb}
+use lib.ListN.{length, get_or, take, drop}
+use Rattle.lists.specs.Tests.{by_bool}
+use Rattle.numbers.specs.Cursor.{Ahead}
+use Rattle.alist.specs.Alist.{good_list, good_lists, chunks}
+use Rattle.walks.specs.Walks.{after, ListsAhead}
+use Rattle.walks.specs.WalksLaws.{weight_is, weight-next, weight-within}
+use Rattle.tiles.specs.Board.{Blank}
+use Rattle.alist_read.proofs.Lists.{good-all, good-each}
+use Rattle.alist_read.proofs.good_lists.Goals as goal
+
+pub loop-i-init : goal.loop-i-init
+loop-i-init c = (omega arith, refl, λ z ws l g. (z, g.weights-ahead, g.lists-ahead, λ k h. absurd (omega arith)))
+
+pub read-spot-requires : goal.read-spot-requires
+read-spot-requires c = tt
+
+pub good_list-list-requires : goal.good_list-list-requires
+good_list-list-requires c = let h = c.loop-i.invariant.1 in let g = c.requires in omega arith
+
+pub shape_of-board-then-not-list : goal.shape_of-board-then-not-list
+shape_of-board-then-not-list c = c.good_list-list.ensures.len ∙ c.loop-i.invariant.1
+
+pub returns-then-not-list : goal.returns-then-not-list
+returns-then-not-list c = let s = c.loop-i in let a = c.args in 
+    let q = record { len = c.good_list-list.ensures.len ∙ s.invariant.1; good = λ z ws l g.
+      let y = s.invariant.2 z ws l g in
+      let x = weight_is g s.i (omega arith) c.read-spot.ensures y.1 in
+      let w = weight-within g s.i _ (omega arith) x in
+      let d = c.good_list-list.ensures.good y.0 (after s.i a.width l) y.2 (g.room s.i (omega arith)) w in
+      let f = ap (λ k. good_list a.most k (take a.width (after s.i a.width l))) x in (
+        by_bool (good_lists a.most (take a.count ws) (chunks a.count a.width l))
+            (λ t. absurd (true≢false (sym (good-each a.most a.count a.width ws l g.enough t s.i (omega arith)) ∙ sym f ∙ sym d.0 ∙ not-true _ c.if-not-list.true)))
+            (λ t. sym t),
+        λ t. absurd (false≢true t),
+      ) } in
+    record { len = q.0; good = q.1 }
+
+pub loop-i-preserved : goal.loop-i-preserved
+loop-i-preserved c = let s = c.loop-i in let a = c.args in (
+  omega arith,
+  c.good_list-list.ensures.len ∙ s.invariant.1,
+  λ z ws l g.
+      let y = s.invariant.2 z ws l g in
+      let x = weight_is g s.i (omega arith) c.read-spot.ensures y.1 in
+      let w = weight-within g s.i _ (omega arith) x in
+      let d = c.good_list-list.ensures.good y.0 (after s.i a.width l) y.2 (g.room s.i (omega arith)) w in
+      let f = ap (λ k. good_list a.most k (take a.width (after s.i a.width l))) x in
+      let t = not-false _ c.if-not-list.false in (
+        (d.1 t).1,
+        weight-next g s.i (omega arith) c.read-spot.ensures y.1,
+        subst (λ k. Ahead a.text.now c.good_list-list.result.next (after k a.width l)) (sym (add-one s.i)) (d.1 t).0,
+        λ k h. by_bool (ltb k s.i)
+            (λ e. y.3 k (ltb-true k s.i e))
+            (λ e. let b = ltb-false k s.i e in let q : k ≡ s.i = omega arith in
+            ap (λ j. good_list a.most (get_or ws j 0) (take a.width (after j a.width l))) q ∙ sym f ∙ sym d.0 ∙ t),
+      ),
+)
+
+pub shape_of-board : goal.shape_of-board
+shape_of-board c = c.loop-i.invariant.1
+
+pub returns : goal.returns
+returns c = let s = c.loop-i in let a = c.args in 
+    let q = record { len = s.invariant.1; good = λ z ws l g. let y = s.invariant.2 z ws l g in (sym (good-all a.most a.count a.width ws l g.enough (λ k h. y.3 k (omega arith))), λ t. y.0) } in
+    record { len = q.0; good = q.1 }

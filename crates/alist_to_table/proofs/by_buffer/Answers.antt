@@ -1,0 +1,10 @@
+-- `alist_to_table::by_buffer` is safe: what was read lies within the buffer.
+use borrow.Author.Rules.{rules}
+use Rattle.text.specs.Files.{read_count}
+use Rattle.alist_to_table.proofs.by_buffer.Goals as goal
+
+pub slice_bounds-make_file-end : goal.slice_bounds-make_file-end
+slice_bounds-make_file-end c = (read_count _ c.read_argument.ensures c.n-1.given.1).0
+
+pub slice_bounds-make_file-end-2 : goal.slice_bounds-make_file-end-2
+slice_bounds-make_file-end-2 c = (read_count _ c.read_argument.ensures c.n-1.given.1).1

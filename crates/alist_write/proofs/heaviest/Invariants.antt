@@ -1,0 +1,16 @@
+-- `heaviest` meets its contract: the greatest so far and the rows left decide.
+use mathlib.Core.Path.{◌≡◌, ap}
+use mathlib.Core.List.{map}
+use Prim.Native.Nat.{max, ◌-◌, ◌≤◌}
+use native.Mathlib.Omega.{arith}
+use lib.ListN.{length}
+use Rattle.bits.specs.Row.{rows_in}
+use Rattle.making.specs.Rows.{rows_from, rows_all, rows_next, rows_none}
+use Rattle.alist.specs.Alist.{greatest}
+use Rattle.alist_write.proofs.heaviest.Given as goal
+
+abbrev pub invariant-loop-c : goal.invariant-loop-c
+invariant-loop-c l = (l.c ≤ l.count) × (l.most ≤ 1024) × (max l.most (greatest (map length (rows_from l.w l.count l.c))) ≡ greatest (map length (rows_in l.w l.count)))
+
+abbrev pub decreases-loop-c : goal.decreases-loop-c
+decreases-loop-c l = l.count - l.c

@@ -1,0 +1,11 @@
+-- `write_alist` meets its contract: the table's refusal, or the rest.
+use mathlib.Core.Path.{◌∙◌}
+use borrow.Author.Rules.{rules}
+use Rattle.alist_write.proofs.Whole.{answer-refused}
+use Rattle.alist_write.proofs.write_alist.Goals as goal
+
+pub returns-then-refusal-ne0 : goal.returns-then-refusal-ne0
+returns-then-refusal-ne0 c =
+    let x = answer-refused c.args.t.now c.args.text.now _ c.look_over-refusal.ensures c.if-refusal-ne0.true in 
+    let q = record { answer = c.refused.ensures ∙ x.0; text = x.1 } in
+    record { answer = q.0; text = q.1 }

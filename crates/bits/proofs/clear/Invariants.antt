@@ -1,0 +1,12 @@
+-- `bits::clear` meets its contract: the loop has written i words.
+use Rattle.bits.proofs.Words.{Wrote, wrote_none, wrote-turn, cleared}
+use Prim.Native.Nat.{◌-◌, ◌≤◌}
+use mathlib.Core.Path.{◌≡◌, refl}
+use native.Mathlib.Omega.{arith}
+use Rattle.bits.proofs.clear.Given as goal
+
+abbrev pub invariant-loop-i : goal.invariant-loop-i
+invariant-loop-i l = (l.i ≤ 16) × Wrote l.initial.w l.r (λ _. 0) l.i l.w
+
+abbrev pub decreases-loop-i : goal.decreases-loop-i
+decreases-loop-i l = 16 - l.i

@@ -1,0 +1,14 @@
+-- `blame::narrow_table` meets its contract.
+use mathlib.Core.Path.{◌≡◌, refl, sym, ap, ◌∙◌}
+use Prim.Native.Nat.{ℕ, ◌-◌, ◌<◌, ◌≤◌}
+use native.Mathlib.Omega.{arith}
+use lib.ListN.{length, get_or, set, length-set}
+use Rattle.lists.specs.Buffers.{filled_more}
+use Rattle.blame.proofs.Copying.{filled-table}
+use Rattle.blame.proofs.narrow_table.Given as goal
+
+abbrev pub invariant-loop-i : goal.invariant-loop-i
+invariant-loop-i l = (l.i ≤ length l.t) × (length l.small ≡ length l.t) × ((k : ℕ) → k < l.i → get_or l.small k 0 ≡ get_or l.t k 0)
+
+abbrev pub decreases-loop-i : goal.decreases-loop-i
+decreases-loop-i l = length l.t - l.i

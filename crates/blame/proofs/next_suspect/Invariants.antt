@@ -1,0 +1,16 @@
+-- `blame::next_suspect` meets its contract: the rest decides.
+use mathlib.Core.Path.{◌≡◌, refl, ap, ◌∙◌}
+use Prim.Native.Nat.{◌-◌}
+use native.Mathlib.Omega.{arith}
+use lib.ListN.{length}
+use Rattle.lists.specs.Lists.{from, filter}
+use Rattle.blame.proofs.Searching.{cleared-same, narrow-same, tried_same, step-over, stop-at, stop-at-end}
+use Rattle.suspects.specs.Blame.{suspect}
+use Rattle.blame.proofs.next_suspect.Given as goal
+
+abbrev pub invariant-loop-p : goal.invariant-loop-p
+invariant-loop-p l =
+    (l.block ≡ l.initial.block) × (l.map ≡ l.initial.map) × (l.column ≡ l.initial.column) × (filter (suspect l.t l.initial.block l.initial.map) (from l.first (l.n - l.first)) ≡ filter (suspect l.t l.initial.block l.initial.map) (from l.p (l.n - l.p)))
+
+abbrev pub decreases-loop-p : goal.decreases-loop-p
+decreases-loop-p l = l.n - l.p

@@ -1,0 +1,44 @@
+-- `chains::lost_in` meets its contract.
+use Rattle.erasure.specs.Restoring.{lost_places}
+use Rattle.erasure.specs.LostLaws.{place-below, lost-hit, lost-miss, lost-end}
+use Prim.Native.Nat.{◌+◌, ◌-◌, ◌≤◌}
+use mathlib.Core.Path.{◌≡◌, ap}
+use mathlib.Core.Logic.{⊎_elim}
+use native.Mathlib.Omega.{arith}
+use lib.ListN.{length, take, drop}
+use Rattle.chains.proofs.lost_in.Goals as goal
+
+pub overflow_add-end : goal.overflow_add-end
+overflow_add-end c = omega (arith, c.requires.room)
+
+pub loop-i-init : goal.loop-i-init
+loop-i-init c =
+    let a = c.args in
+    let z : a.at + a.weight - a.at ≡ a.weight = omega arith in
+    (omega arith, omega arith, omega arith, rw z (omega arith))
+
+pub bounds-map-wide : goal.bounds-map-wide
+bounds-map-wide c =
+    let a = c.args in
+    let s = c.loop-i in
+    let h = place-below a.t.now a.at a.weight (length a.map.now) s.i c.requires (omega arith) (omega arith) in
+    omega (arith, c.wide.ensures)
+
+pub loop-i-preserved : goal.loop-i-preserved
+loop-i-preserved c =
+    let s = c.loop-i in
+    let a = c.args in
+    let r : a.at + a.weight ≤ length a.t.now = c.requires.room in
+    let p = c.wide.ensures in
+    let more = c.loop-i-test.true in
+    ⊎_elim
+    (λ w. let e = ap length (lost-hit a.map.now a.t.now s.i (a.at + a.weight) more r (rw p at w.0.taken)) in (omega arith, omega arith, omega (arith, w.1), omega (arith, w.1)))
+    (λ w. let e = ap length (lost-miss a.map.now a.t.now s.i (a.at + a.weight) more r (rw p at w.0.left)) in (omega arith, omega arith, omega (arith, w.1), omega (arith, w.1)))
+    c.if-map-wide-eq1.branch
+
+pub returns : goal.returns
+returns c =
+    let s = c.loop-i in
+    let a = c.args in
+    let e = ap length (lost-end a.map.now a.t.now s.i (a.at + a.weight) c.loop-i-test.false) in
+    omega arith

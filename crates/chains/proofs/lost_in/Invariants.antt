@@ -1,0 +1,15 @@
+-- `chains::lost_in` meets its contract.
+use Rattle.erasure.specs.Restoring.{lost_places}
+use Rattle.erasure.specs.LostLaws.{place-below, lost-hit, lost-miss, lost-end}
+use Prim.Native.Nat.{◌+◌, ◌-◌, ◌≤◌}
+use mathlib.Core.Path.{◌≡◌, ap}
+use mathlib.Core.Logic.{⊎_elim}
+use native.Mathlib.Omega.{arith}
+use lib.ListN.{length, take, drop}
+use Rattle.chains.proofs.lost_in.Given as goal
+
+abbrev pub invariant-loop-i : goal.invariant-loop-i
+invariant-loop-i l = (l.at ≤ l.i) × (l.i ≤ l.end) × (l.k + l.end ≤ l.i + l.weight) × (length (lost_places l.map (take l.weight (drop l.at l.t))) ≡ l.k + length (lost_places l.map (take (l.end - l.i) (drop l.i l.t))))
+
+abbrev pub decreases-loop-i : goal.decreases-loop-i
+decreases-loop-i l = l.end - l.i

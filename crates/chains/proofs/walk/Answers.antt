@@ -1,0 +1,60 @@
+-- `chains::walk` meets its contract.
+use Rattle.chains.proofs.Walking.{Walking, walk_start, walk_end, walk-in, walk-in-owner, walk-falls, walk-check, walk-some, walk_turn}
+use Prim.Native.Nat.{◌-◌, ◌≤◌}
+use mathlib.Core.Path.{◌≡◌, refl}
+use mathlib.Core.Logic.{⊎_elim}
+use native.Mathlib.Omega.{arith}
+use lib.ListN.{get_or}
+use Rattle.chains.proofs.walk.Goals as goal
+
+pub loop-i-init : goal.loop-i-init
+loop-i-init c = walk_start _ _ _ _ _ c.requires
+
+pub offset_bounds-owner-i : goal.offset_bounds-owner-i
+offset_bounds-owner-i c = let h = walk-in-owner _ _ _ _ _ _ _ _ c.loop-i.invariant c.loop-i-test.true in omega (arith, h)
+
+pub bounds-owner-i : goal.bounds-owner-i
+bounds-owner-i c = let h = walk-in-owner _ _ _ _ _ _ _ _ c.loop-i.invariant c.loop-i-test.true in omega (arith, h)
+
+pub offset_bounds-count-j : goal.offset_bounds-count-j
+offset_bounds-count-j c = let h = walk-check _ _ _ _ _ _ _ _ c.loop-i.invariant c.loop-i-test.true _ c.wide-j.ensures in omega (arith, h)
+
+pub bounds-count-j : goal.bounds-count-j
+bounds-count-j c = walk-check _ _ _ _ _ _ _ _ c.loop-i.invariant c.loop-i-test.true _ c.wide-j.ensures
+
+pub overflow_sub-left : goal.overflow_sub-left
+overflow_sub-left c = walk-some _ _ _ _ _ _ _ _ c.loop-i.invariant c.loop-i-test.true _ c.wide-j.ensures
+
+pub offset_bounds-count-j-in-loop-i : goal.offset_bounds-count-j-in-loop-i
+offset_bounds-count-j-in-loop-i c = let h = walk-check _ _ _ _ _ _ _ _ c.loop-i.invariant c.loop-i-test.true _ c.wide-j.ensures in omega (arith, h)
+
+pub bounds-count-j-in-loop-i : goal.bounds-count-j-in-loop-i
+bounds-count-j-in-loop-i c = walk-check _ _ _ _ _ _ _ _ c.loop-i.invariant c.loop-i-test.true _ c.wide-j.ensures
+
+pub offset_bounds-next-i : goal.offset_bounds-next-i
+offset_bounds-next-i c = let h = walk-in _ _ _ _ _ _ _ _ c.loop-i.invariant c.loop-i-test.true in omega (arith, h)
+
+pub bounds-next-i : goal.bounds-next-i
+bounds-next-i c = let h = walk-in _ _ _ _ _ _ _ _ c.loop-i.invariant c.loop-i-test.true in omega (arith, h)
+
+pub loop-i-smaller : goal.loop-i-smaller
+loop-i-smaller c = let h = walk-falls _ _ _ _ _ _ _ _ c.loop-i.invariant c.loop-i-test.true in omega (arith, h, c.wide-i.ensures)
+
+pub loop-i-preserved : goal.loop-i-preserved
+loop-i-preserved c =
+    let s = c.loop-i in
+    let j = c.wide-j.result in
+    let l : (get_or s.count j 0 - 1 ≡ 1 → c.if-left-eq1.low ≤ j) × (c.if-left-eq1.low ≤ s.low) =
+    ⊎_elim
+    (λ u. ((λ e. omega (arith, u.2)), omega (arith, u.2, u.1.taken)))
+    (⊎_elim
+    (λ u. ((λ e. omega (arith, u.2, u.1.left)), omega (arith, u.2)))
+    (λ u. ((λ e. absurd (u.0.left e)), omega (arith, u.1))))
+    c.if-left-eq1.branch in
+    walk_turn _ _ _ _ _ _ _ _ s.invariant c.loop-i-test.true _ c.wide-j.ensures _ _ _ refl l.0 l.1 c.wide-i.ensures
+
+pub shape_of-count : goal.shape_of-count
+shape_of-count c = c.loop-i.invariant.len
+
+pub returns : goal.returns
+returns c = walk_end _ _ _ _ _ _ _ _ c.loop-i.invariant c.loop-i-test.false

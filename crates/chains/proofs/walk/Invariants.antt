@@ -1,0 +1,14 @@
+-- `chains::walk` meets its contract.
+use Rattle.chains.proofs.Walking.{Walking, walk_start, walk_end, walk-in, walk-in-owner, walk-falls, walk-check, walk-some, walk_turn}
+use Prim.Native.Nat.{◌-◌, ◌≤◌}
+use mathlib.Core.Path.{◌≡◌, refl}
+use mathlib.Core.Logic.{⊎_elim}
+use native.Mathlib.Omega.{arith}
+use lib.ListN.{get_or}
+use Rattle.chains.proofs.walk.Given as goal
+
+abbrev pub invariant-loop-i : goal.invariant-loop-i
+invariant-loop-i l = Walking l.next l.owner l.first l.initial.count l.bound l.i l.count l.low
+
+abbrev pub decreases-loop-i : goal.decreases-loop-i
+decreases-loop-i l = l.i

@@ -1,0 +1,168 @@
+-- `columns::fill_columns` meets its contract: the columns are those of the first i set-aside checks.
+use mathlib.Core.List.{map}
+use Rattle.gf2.specs.Gf2.{row_of}
+use Rattle.table.specs.Accepted.{has-weights, each-places, places-wide}
+use Rattle.table.specs.Checks.{check, offset}
+use Rattle.columns.specs.Cols.{Columns}
+use Rattle.masks.specs.DotLaws.{unit-word}
+use Rattle.columns.proofs.Pushing.{fill-turn}
+use Prim.Native.Nat.{◌+◌, ◌-◌, ◌≤◌, ◌<◌}
+use mathlib.Core.Path.{◌≡◌, refl, ◌∙◌}
+use native.Mathlib.Omega.{arith}
+use lib.ListN.{length, get_or, take}
+use Rattle.columns.proofs.fill_columns.Goals as goal
+
+pub loop-i-init : goal.loop-i-init
+loop-i-init c = (omega arith, refl, c.requires.empty)
+
+pub offset_bounds-aside-i : goal.offset_bounds-aside-i
+offset_bounds-aside-i c =
+    let s = c.loop-i in
+    let less = c.loop-i-test.true in
+    let v = c.requires.aside in
+    let jm = v.numbers s.i less in
+    let few = v.few in
+    let room = v.room in
+    let wts = has-weights _ _ _ _ v.located.table in
+    let sr = v.located.starts-at.room in
+    omega arith
+
+pub bounds-aside-i : goal.bounds-aside-i
+bounds-aside-i c =
+    let s = c.loop-i in
+    let less = c.loop-i-test.true in
+    let v = c.requires.aside in
+    let jm = v.numbers s.i less in
+    let few = v.few in
+    let room = v.room in
+    let wts = has-weights _ _ _ _ v.located.table in
+    let sr = v.located.starts-at.room in
+    omega arith
+
+pub offset_bounds-starts-j : goal.offset_bounds-starts-j
+offset_bounds-starts-j c =
+    let s = c.loop-i in
+    let less = c.loop-i-test.true in
+    let v = c.requires.aside in
+    let jm = v.numbers s.i less in
+    let few = v.few in
+    let room = v.room in
+    let wts = has-weights _ _ _ _ v.located.table in
+    let sr = v.located.starts-at.room in
+    omega arith
+
+pub bounds-starts-j : goal.bounds-starts-j
+bounds-starts-j c =
+    let s = c.loop-i in
+    let less = c.loop-i-test.true in
+    let v = c.requires.aside in
+    let jm = v.numbers s.i less in
+    let few = v.few in
+    let room = v.room in
+    let wts = has-weights _ _ _ _ v.located.table in
+    let sr = v.located.starts-at.room in
+    omega arith
+
+pub overflow_add-j : goal.overflow_add-j
+overflow_add-j c =
+    let s = c.loop-i in
+    let less = c.loop-i-test.true in
+    let v = c.requires.aside in
+    let jm = v.numbers s.i less in
+    let few = v.few in
+    let room = v.room in
+    let wts = has-weights _ _ _ _ v.located.table in
+    let sr = v.located.starts-at.room in
+    omega arith
+
+pub offset_bounds-t-j : goal.offset_bounds-t-j
+offset_bounds-t-j c =
+    let s = c.loop-i in
+    let less = c.loop-i-test.true in
+    let v = c.requires.aside in
+    let jm = v.numbers s.i less in
+    let few = v.few in
+    let room = v.room in
+    let wts = has-weights _ _ _ _ v.located.table in
+    let sr = v.located.starts-at.room in
+    omega arith
+
+pub bounds-t-j : goal.bounds-t-j
+bounds-t-j c =
+    let s = c.loop-i in
+    let less = c.loop-i-test.true in
+    let v = c.requires.aside in
+    let jm = v.numbers s.i less in
+    let few = v.few in
+    let room = v.room in
+    let wts = has-weights _ _ _ _ v.located.table in
+    let sr = v.located.starts-at.room in
+    omega arith
+
+pub overflow_cast-i : goal.overflow_cast-i
+overflow_cast-i c =
+    let s = c.loop-i in
+    let less = c.loop-i-test.true in
+    let v = c.requires.aside in
+    let jm = v.numbers s.i less in
+    let few = v.few in
+    let room = v.room in
+    let wts = has-weights _ _ _ _ v.located.table in
+    let sr = v.located.starts-at.room in
+    omega arith
+
+pub overflow_shl-i : goal.overflow_shl-i
+overflow_shl-i c =
+    let s = c.loop-i in
+    let less = c.loop-i-test.true in
+    let v = c.requires.aside in
+    let jm = v.numbers s.i less in
+    let few = v.few in
+    let room = v.room in
+    let wts = has-weights _ _ _ _ v.located.table in
+    let sr = v.located.starts-at.room in
+    omega arith
+
+pub spread-requires : goal.spread-requires
+spread-requires c =
+    let s = c.loop-i in
+    let less = c.loop-i-test.true in
+    let v = c.requires.aside in
+    let jm = v.numbers s.i less in
+    let few = v.few in
+    let room = v.room in
+    let wts = has-weights _ _ _ _ v.located.table in
+    let sr = v.located.starts-at.room in
+    let a = c.args in
+    let j = c.wide-j.result in
+    let jl : j < a.m = omega (arith, c.wide-j.ensures) in
+    let e1 : c.wide.result ≡ 5 + a.m + offset a.t.now j = c.wide.ensures ∙ v.located.starts-at.each j jl in
+    let e2 : c.wide-in-loop-i.result ≡ get_or a.t.now (4 + j) 0 = c.wide-in-loop-i.ensures in
+    let wide = c.requires.room in
+    places-wide _ _ _ _ v.located.table j jl _ _ e1 e2 (length s.col) (omega (arith, s.invariant.1))
+
+pub loop-i-preserved : goal.loop-i-preserved
+loop-i-preserved c =
+    let s = c.loop-i in
+    let less = c.loop-i-test.true in
+    let v = c.requires.aside in
+    let jm = v.numbers s.i less in
+    let few = v.few in
+    let room = v.room in
+    let wts = has-weights _ _ _ _ v.located.table in
+    let sr = v.located.starts-at.room in
+    let a = c.args in
+    let j = c.wide-j.result in
+    let jl : j < a.m = omega (arith, c.wide-j.ensures) in
+    let e1 : c.wide.result ≡ 5 + a.m + offset a.t.now j = c.wide.ensures ∙ v.located.starts-at.each j jl in
+    let e2 : c.wide-in-loop-i.result ≡ get_or a.t.now (4 + j) 0 = c.wide-in-loop-i.ensures in
+    (omega arith, c.col-1.given ∙ s.invariant.1, fill-turn _ _ _ j _ _ s.i _ _ (each-places _ _ _ _ v.located.table j jl) (omega arith) c.wide-j.ensures e1 e2 (unit-word s.i (omega arith)) s.invariant.2 c.spread.ensures)
+
+pub shape_of-col : goal.shape_of-col
+shape_of-col c = c.loop-i.invariant.1
+
+pub returns : goal.returns
+returns c =
+    let s = c.loop-i in
+    let e : s.i ≡ c.args.g = omega arith in
+    rw e at s.invariant.2

@@ -1,0 +1,201 @@
+-- `columns::push_all` meets its contract: k solved checks are put in.
+use mathlib.Core.List.{map, List}
+use Rattle.rule.specs.Rule.{put_in_all}
+use Rattle.rule.specs.Buffers.{solved}
+use Rattle.table.specs.Accepted.{has-weights, each-places, places-wide}
+use Rattle.table.specs.Checks.{check, offset}
+use Rattle.columns.specs.Cols.{Columns}
+use Rattle.columns.proofs.Pushing.{start, turn}
+use Prim.Native.Nat.{ℕ, ◌+◌, ◌-◌, ◌≤◌, ◌<◌}
+use mathlib.Core.Path.{◌≡◌, refl, ◌∙◌}
+use native.Mathlib.Omega.{arith}
+use lib.ListN.{length, get_or}
+use Rattle.columns.proofs.push_all.Goals as goal
+
+pub loop-k-init : goal.loop-k-init
+loop-k-init c = (omega arith, refl, λ E h. start _ _ _ E _ h)
+
+pub offset_bounds-order-k : goal.offset_bounds-order-k
+offset_bounds-order-k c =
+    let s = c.loop-k in
+    let less = c.loop-k-test.true in
+    let v = c.requires.taken in
+    let en = v.enough in
+    let en0 = en.0 in
+    let en1 = en.1 in
+    let en2 = v.located.starts-at.room in
+    let hd = has-weights _ _ _ _ v.located.table in
+    let jm = v.checks s.k less in
+    let om = v.own s.k less in
+    let ln = s.invariant.1 in
+    omega arith
+
+pub bounds-order-k : goal.bounds-order-k
+bounds-order-k c =
+    let s = c.loop-k in
+    let less = c.loop-k-test.true in
+    let v = c.requires.taken in
+    let en = v.enough in
+    let en0 = en.0 in
+    let en1 = en.1 in
+    let en2 = v.located.starts-at.room in
+    let hd = has-weights _ _ _ _ v.located.table in
+    let jm = v.checks s.k less in
+    let om = v.own s.k less in
+    let ln = s.invariant.1 in
+    omega arith
+
+pub offset_bounds-starts-j : goal.offset_bounds-starts-j
+offset_bounds-starts-j c =
+    let s = c.loop-k in
+    let less = c.loop-k-test.true in
+    let v = c.requires.taken in
+    let en = v.enough in
+    let en0 = en.0 in
+    let en1 = en.1 in
+    let en2 = v.located.starts-at.room in
+    let hd = has-weights _ _ _ _ v.located.table in
+    let jm = v.checks s.k less in
+    let om = v.own s.k less in
+    let ln = s.invariant.1 in
+    omega arith
+
+pub bounds-starts-j : goal.bounds-starts-j
+bounds-starts-j c =
+    let s = c.loop-k in
+    let less = c.loop-k-test.true in
+    let v = c.requires.taken in
+    let en = v.enough in
+    let en0 = en.0 in
+    let en1 = en.1 in
+    let en2 = v.located.starts-at.room in
+    let hd = has-weights _ _ _ _ v.located.table in
+    let jm = v.checks s.k less in
+    let om = v.own s.k less in
+    let ln = s.invariant.1 in
+    omega arith
+
+pub overflow_add-j : goal.overflow_add-j
+overflow_add-j c =
+    let s = c.loop-k in
+    let less = c.loop-k-test.true in
+    let v = c.requires.taken in
+    let en = v.enough in
+    let en0 = en.0 in
+    let en1 = en.1 in
+    let en2 = v.located.starts-at.room in
+    let hd = has-weights _ _ _ _ v.located.table in
+    let jm = v.checks s.k less in
+    let om = v.own s.k less in
+    let ln = s.invariant.1 in
+    omega arith
+
+pub offset_bounds-t-j : goal.offset_bounds-t-j
+offset_bounds-t-j c =
+    let s = c.loop-k in
+    let less = c.loop-k-test.true in
+    let v = c.requires.taken in
+    let en = v.enough in
+    let en0 = en.0 in
+    let en1 = en.1 in
+    let en2 = v.located.starts-at.room in
+    let hd = has-weights _ _ _ _ v.located.table in
+    let jm = v.checks s.k less in
+    let om = v.own s.k less in
+    let ln = s.invariant.1 in
+    omega arith
+
+pub bounds-t-j : goal.bounds-t-j
+bounds-t-j c =
+    let s = c.loop-k in
+    let less = c.loop-k-test.true in
+    let v = c.requires.taken in
+    let en = v.enough in
+    let en0 = en.0 in
+    let en1 = en.1 in
+    let en2 = v.located.starts-at.room in
+    let hd = has-weights _ _ _ _ v.located.table in
+    let jm = v.checks s.k less in
+    let om = v.own s.k less in
+    let ln = s.invariant.1 in
+    omega arith
+
+pub offset_bounds-owns-k : goal.offset_bounds-owns-k
+offset_bounds-owns-k c =
+    let s = c.loop-k in
+    let less = c.loop-k-test.true in
+    let v = c.requires.taken in
+    let en = v.enough in
+    let en0 = en.0 in
+    let en1 = en.1 in
+    let en2 = v.located.starts-at.room in
+    let hd = has-weights _ _ _ _ v.located.table in
+    let jm = v.checks s.k less in
+    let om = v.own s.k less in
+    let ln = s.invariant.1 in
+    omega arith
+
+pub bounds-owns-k : goal.bounds-owns-k
+bounds-owns-k c =
+    let s = c.loop-k in
+    let less = c.loop-k-test.true in
+    let v = c.requires.taken in
+    let en = v.enough in
+    let en0 = en.0 in
+    let en1 = en.1 in
+    let en2 = v.located.starts-at.room in
+    let hd = has-weights _ _ _ _ v.located.table in
+    let jm = v.checks s.k less in
+    let om = v.own s.k less in
+    let ln = s.invariant.1 in
+    omega arith
+
+pub push-requires : goal.push-requires
+push-requires c =
+    let s = c.loop-k in
+    let less = c.loop-k-test.true in
+    let v = c.requires.taken in
+    let en = v.enough in
+    let en0 = en.0 in
+    let en1 = en.1 in
+    let en2 = v.located.starts-at.room in
+    let hd = has-weights _ _ _ _ v.located.table in
+    let jm = v.checks s.k less in
+    let om = v.own s.k less in
+    let ln = s.invariant.1 in
+    let a = c.args in
+    let j = c.wide-j.result in
+    let jl : j < a.m = omega (arith, c.wide-j.ensures) in
+    let e1 : c.wide.result ≡ 5 + a.m + offset a.t.now j = c.wide.ensures ∙ v.located.starts-at.each j jl in
+    let e2 : c.wide-in-loop-k.result ≡ get_or a.t.now (4 + j) 0 = c.wide-in-loop-k.ensures in
+    let wide = c.requires.room in
+    (places-wide _ _ _ _ v.located.table j jl _ _ e1 e2 (length s.col) (omega arith), omega arith)
+
+pub loop-k-preserved : goal.loop-k-preserved
+loop-k-preserved c =
+    let s = c.loop-k in
+    let less = c.loop-k-test.true in
+    let v = c.requires.taken in
+    let en = v.enough in
+    let en0 = en.0 in
+    let en1 = en.1 in
+    let en2 = v.located.starts-at.room in
+    let hd = has-weights _ _ _ _ v.located.table in
+    let jm = v.checks s.k less in
+    let om = v.own s.k less in
+    let ln = s.invariant.1 in
+    let a = c.args in
+    let j = c.wide-j.result in
+    let jl : j < a.m = omega (arith, c.wide-j.ensures) in
+    let e1 : c.wide.result ≡ 5 + a.m + offset a.t.now j = c.wide.ensures ∙ v.located.starts-at.each j jl in
+    let e2 : c.wide-in-loop-k.result ≡ get_or a.t.now (4 + j) 0 = c.wide-in-loop-k.ensures in
+    (omega arith, c.col-1.given ∙ ln, λ E h. turn _ _ _ j _ _ _ _ _ E s.k (each-places _ _ _ _ v.located.table j jl) c.wide-j.ensures c.wide-in-loop-k-2.ensures e1 e2 (s.invariant.2 E h) c.push.ensures)
+
+pub shape_of-col : goal.shape_of-col
+shape_of-col c = c.loop-k.invariant.1
+
+pub returns : goal.returns
+returns c =
+    let s = c.loop-k in
+    let e : s.k ≡ c.args.taken = omega arith in
+    rw e at s.invariant.2

@@ -1,0 +1,8 @@
+-- `compose::clears` meets its contract: none set aside, or some.
+use Rattle.compose.proofs.ClearSteps.{clears-some}
+use borrow.Author.Rules.{rules}
+use Rattle.compose.proofs.clears.Goals as goal
+
+pub returns : goal.returns
+returns c =
+    clears-some c.args.taken c.args.g c.if-g-eq0.false

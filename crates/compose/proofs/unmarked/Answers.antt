@@ -1,0 +1,71 @@
+-- `compose::unmarked` meets its contract: the places that are left, one after the other.
+use mathlib.Core.Path.{◌≡◌, ap, ◌∙◌}
+use mathlib.Core.List.{[]}
+use mathlib.Core.Logic.{⊎_elim}
+use Prim.Native.Nat.{◌+◌, ◌-◌, ◌≤◌, ◌<◌}
+use native.Mathlib.Omega.{arith}
+use lib.ListN.{length}
+use Rattle.lists.specs.Lists.{below, rev, minus}
+use Rattle.emit.specs.Emit.{marked}
+use Rattle.lists.specs.WroteLaws.{Left, left-all, left_is, left_one, left-room, left-length, left-done}
+use Rattle.compose.proofs.FreePlaces.{frees, frees_all, frees-none, frees-marked, frees-next}
+use Rattle.compose.proofs.unmarked.Goals as goal
+
+pub loop-p-init : goal.loop-p-init
+loop-p-init c = (omega arith, left_is _ (left-all _ _ _) (frees_all _ _))
+
+pub bounds-plan-k : goal.bounds-plan-k
+bounds-plan-k c =
+    let a = c.args in
+    let s = c.loop-p in
+    let room : a.at + length (minus (rev (below a.n)) (marked a.used.now)) ≤ length a.plan.now = c.requires.room in
+    let r = left-room room (left_is _ s.invariant.1 (frees-next a.n a.used.now s.p c.loop-p-test.true c.if-used-p-ne1.true)) in
+    let l = left-length room s.invariant.1 in
+    omega arith
+
+pub offset_bounds-plan-k : goal.offset_bounds-plan-k
+offset_bounds-plan-k c =
+    let a = c.args in
+    let s = c.loop-p in
+    let room : a.at + length (minus (rev (below a.n)) (marked a.used.now)) ≤ length a.plan.now = c.requires.room in
+    let r : s.k < length s.plan = slice-write-plan c in
+    let l = left-length room s.invariant.1 in
+    omega arith
+
+pub overflow_add-k : goal.overflow_add-k
+overflow_add-k c =
+    let a = c.args in
+    let s = c.loop-p in
+    let room : a.at + length (minus (rev (below a.n)) (marked a.used.now)) ≤ length a.plan.now = c.requires.room in
+    let r : s.k < length s.plan = slice-write-plan c in
+    let l = left-length room s.invariant.1 in
+    omega arith
+
+pub loop-p-preserved : goal.loop-p-preserved
+loop-p-preserved c =
+    let a = c.args in
+    let s = c.loop-p in
+    let room : a.at + length (minus (rev (below a.n)) (marked a.used.now)) ≤ length a.plan.now = c.requires.room in
+    let l = s.invariant.1 in
+    let h = c.loop-p-test.true in (
+      omega arith,
+      ⊎_elim
+          (λ u. rw (u.1, u.2) (left_one room (left_is _ l (frees-next a.n a.used.now s.p h u.0.taken))))
+          (λ u. rw (u.1, u.2) (left_is _ l (frees-marked a.n a.used.now s.p h u.0.left)))
+          c.if-used-p-ne1.branch,
+    )
+
+pub shape_of-plan : goal.shape_of-plan
+shape_of-plan c =
+    let a = c.args in
+    let s = c.loop-p in
+    let room : a.at + length (minus (rev (below a.n)) (marked a.used.now)) ≤ length a.plan.now = c.requires.room in
+    left-length room s.invariant.1
+
+pub returns : goal.returns
+returns c =
+    let a = c.args in
+    let s = c.loop-p in
+    let room : a.at + length (minus (rev (below a.n)) (marked a.used.now)) ≤ length a.plan.now = c.requires.room in
+    let e : s.p ≡ a.n = omega arith in
+    left-done (left_is [] s.invariant.1 (ap (frees a.n a.used.now) e ∙ frees-none a.n a.used.now))

@@ -1,0 +1,88 @@
+-- `emit::fit_place` meets its contract: the slots that are left, bit by bit.
+use mathlib.Core.Path.{◌≡◌, sym, ap, ◌∙◌}
+use mathlib.Core.List.{map, [], ◌∷◌}
+use mathlib.Core.Logic.{⊎_elim}
+use Prim.Native.Nat.{◌+◌, ◌-◌, ◌≤◌, ◌<◌}
+use native.Mathlib.Omega.{arith}
+use lib.ListN.{length-map, length, set, length-set}
+use Rattle.plan.specs.declared.Step.TheVariants.{Clear, Add}
+use Rattle.plan.specs.Step.{pack}
+use Rattle.rule.specs.Buffers.{mask_bits}
+use Rattle.rule.specs.Rule.{slots_named}
+use Rattle.lists.specs.WroteLaws.{Left, left-all, left_is, left_one, left-room, left-length, left-done, wrote_one, wrote-append, wrote-is}
+use Rattle.emit.proofs.Slots.{named, named-all, named_none, named_in, named-out}
+use Rattle.emit.proofs.fit_place.Goals as goal
+
+pub loop-i-init : goal.loop-i-init
+loop-i-init c = (omega arith, left-all _ _ _)
+
+pub bounds-plan-k : goal.bounds-plan-k
+bounds-plan-k c =
+    let a = c.args in
+    let s = c.loop-i in
+    let all = ap length (named-all a.to a.n a.g a.row) in
+    let long = length-map (map (Add a.to) (slots_named a.n (mask_bits a.g a.row))) pack in
+    let room : a.at + 1 + length (named a.to a.n a.g a.row 0) ≤ length (set a.plan.now a.at c.pack.result) = simp length-set (omega arith) in
+    let r = left-room room (left_is _ s.invariant.1 (named_in a.to a.n a.g a.row s.i c.loop-i-test.true c.if-row-i-eq1.true)) in
+    let l = left-length room s.invariant.1 in
+    omega arith
+
+pub offset_bounds-plan-k : goal.offset_bounds-plan-k
+offset_bounds-plan-k c =
+    let a = c.args in
+    let s = c.loop-i in
+    let all = ap length (named-all a.to a.n a.g a.row) in
+    let long = length-map (map (Add a.to) (slots_named a.n (mask_bits a.g a.row))) pack in
+    let room : a.at + 1 + length (named a.to a.n a.g a.row 0) ≤ length (set a.plan.now a.at c.pack.result) = simp length-set (omega arith) in
+    let r : s.k < length s.plan = slice-write-plan-2 c in
+    let l : length s.plan ≡ length a.plan.now = left-length room s.invariant.1 ∙ simp length-set in
+    omega arith
+
+pub overflow_add-k-then-row-i-eq1 : goal.overflow_add-k-then-row-i-eq1
+overflow_add-k-then-row-i-eq1 c =
+    let a = c.args in
+    let s = c.loop-i in
+    let all = ap length (named-all a.to a.n a.g a.row) in
+    let long = length-map (map (Add a.to) (slots_named a.n (mask_bits a.g a.row))) pack in
+    let room : a.at + 1 + length (named a.to a.n a.g a.row 0) ≤ length (set a.plan.now a.at c.pack.result) = simp length-set (omega arith) in
+    let r : s.k < length s.plan = slice-write-plan-2 c in
+    let l : length s.plan ≡ length a.plan.now = left-length room s.invariant.1 ∙ simp length-set in
+    omega arith
+
+pub loop-i-preserved : goal.loop-i-preserved
+loop-i-preserved c =
+    let a = c.args in
+    let s = c.loop-i in
+    let all = ap length (named-all a.to a.n a.g a.row) in
+    let long = length-map (map (Add a.to) (slots_named a.n (mask_bits a.g a.row))) pack in
+    let room : a.at + 1 + length (named a.to a.n a.g a.row 0) ≤ length (set a.plan.now a.at c.pack.result) = simp length-set (omega arith) in
+    let l = s.invariant.1 in
+    let h = c.loop-i-test.true in (
+      omega arith,
+      ⊎_elim
+          (λ u. rw (u.2, u.3, u.1.ensures) (left_one room (left_is _ l (named_in a.to a.n a.g a.row s.i h u.0.taken))))
+          (λ u. rw (u.1, u.2) (left_is _ l (named-out a.to a.n a.g a.row s.i h u.0.left)))
+          c.if-row-i-eq1.branch,
+    )
+
+pub shape_of-plan : goal.shape_of-plan
+shape_of-plan c =
+    let a = c.args in
+    let s = c.loop-i in
+    let all = ap length (named-all a.to a.n a.g a.row) in
+    let long = length-map (map (Add a.to) (slots_named a.n (mask_bits a.g a.row))) pack in
+    let room : a.at + 1 + length (named a.to a.n a.g a.row 0) ≤ length (set a.plan.now a.at c.pack.result) = simp length-set (omega arith) in
+    left-length room s.invariant.1 ∙ simp length-set
+
+pub returns : goal.returns
+returns c =
+    let a = c.args in
+    let s = c.loop-i in
+    let all = ap length (named-all a.to a.n a.g a.row) in
+    let long = length-map (map (Add a.to) (slots_named a.n (mask_bits a.g a.row))) pack in
+    let room : a.at + 1 + length (named a.to a.n a.g a.row 0) ≤ length (set a.plan.now a.at c.pack.result) = simp length-set (omega arith) in
+    let e : s.i ≡ a.g = omega arith in
+    let one = wrote_one a.plan.now a.at c.pack.result (omega arith) in
+    let w = left-done (left_is [] s.invariant.1 (ap (named a.to a.n a.g a.row) e ∙ named_none a.to a.n a.g a.row)) in
+    let is : pack (Clear a.to) ∷ named a.to a.n a.g a.row 0 ≡ pack (Clear a.to) ∷ map pack (map (Add a.to) (slots_named a.n (mask_bits a.g a.row))) = ap (λ l. pack (Clear a.to) ∷ l) (sym (named-all a.to a.n a.g a.row)) in
+    wrote-is (rw c.pack.ensures at (wrote-append (omega arith) one w)) is

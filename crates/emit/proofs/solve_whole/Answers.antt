@@ -1,0 +1,26 @@
+-- `emit::solve_whole` meets its contract: no place is marked.
+use mathlib.Core.Path.{ap}
+use mathlib.Core.List.{map}
+use Prim.Native.Nat.{ℕ}
+use native.Mathlib.Omega.{arith}
+use lib.ListN.{length-replicate}
+use Rattle.lists.specs.Lists.{rev}
+use Rattle.table.specs.Table.{most_places}
+use Rattle.plan.specs.Step.{pack}
+use Rattle.emit.specs.Emit.{solved_in}
+use Rattle.lists.specs.WroteLaws.{wrote-is}
+use Rattle.emit.proofs.Passes.{whole_is}
+use borrow.Author.Rules.{rules}
+use Rattle.emit.proofs.solve_whole.Goals as goal
+
+pub solve_all-requires : goal.solve_all-requires
+solve_all-requires c =
+    let a = c.args in
+    let w = whole_is (rev (solved_in a.t.now a.order.now a.owns.now a.taken)) in
+    (rw w c.requires.room, (record { located = c.requires.table; all = omega (arith, length-replicate {A = ℕ} most_places 0) }, c.requires.1.1))
+
+pub returns : goal.returns
+returns c =
+    let a = c.args in
+    let w = whole_is (rev (solved_in a.t.now a.order.now a.owns.now a.taken)) in
+    wrote-is c.solve_all.ensures (ap (map pack) w)

@@ -1,0 +1,19 @@
+-- `extras` meets its contract: the rows from i on are left.
+use Prim.Native.Nat.{ℕ, ◌-◌, ◌≤◌}
+use mathlib.Core.Path.{◌≡◌, refl}
+use mathlib.Core.List.{List}
+use native.Mathlib.Omega.{arith}
+use borrow.Author.Rules.{rules}
+use borrow.Author.Tests.{not-true, not-false}
+use lib.ListN.{length}
+use Rattle.fill.specs.Fill.{State, extras}
+use Rattle.fill.specs.Held.{Rep, FilledIn}
+use Rattle.fill.proofs.Going.{Rest, rest-holds, extras-start, extras-turn, extras-stop, extras-done}
+use Rattle.fill.proofs.extras.Given as goal
+
+abbrev pub invariant-loop-i : goal.invariant-loop-i
+invariant-loop-i l =
+    (l.i ≤ l.m) × (length l.w ≡ length l.initial.w) × ((e : ℕ) (s : State) → Rep l.k l.m e l.initial.w l.raw l.left s → Rest (Rep l.k l.m e l.w l.x l.l) (extras l.k 0 l.m s) (extras l.k l.i (l.m - l.i)))
+
+abbrev pub decreases-loop-i : goal.decreases-loop-i
+decreases-loop-i l = l.m - l.i

@@ -1,0 +1,60 @@
+-- `freed::most_freed_of` meets its contract: the rest of the scan decides.
+use Rattle.table.specs.Accepted.{has-weights, few-checks, light, places-at}
+use Rattle.table.specs.Checks.{check}
+use Rattle.freed.specs.Most.{lives, most_from, twos}
+use Rattle.freed.proofs.Freed.{freed-check}
+use Rattle.freed.proofs.Most.{lives-hit, lives-miss, lives-end, most-up, most-keep}
+use Prim.Native.Nat.{◌-◌, ◌≤◌}
+use mathlib.Core.Path.{◌≡◌, refl, sym, ap, ◌∙◌}
+use mathlib.Core.Logic.{⊎_elim}
+use native.Mathlib.Omega.{arith}
+use Rattle.freed.proofs.most_freed_of.Goals as goal
+
+pub loop-i-init : goal.loop-i-init
+loop-i-init c = let e : c.args.m - 0 ≡ c.args.m = omega arith in (omega arith, rw e)
+
+pub offset_bounds-starts-i : goal.offset_bounds-starts-i
+offset_bounds-starts-i c = let f = few-checks _ _ _ _ c.requires.located.table in omega arith
+
+pub bounds-starts-i : goal.bounds-starts-i
+bounds-starts-i c = let r = c.requires.located.starts-at.room in omega arith
+
+pub overflow_add-i : goal.overflow_add-i
+overflow_add-i c = let f = few-checks _ _ _ _ c.requires.located.table in omega arith
+
+pub offset_bounds-t-i : goal.offset_bounds-t-i
+offset_bounds-t-i c = let f = few-checks _ _ _ _ c.requires.located.table in omega arith
+
+pub bounds-t-i : goal.bounds-t-i
+bounds-t-i c = let w = has-weights _ _ _ _ c.requires.located.table in omega arith
+
+pub freed_in-k-requires : goal.freed_in-k-requires
+freed_in-k-requires c =
+    let l = c.requires.located in
+    let h = c.loop-i-test.true in
+    places-at _ _ _ _ l.table _ h _ _ (c.wide.ensures ∙ l.starts-at.each _ h) c.wide-then-live-i-eq1.ensures _ refl
+
+pub overflow_add-w : goal.overflow_add-w
+overflow_add-w c =
+    let w = light _ _ _ _ c.requires.located.table _ c.loop-i-test.true in
+    omega (arith, c.freed_in-k.ensures.most, c.wide-then-live-i-eq1.ensures)
+
+pub loop-i-preserved : goal.loop-i-preserved
+loop-i-preserved c =
+    let s = c.loop-i in
+    let l = c.requires.located in
+    let h = c.loop-i-test.true in
+    ⊎_elim
+    (λ u. let k = u.5.ensures.0 ∙ freed-check _ _ _ _ l h u.2.ensures u.4.ensures in
+    (omega arith, s.invariant.1 ∙ ap (most_from _ _ _) (lives-hit _ s.i _ h u.0.taken) ∙ rw (u.7, u.8, k) (most-up _ _ s.w s.i _ (omega (arith, u.6.taken, k)))))
+    (⊎_elim
+    (λ u. let k = u.5.ensures.0 ∙ freed-check _ _ _ _ l h u.2.ensures u.4.ensures in
+    (omega arith, s.invariant.1 ∙ ap (most_from _ _ _) (lives-hit _ s.i _ h u.0.taken) ∙ rw (u.7, u.8) (most-keep _ _ s.w s.i _ (omega (arith, u.6.left, k)))))
+    (λ u. (omega arith, s.invariant.1 ∙ ap (most_from _ _ _) (lives-miss _ s.i _ h u.0.left) ∙ rw (u.1, u.2))))
+    c.if-live-i-eq1.branch
+
+pub returns : goal.returns
+returns c =
+    let s = c.loop-i in
+    let e : s.i ≡ c.args.m = omega arith in
+    sym ((rw e at s.invariant.1) ∙ lives-end _ _ _ _ _)

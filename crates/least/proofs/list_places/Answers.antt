@@ -1,0 +1,15 @@
+-- `least::list_places` meets its contract.
+use native.Mathlib.Omega.{arith}
+use borrow.Author.Rules.{rules}
+use Rattle.bits.specs.Front.{front-is}
+use Rattle.rows.specs.Leads.{leads}
+use Rattle.least.proofs.Solving.{solved-list}
+use Rattle.least.proofs.list_places.Goals as goal
+
+pub returns : goal.returns
+returns c =
+    let a = c.args in
+    let p = c.requires in
+    let few = p.room.2 in
+    let low = p.room.3 in
+    front-is c.write_places.ensures (solved-list (leads a.w.now a.owner.now) a.n a.f _ (omega arith) c.solve_set.ensures)

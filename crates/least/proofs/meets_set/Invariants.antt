@@ -1,0 +1,17 @@
+-- `least::meets_set` meets its contract: the bits below q are looked at.
+use Prim.Native.Nat.{◌-◌, ◌≤◌}
+use mathlib.Core.Path.{◌≡◌, refl, sym, ◌∙◌}
+use mathlib.Core.Logic.{⊎_elim}
+use native.Mathlib.Omega.{arith}
+use borrow.Author.Tests.{eq-eqb, ne_eqb}
+use Rattle.bits.specs.Row.{row}
+use Rattle.gf2.specs.Separate.{meets}
+use Rattle.least.specs.Solved.{in_set}
+use Rattle.least.proofs.Solving.{met, not-in-row, not-in-set}
+use Rattle.least.proofs.meets_set.Given as goal
+
+abbrev pub invariant-loop-q : goal.invariant-loop-q
+invariant-loop-q l = (l.q ≤ l.l) × (l.odd ≡ meets (in_set l.set) l.q (row l.w l.r))
+
+abbrev pub decreases-loop-q : goal.decreases-loop-q
+decreases-loop-q l = l.l - l.q

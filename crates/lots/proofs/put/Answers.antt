@@ -1,0 +1,7 @@
+-- `put` meets its contract.
+use borrow.Author.Rules.{rules}
+use Rattle.lots.proofs.Putting.{flip-puts}
+use Rattle.lots.proofs.put.Goals as goal
+
+pub returns : goal.returns
+returns c = flip-puts _ _ _ _ c.flip.ensures c.requires.3

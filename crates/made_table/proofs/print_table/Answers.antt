@@ -1,0 +1,26 @@
+-- `made_table::print_table` is safe: an accepted table has its head and its weights.
+use native.Mathlib.Omega.{arith}
+use borrow.Author.Rules.{rules}
+use Rattle.made_table.proofs.Long.{long}
+use Rattle.made_table.proofs.print_table.Goals as goal
+
+pub bounds-table-3 : goal.bounds-table-3
+bounds-table-3 c = let l = (long c.args.table.now c.requires).head in omega arith
+
+pub overflow_add-checks : goal.overflow_add-checks
+overflow_add-checks c =
+    let l = long c.args.table.now c.requires in
+    let e = c.wide-checks.ensures in
+    omega arith
+
+pub offset_bounds-table-checks : goal.offset_bounds-table-checks
+offset_bounds-table-checks c =
+    let l = long c.args.table.now c.requires in
+    let e = c.wide-checks.ensures in
+    omega arith
+
+pub bounds-table-checks : goal.bounds-table-checks
+bounds-table-checks c =
+    let l = long c.args.table.now c.requires in
+    let e = c.wide-checks.ensures in
+    omega arith

@@ -1,0 +1,25 @@
+-- `marks::tally_of` meets its contract.
+use Rattle.erasure.specs.Restoring.{tally}
+use Rattle.marks.proofs.MapLaws.{tally-hit, tally-miss, tally-end}
+use Prim.Native.Nat.{◌+◌, ◌-◌, ◌≤◌}
+use mathlib.Core.Path.{◌≡◌}
+use mathlib.Core.Logic.{⊎_elim}
+use native.Mathlib.Omega.{arith}
+use lib.ListN.{length, drop}
+use Rattle.marks.proofs.tally_of.Goals as goal
+
+pub loop-p-init : goal.loop-p-init
+loop-p-init c = (omega arith, omega arith, omega arith)
+
+pub loop-p-preserved : goal.loop-p-preserved
+loop-p-preserved c =
+    let s = c.loop-p in
+    let a = c.args in
+    let h = c.loop-p-test.true in
+    ⊎_elim
+    (λ w. let e = tally-hit a.v a.map.now s.p h w.0.taken in (omega arith, omega (arith, w.1), omega (arith, w.1)))
+    (λ w. let e = tally-miss a.v a.map.now s.p h w.0.left in (omega arith, omega (arith, w.1), omega (arith, w.1)))
+    c.if-map-p.branch
+
+pub returns : goal.returns
+returns c = let s = c.loop-p in let e = tally-end c.args.v c.args.map.now s.p c.loop-p-test.false in omega arith

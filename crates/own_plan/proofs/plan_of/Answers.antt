@@ -1,0 +1,10 @@
+-- `own_plan::plan_of` meets its contract, which is the planner's.
+use borrow.Author.Rules.{rules}
+use Rattle.own_plan.specs.Own.{lent_work}
+use Rattle.own_plan.proofs.plan_of.Goals as goal
+
+pub returns : goal.returns
+unfolding lent_work
+returns c = let p = c.plan.ensures in 
+    let q = record { answer = p.answer; plan = p.plan } in
+    record { answer = q.0; plan = q.1 }

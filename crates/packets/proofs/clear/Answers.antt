@@ -1,0 +1,19 @@
+-- `packets::clear` meets its contract: after i turns, i bytes are zero.
+use Prim.Native.Nat.{◌-◌, ◌≤◌}
+use mathlib.Core.Path.{◌≡◌, refl}
+use native.Mathlib.Omega.{arith}
+use Rattle.lists.specs.Buffers.{Patched}
+use Rattle.packets.proofs.Buffers.{none, turn, cleared}
+use Rattle.packets.proofs.clear.Goals as goal
+
+pub loop-i-init : goal.loop-i-init
+loop-i-init c = (omega arith, none _ _ _)
+
+pub loop-i-preserved : goal.loop-i-preserved
+loop-i-preserved c = (omega arith, turn 0 c.loop-i.invariant.1 (omega arith) refl)
+
+pub shape_of-b : goal.shape_of-b
+shape_of-b c = c.loop-i.invariant.1.len
+
+pub returns : goal.returns
+returns c = let e : c.loop-i.i ≡ c.args.s = omega arith in cleared _ _ _ _ c.requires (rw e at c.loop-i.invariant.1)

@@ -1,0 +1,19 @@
+-- `plan_text::put_number` meets its contract: a number that is no step has no line.
+use mathlib.Core.Path.{sym, ◌∙◌}
+use native.Mathlib.Omega.{arith}
+use borrow.Author.Rules.{rules}
+use Rattle.plan.specs.Step.{unpack}
+use Rattle.text.specs.LinesLaws.{nothing_put}
+use Rattle.plan_text.proofs.Turns.{is-step, no_step}
+use Rattle.plan_text.proofs.put_number.Goals as goal
+
+pub put_step-requires : goal.put_step-requires
+put_step-requires c = rw (is-step (unpack c.args.word) _ (sym c.unpack.ensures ∙ c.x-1.given.1)) at c.requires
+
+pub returns-in-Valid : goal.returns-in-Valid
+returns-in-Valid c = rw (is-step (unpack c.args.word) _ (sym c.unpack.ensures ∙ c.x-1.given.1)) c.put_step.ensures
+
+pub returns-in-Invalid : goal.returns-in-Invalid
+returns-in-Invalid c =
+    let e = no_step (unpack c.args.word) c.unpack.ensures c.enum_told-1.given.1 in
+    rw e (nothing_put _ _ (omega (arith, rw e at c.requires)))

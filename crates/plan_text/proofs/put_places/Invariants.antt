@@ -1,0 +1,20 @@
+-- `plan_text::put_places` meets its contract: the places of the second line, one after the other.
+use mathlib.Core.List.{◌++◌, map}
+use Prim.Native.Nat.{◌+◌, ◌-◌, ◌≤◌}
+use native.Mathlib.Omega.{arith}
+use borrow.Author.Rules.{rules}
+use lib.ListN.{drop}
+use Rattle.plan.specs.Layout.{info_count, info_in}
+use Rattle.plan.specs.LayoutLaws.{well, info-length}
+use Rattle.numerals.specs.Numerals.{decimal}
+use Rattle.text.specs.Lines.{bytes, words_after_blanks}
+use Rattle.text.specs.LinesLaws.{Left, left-all, left-room, left-next, left-last}
+use Rattle.plan_text.proofs.Turns.{next_place, last-place}
+use Rattle.plan_text.proofs.put_places.Given as goal
+
+abbrev pub invariant-loop-k : goal.invariant-loop-k
+invariant-loop-k l = (k ≤ info_count l.plan)
+    × Left l.initial.out l.initial.end (words_after_blanks (map decimal (info_in l.plan))) l.k end (words_after_blanks (map decimal (drop k (info_in l.plan))))
+
+abbrev pub decreases-loop-k : goal.decreases-loop-k
+decreases-loop-k l = info_count l.plan - k

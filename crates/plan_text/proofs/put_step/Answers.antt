@@ -1,0 +1,15 @@
+-- `plan_text::put_step` meets its contract: by the kind of step.
+use borrow.Author.Rules.{rules}
+use Rattle.plan_text.proofs.put_step.Goals as goal
+
+pub put_line-requires : goal.put_line-requires
+put_line-requires c = rw c.x-1.given.1 at c.requires
+
+pub put_add-requires : goal.put_add-requires
+put_add-requires c = rw c.x-in-Add-1.given.1 at c.requires
+
+pub returns-in-Clear : goal.returns-in-Clear
+returns-in-Clear c = rw c.x-1.given.1 c.put_line.ensures
+
+pub returns-in-Add : goal.returns-in-Add
+returns-in-Add c = rw c.x-in-Add-1.given.1 c.put_add.ensures

@@ -1,0 +1,10 @@
+-- `reason_file::by_table` is safe: the words that were read lie within the table's buffer.
+use borrow.Author.Rules.{rules}
+use Rattle.text.specs.Files.{read_count}
+use Rattle.reason_file.proofs.by_table.Goals as goal
+
+pub slice_bounds-words-end : goal.slice_bounds-words-end
+slice_bounds-words-end c = (read_count _ c.read_table.ensures c.n-1.given.1).0
+
+pub slice_bounds-explain_files-end : goal.slice_bounds-explain_files-end
+slice_bounds-explain_files-end c = (read_count _ c.read_table.ensures c.n-1.given.1).1

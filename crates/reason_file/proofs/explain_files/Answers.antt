@@ -1,0 +1,24 @@
+-- `reason_file::explain_files` is safe: what was read lies within the buffers.
+use borrow.Author.Rules.{rules}
+use Rattle.text.specs.Files.{read_count}
+use Rattle.reason_file.proofs.explain_files.Goals as goal
+
+pub slice_bounds-block-end : goal.slice_bounds-block-end
+slice_bounds-block-end c =
+    let r = c.read_argument in
+    (read_count _ r.ensures c.bytes-1.given.1).0
+
+pub slice_bounds-explain_place-end : goal.slice_bounds-explain_place-end
+slice_bounds-explain_place-end c =
+    let r = c.read_argument in
+    (read_count _ r.ensures c.bytes-1.given.1).1
+
+pub slice_bounds-map-end : goal.slice_bounds-map-end
+slice_bounds-map-end c =
+    let r = c.read_argument-2 in
+    (read_count _ r.ensures c.places-1.given.1).0
+
+pub slice_bounds-explain_place-end-2 : goal.slice_bounds-explain_place-end-2
+slice_bounds-explain_place-end-2 c =
+    let r = c.read_argument-2 in
+    (read_count _ r.ensures c.places-1.given.1).1

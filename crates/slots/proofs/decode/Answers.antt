@@ -1,0 +1,12 @@
+-- `slots::decode` meets its contract: by what the number is decoded to.
+use mathlib.Core.Path.{sym, ◌∙◌}
+use Rattle.plan.specs.Step.{unpack}
+use Rattle.slots.proofs.StepLaws.{decoded-valid, decoded-invalid}
+use borrow.Author.Rules.{rules}
+use Rattle.slots.proofs.decode.Goals as goal
+
+pub returns-in-Valid : goal.returns-in-Valid
+returns-in-Valid c = decoded-valid (unpack c.args.word) _ (sym c.unpack.ensures ∙ c.x-1.given.1)
+
+pub returns-in-Invalid : goal.returns-in-Invalid
+returns-in-Invalid c = decoded-invalid (unpack c.args.word) (sym c.unpack.ensures ∙ c.enum_told-1.given.1)

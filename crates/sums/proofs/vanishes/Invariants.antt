@@ -1,0 +1,18 @@
+-- `sums::vanishes` meets its contract: where all bytes or-ed are zero, the bytes of the sum passed are.
+use Prim.Native.Nat.{◌+◌, ◌-◌, ◌≤◌}
+use mathlib.Core.Path.{◌≡◌, refl, sym, ◌∙◌}
+use mathlib.Core.Bool.{false≢true}
+use native.Mathlib.Omega.{arith}
+use borrow.Author.Tests.{eqb-true}
+use borrow.Author.Rules.{rules}
+use lib.ListN.{length, take, drop}
+use Rattle.table.specs.Packets.{lowest_nonzero, packets, packet_sum}
+use Rattle.table.specs.SumLaws.{sum-length}
+use Rattle.sums.proofs.Sums.{passed}
+use Rattle.sums.proofs.vanishes.Given as goal
+
+abbrev pub invariant-loop-i : goal.invariant-loop-i
+invariant-loop-i l = (l.i ≤ l.s) × ((length l.o ≡ 64) × (lowest_nonzero l.o ≡ 64 → lowest_nonzero (packet_sum l.s (packets l.s l.n l.block) (take l.weight (drop l.at l.t))) ≡ l.i + lowest_nonzero (drop l.i (packet_sum l.s (packets l.s l.n l.block) (take l.weight (drop l.at l.t))))))
+
+abbrev pub decreases-loop-i : goal.decreases-loop-i
+decreases-loop-i l = l.s - l.i

@@ -1,0 +1,16 @@
+-- `fill_starts` meets its contract: the starts written so far, and the start of the next check.
+use mathlib.Core.Path.{◌≡◌, refl}
+use Prim.Native.Nat.{◌+◌, ◌-◌, ◌≤◌}
+use native.Mathlib.Omega.{arith}
+use lib.ListN.{length, get_or, length-set}
+use Rattle.table.specs.Checks.{offset}
+use Rattle.table.specs.Accepted.{few-checks, has-weights}
+use Rattle.table.specs.ChecksLaws.{offset-none, offset-more}
+use Rattle.table.proofs.Starting.{Written, written-more, start_fits}
+use Rattle.table.proofs.fill_starts.Given as goal
+
+abbrev pub invariant-loop-j : goal.invariant-loop-j
+invariant-loop-j l = (l.j ≤ l.m) × (l.at ≡ 5 + l.m + offset l.t l.j) × (length l.starts ≡ length l.initial.starts) × Written l.t l.m l.j l.starts
+
+abbrev pub decreases-loop-j : goal.decreases-loop-j
+decreases-loop-j l = l.m - l.j

@@ -1,0 +1,15 @@
+-- `rises` meets its contract: the places left, and the least that the next may be, decide.
+use mathlib.Core.Path.{◌≡◌, refl, sym, ap, ◌∙◌}
+use Prim.Native.Nat.{◌+◌, ◌-◌, ◌≤◌}
+use native.Mathlib.Omega.{arith}
+use borrow.Author.Tests.{le-leb}
+use lib.ListN.{take, drop}
+use Rattle.table.specs.Table.{rising}
+use Rattle.table.proofs.Looking.{part, part-all, part_none, part-cons, rest, rest-low, rest-on, rest-none}
+use Rattle.table.proofs.rises.Given as goal
+
+abbrev pub invariant-loop-i : goal.invariant-loop-i
+invariant-loop-i l = (l.at ≤ l.i) × (l.i ≤ l.at + l.weight) × (rising l.n 0 (take l.weight (drop l.at l.t)) ≡ rest l.n l.low (part l.t l.i (l.at + l.weight)))
+
+abbrev pub decreases-loop-i : goal.decreases-loop-i
+decreases-loop-i l = l.at + l.weight - l.i

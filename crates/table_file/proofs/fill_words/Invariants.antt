@@ -1,0 +1,17 @@
+-- `table_file::fill_words` meets its contract. The loop's invariant: the first i words are the file's.
+use mathlib.Core.Path.{◌≡◌, refl, sym, ◌∙◌}
+use Prim.Native.Nat.{ℕ, ◌+◌, ◌-◌, ◌*◌, ◌≤◌, ◌<◌}
+use native.Mathlib.Omega.{arith}
+use borrow.Author.Count.{below_more}
+use lib.ListN.{length, get_or, length-set}
+use lib.Seq.{get_or-set_same, get_or-set_other, ext_get_or}
+use Rattle.table_file.specs.Words.{words_of}
+use Rattle.table_file.specs.WordsLaws.{words-length}
+use Rattle.table_file.proofs.Laws.{words-at}
+use Rattle.table_file.proofs.fill_words.Given as goal
+
+abbrev pub invariant-loop-i : goal.invariant-loop-i
+invariant-loop-i l = (l.i ≤ length l.words) × (length l.words ≡ length l.initial.words) × ((k : ℕ) → k < l.i → get_or l.words k 0 ≡ get_or l.file (2 * k) 0 + get_or l.file (2 * k + 1) 0 * 256)
+
+abbrev pub decreases-loop-i : goal.decreases-loop-i
+decreases-loop-i l = length l.initial.words - l.i

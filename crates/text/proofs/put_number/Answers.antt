@@ -1,0 +1,18 @@
+-- `text::put_number` meets its contract: the digits are appended.
+use mathlib.Core.Path.{◌∙◌}
+use borrow.Author.Rules.{rules}
+use Rattle.text.specs.LinesLaws.{same_word}
+use Rattle.text.proofs.Laws.{number_digits}
+use Rattle.text.proofs.put_number.Goals as goal
+
+pub put-requires : goal.put-requires
+put-requires c =
+    let d = c.decimal-k in
+    let e = d.ensures.1.1 ∙ number_digits d.result _ c.ranges.x.fits d.ensures.1.0 in
+    rw e c.requires
+
+pub returns : goal.returns
+returns c =
+    let d = c.decimal-k in
+    let x = c.ranges.x.fits in
+    same_word (d.ensures.1.1 ∙ number_digits d.result _ x d.ensures.1.0) c.put.ensures

@@ -1,0 +1,21 @@
+-- `text::read_into` meets its contract: what is read lies within the buffer, and each turn reads at least a byte.
+use mathlib.Core.Path.{◌≡◌, sym}
+use Prim.Native.Nat.{◌-◌, ◌≤◌}
+use native.Mathlib.Omega.{arith}
+use borrow.Author.Rules.{rules}
+use lib.Seq.{length-take-le}
+use lib.ListN.{length}
+use Rattle.text.specs.Files.{read_count}
+use Rattle.text.proofs.read_into.Goals as goal
+
+pub returns-then-more-eq0 : goal.returns-then-more-eq0
+returns-then-more-eq0 c = (omega arith, sym (length-take-le _ _ (omega arith)))
+
+pub overflow_add-n : goal.overflow_add-n
+overflow_add-n c = let m = read_count _ c.read_some.ensures c.more-1.given.1 in omega (arith, m.0)
+
+pub loop-n-preserved : goal.loop-n-preserved
+loop-n-preserved c = let m = read_count _ c.read_some.ensures c.more-1.given.1 in omega (arith, m.0)
+
+pub returns : goal.returns
+returns c = (omega arith, sym (length-take-le _ _ (omega arith)))

@@ -1,0 +1,14 @@
+-- `text::read_table` meets its contract: the words stand at the start of the buffer.
+use borrow.Author.Rules.{rules}
+use Rattle.table_file.specs.WordsLaws.{words-within}
+use Rattle.text.specs.Files.{read_count}
+use Rattle.text.proofs.read_table.Goals as goal
+
+pub slice_bounds-file-end : goal.slice_bounds-file-end
+slice_bounds-file-end c = (read_count _ c.read_start.ensures c.n-1.given.1).0
+
+pub slice_bounds-words_in-end : goal.slice_bounds-words_in-end
+slice_bounds-words_in-end c = (read_count _ c.read_start.ensures c.n-1.given.1).1
+
+pub returns : goal.returns
+returns c = words-within _ c.args.words.now c.requires c.words_in.ensures.answer c.words_in.ensures.words c.n-in-Count-words_in-1.given.1

@@ -1,0 +1,10 @@
+-- `text::read_whole` meets its contract: what was read lies within the buffer.
+use borrow.Author.Rules.{rules}
+use Rattle.text.specs.Files.{read_count}
+use Rattle.text.proofs.read_whole.Goals as goal
+
+pub returns-then-n-buf : goal.returns-then-n-buf
+returns-then-n-buf c = read_count _ c.read_into.ensures c.n-1.given.1
+
+pub returns : goal.returns
+returns c = read_count _ c.read_into.ensures c.n-1.given.1

@@ -1,0 +1,41 @@
+-- `tracing::take_check` meets its contract.
+use mathlib.Core.Path.{sym, ap, ◌∙◌, subst}
+use mathlib.Core.List.{map}
+use lib.ListN.{take, drop}
+use borrow.Author.Rules.{rules}
+use Rattle.bits.specs.Front.{front-room, front-taken}
+use Rattle.bits.specs.RowLaws.{put_is}
+use Rattle.gf2.specs.Gf2.{row_of}
+use Rattle.rows.specs.LeadsLaws.{lowered-as, put-reducible, put-path}
+use Rattle.reasons.specs.Mirror.{mirror_row, mirror-short}
+use Rattle.table.specs.SumLaws.{places-low}
+use Rattle.tracing.specs.Tracing.{number_in, Led}
+use Rattle.tracing.specs.TracingLaws.{path-led}
+use Rattle.tracing.proofs.take_check.Goals as goal
+
+pub load_lost-requires : goal.load_lost-requires
+load_lost-requires c = let p = c.requires in (p.rows.0, p.check.0, p.check.1, p.rows.2)
+
+pub reduce-r-requires : goal.reduce-r-requires
+reduce-r-requires c =
+    let a = c.args in
+    let p = c.requires in
+    record { rows = put-reducible p.rows.7 c.load_lost.ensures a.n (mirror-short a.n a.lost.now (places-low p.check.0)) p.rows.0 p.rows.2 p.rows.3; room = p.rows.4 }
+
+pub note_feeders-requires : goal.note_feeders-requires
+note_feeders-requires c =
+    let a = c.args in
+    let p = c.requires in
+    let x = mirror_row a.n a.lost.now (take a.weight (drop a.at a.t.now)) in
+    let f = c.reduce-r.ensures.path in
+    let is = front-taken f ∙ put-path p.rows.7 c.load_lost.ensures a.n in
+    record { room = (p.rows.1, front-room f); led = subst (Led a.owner.now) (sym is) (path-led a.w.now a.owner.now p.rows.6 a.n x p.rows.3 p.rows.5) }
+
+pub returns : goal.returns
+returns c =
+    let a = c.args in
+    let p = c.requires in
+    let d = c.load_lost.ensures in
+    let r = c.reduce-r.ensures in 
+    let q = record { row = lowered-as p.rows.7 d r.row; feeders = put_is c.note_feeders.ensures (ap (λ ps. row_of (map (number_in a.owner.now) ps)) (front-taken r.path ∙ put-path p.rows.7 d a.n)) } in
+    record { row = q.0; feeders = q.1 }

@@ -1,0 +1,29 @@
+-- `turns::restore_one` meets its contract.
+use Rattle.table.specs.Checks.{Places}
+use Rattle.table.specs.SumLaws.{places-in}
+use Rattle.turns.proofs.Turning.{lost-place-in}
+use Prim.Native.Nat.{◌-◌}
+use mathlib.Core.Path.{sym, ◌∙◌, subst}
+use native.Mathlib.Omega.{arith}
+use lib.ListN.{take, drop}
+use borrow.Author.Rules.{rules}
+use Rattle.turns.proofs.restore_one.Goals as goal
+
+pub first_lost-p-requires : goal.first_lost-p-requires
+first_lost-p-requires c = let p = c.requires in subst (λ k. Places c.args.t.now c.args.at c.args.weight k) (sym p.2) p.0
+
+pub restore-requires : goal.restore-requires
+restore-requires c =
+    let p = c.requires in
+    let a = c.args in
+    (places-in _ _ _ _ _ _ p.0 p.1, lost-place-in a.map.now (take a.weight (drop a.at a.t.now)) _ _ p.2 p.3 c.first_lost-p.ensures)
+
+pub bounds-map-p : goal.bounds-map-p
+bounds-map-p c =
+    let p = c.requires in
+    let a = c.args in
+    let h = lost-place-in a.map.now (take a.weight (drop a.at a.t.now)) _ _ p.2 p.3 c.first_lost-p.ensures in
+    omega arith
+
+pub returns : goal.returns
+returns c = let e = c.first_lost-p.ensures in (e, record { block-is = c.restore.ensures ∙ rw e; map_is = rw e })

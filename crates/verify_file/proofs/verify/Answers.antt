@@ -1,0 +1,10 @@
+-- `verify_file::verify` is safe: the bytes that were read lie within the block's buffer.
+use borrow.Author.Rules.{rules}
+use Rattle.text.specs.Files.{read_count}
+use Rattle.verify_file.proofs.verify.Goals as goal
+
+pub slice_bounds-block-end : goal.slice_bounds-block-end
+slice_bounds-block-end c = (read_count _ c.read_argument.ensures c.n-1.given.1).0
+
+pub slice_bounds-verify-end : goal.slice_bounds-verify-end
+slice_bounds-verify-end c = (read_count _ c.read_argument.ensures c.n-1.given.1).1
