@@ -54,6 +54,5 @@ pub shape_of-map3 : goal.shape_of-map3
 shape_of-map3 c = c.loop-p.invariant.1.sized.marks ∙ sym c.requires.2.marks
 
 pub returns : goal.returns
-returns c = let l = c.loop-p in 
-    let q = record { block = block-filled _ _ _ _ _ _ l.p l.block3 l.map3 l.invariant.1 (omega arith); kinds = map-filled _ _ _ _ _ _ l.p l.block3 l.map3 l.invariant.1 (omega arith) } in
-    record { block = q.0; kinds = q.1 }
+returns c = let l = c.loop-p in
+    record { block = block-filled _ _ _ _ _ _ l.p l.block3 l.map3 l.invariant.1 (omega arith); kinds = map-filled _ _ _ _ _ _ l.p l.block3 l.map3 l.invariant.1 (omega arith) }

@@ -37,8 +37,7 @@ pub shape_of-board-then-not-is_blank : goal.shape_of-board-then-not-is_blank
 shape_of-board-then-not-is_blank c = let s = c.loop-c in c.flip_lists.ensures.len ∙ c.flip_lists-ends.ensures.len ∙ s.invariant.1
 
 pub returns-then-not-is_blank : goal.returns-then-not-is_blank
-returns-then-not-is_blank c = let s = c.loop-c in let a = c.args in 
-    let q = record { len = c.flip_lists.ensures.len ∙ c.flip_lists-ends.ensures.len ∙ s.invariant.1; agrees = λ z ws l vs q g h.
+returns-then-not-is_blank c = let s = c.loop-c in let a = c.args in record { len = c.flip_lists.ensures.len ∙ c.flip_lists-ends.ensures.len ∙ s.invariant.1; agrees = λ z ws l vs q g h.
       let y = s.invariant.3 z ws l vs q g h in
       let e = c.lesser-span.ensures in
       let sub = lists-from g s.c c.lesser-span.result (omega arith) y.0 y.1 in
@@ -50,8 +49,7 @@ returns-then-not-is_blank c = let s = c.loop-c in let a = c.args in
               (band-tile a.r a.k s.c c.lesser-span.result (list_at a.a ws l) (list_at a.a (drop s.c ws) (after s.c a.a l)) (list_at a.b vs q) (λ j. list-from s.c j a.a ws l) a.n (omega arith) p))) ∙ not-true _ c.if-not-is_blank.true-raw));
         },
         λ t. absurd (false≢true t),
-      ) } in
-    record { len = q.0; agrees = q.1 }
+      ) }
 
 pub overflow_add-c : goal.overflow_add-c
 overflow_add-c c = let e = c.lesser-span.ensures in omega arith
@@ -81,6 +79,4 @@ pub shape_of-board : goal.shape_of-board
 shape_of-board c = c.loop-c.invariant.1
 
 pub returns : goal.returns
-returns c = let s = c.loop-c in let a = c.args in 
-    let q = record { len = s.invariant.1; agrees = λ z ws l vs q g h. (record { yes = λ t i j p r. (s.invariant.3 z ws l vs q g h).2 i j p (omega arith); no = λ p. refl }, λ t. s.invariant.2 z) } in
-    record { len = q.0; agrees = q.1 }
+returns c = let s = c.loop-c in let a = c.args in record { len = s.invariant.1; agrees = λ z ws l vs q g h. (record { yes = λ t i j p r. (s.invariant.3 z ws l vs q g h).2 i j p (omega arith); no = λ p. refl }, λ t. s.invariant.2 z) }

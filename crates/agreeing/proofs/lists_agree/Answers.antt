@@ -32,8 +32,7 @@ pub shape_of-board-then-not-band_agrees : goal.shape_of-board-then-not-band_agre
 shape_of-board-then-not-band_agrees c = c.band_agrees.ensures.len ∙ c.loop-r.invariant.1
 
 pub returns-then-not-band_agrees : goal.returns-then-not-band_agrees
-returns-then-not-band_agrees c = let s = c.loop-r in let a = c.args in 
-    let q = record { len = c.band_agrees.ensures.len ∙ s.invariant.1; agrees = λ z ws l vs q g h.
+returns-then-not-band_agrees c = let s = c.loop-r in let a = c.args in record { len = c.band_agrees.ensures.len ∙ s.invariant.1; agrees = λ z ws l vs q g h.
       let y = s.invariant.2 z ws l vs q g h in
       let e = c.lesser-k.ensures in
       let sub = lists-from h s.r c.lesser-k.result (omega arith) y.1 y.2 in
@@ -43,8 +42,7 @@ returns-then-not-band_agrees c = let s = c.loop-r in let a = c.args in
           no = λ p. absurd (true≢false (sym (d.0.no (rows-band a.n s.r c.lesser-k.result a.m (list_at a.a ws l) (list_at a.b vs q) (list_at a.b (drop s.r vs) (after s.r a.b q)) (λ i. list-from s.r i a.b vs q) (omega arith) p)) ∙ not-true _ c.if-not-band_agrees.true-raw));
         },
         λ t. absurd (false≢true t),
-      ) } in
-    record { len = q.0; agrees = q.1 }
+      ) }
 
 pub skip_numbers-weight-requires : goal.skip_numbers-weight-requires
 skip_numbers-weight-requires c = tt
@@ -85,6 +83,4 @@ pub shape_of-board : goal.shape_of-board
 shape_of-board c = c.loop-r.invariant.1
 
 pub returns : goal.returns
-returns c = let s = c.loop-r in let a = c.args in 
-    let q = record { len = s.invariant.1; agrees = λ z ws l vs q g h. let y = s.invariant.2 z ws l vs q g h in (record { yes = λ t i j p r. y.3 i j (omega arith) r; no = λ p. refl }, λ t. y.0) } in
-    record { len = q.0; agrees = q.1 }
+returns c = let s = c.loop-r in let a = c.args in record { len = s.invariant.1; agrees = λ z ws l vs q g h. let y = s.invariant.2 z ws l vs q g h in (record { yes = λ t i j p r. y.3 i j (omega arith) r; no = λ p. refl }, λ t. y.0) }

@@ -30,8 +30,7 @@ pub shape_of-board-then-not-list : goal.shape_of-board-then-not-list
 shape_of-board-then-not-list c = c.good_list-list.ensures.len ∙ c.loop-i.invariant.1
 
 pub returns-then-not-list : goal.returns-then-not-list
-returns-then-not-list c = let s = c.loop-i in let a = c.args in 
-    let q = record { len = c.good_list-list.ensures.len ∙ s.invariant.1; good = λ z ws l g.
+returns-then-not-list c = let s = c.loop-i in let a = c.args in record { len = c.good_list-list.ensures.len ∙ s.invariant.1; good = λ z ws l g.
       let y = s.invariant.2 z ws l g in
       let x = weight_is g s.i (omega arith) c.read-spot.ensures y.1 in
       let w = weight-within g s.i _ (omega arith) x in
@@ -41,8 +40,7 @@ returns-then-not-list c = let s = c.loop-i in let a = c.args in
             (λ t. absurd (true≢false (sym (good-each a.most a.count a.width ws l g.enough t s.i (omega arith)) ∙ sym f ∙ sym d.0 ∙ not-true _ c.if-not-list.true)))
             (λ t. sym t),
         λ t. absurd (false≢true t),
-      ) } in
-    record { len = q.0; good = q.1 }
+      ) }
 
 pub loop-i-preserved : goal.loop-i-preserved
 loop-i-preserved c = let s = c.loop-i in let a = c.args in (
@@ -69,6 +67,4 @@ pub shape_of-board : goal.shape_of-board
 shape_of-board c = c.loop-i.invariant.1
 
 pub returns : goal.returns
-returns c = let s = c.loop-i in let a = c.args in 
-    let q = record { len = s.invariant.1; good = λ z ws l g. let y = s.invariant.2 z ws l g in (sym (good-all a.most a.count a.width ws l g.enough (λ k h. y.3 k (omega arith))), λ t. y.0) } in
-    record { len = q.0; good = q.1 }
+returns c = let s = c.loop-i in let a = c.args in record { len = s.invariant.1; good = λ z ws l g. let y = s.invariant.2 z ws l g in (sym (good-all a.most a.count a.width ws l g.enough (λ k h. y.3 k (omega arith))), λ t. y.0) }

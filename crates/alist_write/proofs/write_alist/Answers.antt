@@ -6,6 +6,5 @@ use Rattle.alist_write.proofs.write_alist.Goals as goal
 
 pub returns-then-refusal-ne0 : goal.returns-then-refusal-ne0
 returns-then-refusal-ne0 c =
-    let x = answer-refused c.args.t.now c.args.text.now _ c.look_over-refusal.ensures c.if-refusal-ne0.true in 
-    let q = record { answer = c.refused.ensures ∙ x.0; text = x.1 } in
-    record { answer = q.0; text = q.1 }
+    let x = answer-refused c.args.t.now c.args.text.now _ c.look_over-refusal.ensures c.if-refusal-ne0.true in
+    record { answer = c.refused.ensures ∙ x.0; text = x.1 }

@@ -21,15 +21,13 @@ pub returns-then-try_place : goal.returns-then-try_place
 returns-then-try_place c =
     let a = c.args in
     let e = c.try_place.ensures in
-    let f = c.try_place-then-try_place.ensures in 
-    let q = record { suspect = f.suspect ∙ ap (λ l. suspect a.t.now a.block.now l a.p) e.map; block = f.block; map = f.map ∙ e.map; column = e.block } in
-    record { suspect = q.0; block = q.1.0; map = q.1.1.0; column = q.1.1.1 }
+    let f = c.try_place-then-try_place.ensures in
+    record { suspect = f.suspect ∙ ap (λ l. suspect a.t.now a.block.now l a.p) e.map; block = f.block; map = f.map ∙ e.map; column = e.block }
 
 pub returns : goal.returns
 returns c =
     let a = c.args in
     let p = c.requires in
     let e = c.try_place.ensures in
-    let w = p.narrow in 
-    let q = record { suspect = none-narrow a.t.now a.m a.n a.s p.table a.block.now a.small.now a.column.now w a.map.now p.block a.p p.place (sym c.if-try_place.false ∙ e.suspect); block = refl; map = e.map; column = e.block } in
-    record { suspect = q.0; block = q.1.0; map = q.1.1.0; column = q.1.1.1 }
+    let w = p.narrow in
+    record { suspect = none-narrow a.t.now a.m a.n a.s p.table a.block.now a.small.now a.column.now w a.map.now p.block a.p p.place (sym c.if-try_place.false ∙ e.suspect); block = refl; map = e.map; column = e.block }

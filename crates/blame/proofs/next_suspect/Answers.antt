@@ -30,9 +30,8 @@ returns-then-is_suspect c =
     let l = c.loop-p in
     let a = c.args in
     let e = c.is_suspect.ensures in
-    let found = tried_same a.t.now a.n a.s _ _ _ _ l.invariant.0 l.invariant.1 l.p _ _ e.suspect c.if-is_suspect.true in 
-    let q = record { next = stop-at (suspect a.t.now a.block.now a.map.now) a.first a.n l.p l.invariant.3 c.loop-p-test.true found; block = e.block ∙ l.invariant.0; map = e.map ∙ l.invariant.1; column = e.column ∙ l.invariant.2 } in
-    record { next = q.0; block = q.1.0; map = q.1.1.0; column = q.1.1.1 }
+    let found = tried_same a.t.now a.n a.s _ _ _ _ l.invariant.0 l.invariant.1 l.p _ _ e.suspect c.if-is_suspect.true in
+    record { next = stop-at (suspect a.t.now a.block.now a.map.now) a.first a.n l.p l.invariant.3 c.loop-p-test.true found; block = e.block ∙ l.invariant.0; map = e.map ∙ l.invariant.1; column = e.column ∙ l.invariant.2 }
 
 pub loop-p-preserved : goal.loop-p-preserved
 loop-p-preserved c =
@@ -55,6 +54,5 @@ pub returns : goal.returns
 returns c =
     let l = c.loop-p in
     let a = c.args in
-    let end = c.loop-p-test.false in 
-    let q = record { next = stop-at-end (suspect a.t.now a.block.now a.map.now) a.first a.n l.p l.invariant.3 (omega arith); block = l.invariant.0; map = l.invariant.1; column = l.invariant.2 } in
-    record { next = q.0; block = q.1.0; map = q.1.1.0; column = q.1.1.1 }
+    let end = c.loop-p-test.false in
+    record { next = stop-at-end (suspect a.t.now a.block.now a.map.now) a.first a.n l.p l.invariant.3 (omega arith); block = l.invariant.0; map = l.invariant.1; column = l.invariant.2 }

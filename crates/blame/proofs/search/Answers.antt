@@ -27,9 +27,8 @@ pub returns-then-p-n : goal.returns-then-p-n
 returns-then-p-n c =
     let a = c.args in
     let f = suspect a.t.now a.block.now a.map.now in
-    let e = c.next_suspect-p.ensures in 
-    let q = record { only = none_found f a.n _ e.next c.if-p-n.true ∙ ap (λ k. only_one (filter f (from 0 k))) c.requires.table.places-are; block = e.block; map = e.map } in
-    record { only = q.0; block = q.1.0; map = q.1.1 }
+    let e = c.next_suspect-p.ensures in
+    record { only = none_found f a.n _ e.next c.if-p-n.true ∙ ap (λ k. only_one (filter f (from 0 k))) c.requires.table.places-are; block = e.block; map = e.map }
 
 pub next_suspect-q-requires : goal.next_suspect-q-requires
 next_suspect-q-requires c =
@@ -46,9 +45,8 @@ returns-then-q-n c =
     let g = c.next_suspect-q.ensures in
     let most = e.next.most in
     let some = c.if-p-n.false in
-    let next = next-same a.t.now a.n a.s _ _ _ _ e.block e.map _ _ g.next in 
-    let q = record { only = two-found f a.n _ _ e.next (omega arith) next (let more = c.if-q-n.true in omega arith) ∙ ap (λ k. only_one (filter f (from 0 k))) c.requires.table.places-are; block = g.block ∙ e.block; map = g.map ∙ e.map } in
-    record { only = q.0; block = q.1.0; map = q.1.1 }
+    let next = next-same a.t.now a.n a.s _ _ _ _ e.block e.map _ _ g.next in
+    record { only = two-found f a.n _ _ e.next (omega arith) next (let more = c.if-q-n.true in omega arith) ∙ ap (λ k. only_one (filter f (from 0 k))) c.requires.table.places-are; block = g.block ∙ e.block; map = g.map ∙ e.map }
 
 pub returns : goal.returns
 returns c =
@@ -60,6 +58,5 @@ returns c =
     let some = c.if-p-n.false in
     let end = c.if-q-n.false in
     let all = g.next.most in
-    let next = next-same a.t.now a.n a.s _ _ _ _ e.block e.map _ _ g.next in 
-    let q = record { only = one_found f a.n _ _ e.next (omega arith) next (omega arith) ∙ ap (λ k. only_one (filter f (from 0 k))) c.requires.table.places-are; block = g.block ∙ e.block; map = g.map ∙ e.map } in
-    record { only = q.0; block = q.1.0; map = q.1.1 }
+    let next = next-same a.t.now a.n a.s _ _ _ _ e.block e.map _ _ g.next in
+    record { only = one_found f a.n _ _ e.next (omega arith) next (omega arith) ∙ ap (λ k. only_one (filter f (from 0 k))) c.requires.table.places-are; block = g.block ∙ e.block; map = g.map ∙ e.map }

@@ -73,6 +73,5 @@ returns c =
     let a = c.args in let p = c.requires in let w = a.plan.now in let s = a.s in let l = c.loop-k in let I = info_in w in
     let past : length I ≤ l.k = omega (arith, info-length w (well w p.formed), c.info_count-count.ensures) in
     let same = sym (ap joined (l.invariant.2 ∙ ap (λ (is : List ℕ). with_packets (packets s (plan_places w) l.block) is (drop l.k (packets s (info_count w) a.information.now))) (drop_of_length-le I past))
-    ∙ packets-joined s (plan_places w) l.block (l.invariant.1 ∙ p.block)) in 
-    let q = record { copied = same; others = rw same (others-kept w s a.block.now p.block a.information.now p.information) } in
-    record { copied = q.0; others = q.1 }
+    ∙ packets-joined s (plan_places w) l.block (l.invariant.1 ∙ p.block)) in
+    record { copied = same; others = rw same (others-kept w s a.block.now p.block a.information.now p.information) }

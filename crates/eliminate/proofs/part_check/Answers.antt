@@ -70,6 +70,5 @@ shape_of-noted c = let room = c.requires.3 in front_length c.loop-i.invariant.3 
 pub returns : goal.returns
 returns c =
     let l = c.loop-i in
-    let e : l.i ≡ c.args.weight = omega arith in 
-    let q = record { row = put-put c.clear.ensures (rw e at l.invariant.2); noted = rw e at l.invariant.3 } in
-    record { row = q.0; noted = q.1 }
+    let e : l.i ≡ c.args.weight = omega arith in
+    record { row = put-put c.clear.ensures (rw e at l.invariant.2); noted = rw e at l.invariant.3 }

@@ -25,9 +25,8 @@ part_check-have-requires c =
 pub returns-then-have-weight : goal.returns-then-have-weight
 returns-then-have-weight c =
     let d = c.part_check-have.ensures in
-    let none = whole _ _ _ _ c.args.map.now c.requires.check.0 d.noted.count c.if-have-weight.true in 
-    let q = record { row = zero-lowered c.args.map.now (take c.args.weight (drop c.args.at c.args.t.now)) none _ _ d.row; sum = skipped _ _ _ _ _ _ _ _ c.requires.check.0 c.requires.check.1 c.requires.known none } in
-    record { row = q.0; sum = q.1 }
+    let none = whole _ _ _ _ c.args.map.now c.requires.check.0 d.noted.count c.if-have-weight.true in
+    record { row = zero-lowered c.args.map.now (take c.args.weight (drop c.args.at c.args.t.now)) none _ _ d.row; sum = skipped _ _ _ _ _ _ _ _ c.requires.check.0 c.requires.check.1 c.requires.known none }
 
 pub offset_bounds-noted-have : goal.offset_bounds-noted-have
 offset_bounds-noted-have c =
@@ -70,9 +69,8 @@ sum_of_check-low-requires c =
 pub returns-then-l-eq0 : goal.returns-then-l-eq0
 returns-then-l-eq0 c =
     let d = c.part_check-have.ensures in
-    let g = path-as c.requires.rows.4 _ _ _ _ c.args.map.now c.requires.check.0 d.row c.reduce-r.ensures.path in 
-    let q = record { row = rw c.if-l-eq0.true at (lowered-as c.requires.rows.4 d.row c.reduce-r.ensures.row); sum = judged _ _ _ _ _ _ _ _ c.requires.check.0 c.requires.check.1 (noted-part d.noted g (drop (length c.part_check-have.new.1.1.1.1.1.1.0 - c.part_check-have.result) (drop c.part_check-have.result c.part_check-have.new.1.1.1.1.1.1.0))) c.sum_of_check-low.ensures } in
-    record { row = q.0; sum = q.1 }
+    let g = path-as c.requires.rows.4 _ _ _ _ c.args.map.now c.requires.check.0 d.row c.reduce-r.ensures.path in
+    record { row = rw c.if-l-eq0.true at (lowered-as c.requires.rows.4 d.row c.reduce-r.ensures.row); sum = judged _ _ _ _ _ _ _ _ c.requires.check.0 c.requires.check.1 (noted-part d.noted g (drop (length c.part_check-have.new.1.1.1.1.1.1.0 - c.part_check-have.result) (drop c.part_check-have.result c.part_check-have.new.1.1.1.1.1.1.0))) c.sum_of_check-low.ensures }
 
 pub restore-requires : goal.restore-requires
 restore-requires c =
@@ -85,6 +83,5 @@ pub returns : goal.returns
 returns c =
     let d = c.part_check-have.ensures in
     let r = c.reduce-r in
-    let g = path-as c.requires.rows.4 _ _ _ _ c.args.map.now c.requires.check.0 d.row r.ensures.path in 
-    let q = record { row = lowered-as c.requires.rows.4 d.row r.ensures.row; sum = kept-sum _ _ _ _ _ _ _ _ c.requires.check.0 c.requires.check.1 (noted-part d.noted g (drop (length c.part_check-have.new.1.1.1.1.1.1.0 - c.part_check-have.result) (drop c.part_check-have.result c.part_check-have.new.1.1.1.1.1.1.0))) (omega (arith, c.if-l-eq0.false)) c.restore.ensures } in
-    record { row = q.0; sum = q.1 }
+    let g = path-as c.requires.rows.4 _ _ _ _ c.args.map.now c.requires.check.0 d.row r.ensures.path in
+    record { row = lowered-as c.requires.rows.4 d.row r.ensures.row; sum = kept-sum _ _ _ _ _ _ _ _ c.requires.check.0 c.requires.check.1 (noted-part d.noted g (drop (length c.part_check-have.new.1.1.1.1.1.1.0 - c.part_check-have.result) (drop c.part_check-have.result c.part_check-have.new.1.1.1.1.1.1.0))) (omega (arith, c.if-l-eq0.false)) c.restore.ensures }

@@ -42,6 +42,5 @@ pub shape_of-map : goal.shape_of-map
 shape_of-map c = c.loop-p.invariant.1.sized.marks ∙ sym c.requires.0.marks
 
 pub returns : goal.returns
-returns c = let l = c.loop-p in 
-    let q = record { block = block-filled _ _ _ _ _ _ l.p l.block l.map l.invariant.1 (omega arith); map = map-filled _ _ _ _ _ _ l.p l.block l.map l.invariant.1 (omega arith) } in
-    record { block = q.0; map = q.1 }
+returns c = let l = c.loop-p in
+    record { block = block-filled _ _ _ _ _ _ l.p l.block l.map l.invariant.1 (omega arith); map = map-filled _ _ _ _ _ _ l.p l.block l.map l.invariant.1 (omega arith) }

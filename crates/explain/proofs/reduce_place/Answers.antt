@@ -29,6 +29,5 @@ returns c =
     let a = c.args in
     let p = c.requires in
     let d = one_place (mirror a.n a.place) _ c.bit_of.ensures c.clear.ensures c.flip.ensures in
-    let r = c.reduce.ensures in 
-    let q = record { row = lowered-as p.rows.0 d r.row; path = front-is r.path (put-path p.rows.0 d a.n) } in
-    record { row = q.0; path = q.1 }
+    let r = c.reduce.ensures in
+    record { row = lowered-as p.rows.0 d r.row; path = front-is r.path (put-path p.rows.0 d a.n) }

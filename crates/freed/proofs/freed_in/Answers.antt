@@ -46,6 +46,5 @@ loop-i-preserved c =
 
 pub returns : goal.returns
 returns c =
-    let e : c.loop-i.i ≡ c.args.weight = omega arith in 
-    let q = record { freed = rw e at c.loop-i.invariant.2; most = omega (arith, c.loop-i.invariant.1) } in
-    record { freed = q.0; most = q.1 }
+    let e : c.loop-i.i ≡ c.args.weight = omega arith in
+    record { freed = rw e at c.loop-i.invariant.2; most = omega (arith, c.loop-i.invariant.1) }

@@ -13,6 +13,4 @@ keep-k-requires c =
     record { table = p.table; room = (p.room.0, few-places _ _ _ _ p.table, p.room.1); unowned = get_d-zeros 1024 }
 
 pub returns : goal.returns
-returns c =
-    let q = record { kept = c.keep-k.ensures; work = c.clear_work.ensures ∙ ap (λ (k : ℕ). replicate k 0) c.work-1.given } in
-    record { kept = q.0; work = q.1 }
+returns c = record { kept = c.keep-k.ensures; work = c.clear_work.ensures ∙ ap (λ (k : ℕ). replicate k 0) c.work-1.given }

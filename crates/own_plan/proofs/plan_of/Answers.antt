@@ -5,6 +5,4 @@ use Rattle.own_plan.proofs.plan_of.Goals as goal
 
 pub returns : goal.returns
 unfolding lent_work
-returns c = let p = c.plan.ensures in 
-    let q = record { answer = p.answer; plan = p.plan } in
-    record { answer = q.0; plan = q.1 }
+returns c = let p = c.plan.ensures in record { answer = p.answer; plan = p.plan }

@@ -33,6 +33,4 @@ returns c =
     let r = p.room in
     let e5 = c.order-1.given in
     let e6 = c.owns-1.given in
-    let e7 = c.aside-1.given in 
-    let q = record { choice = choice p.located.table c.keep_checks-k.ensures.kept.count c.ones_of-ones.ensures c.peel_kept-c.ensures (record { taken = omega arith; places = omega arith; put = omega arith }); work = c.keep_checks-k.ensures.work ∙ ap (λ (k : ℕ). replicate k 0) p.work } in
-    record { choice = q.0; work = q.1 }
+    let e7 = c.aside-1.given in record { choice = choice p.located.table c.keep_checks-k.ensures.kept.count c.ones_of-ones.ensures c.peel_kept-c.ensures (record { taken = omega arith; places = omega arith; put = omega arith }); work = c.keep_checks-k.ensures.work ∙ ap (λ (k : ℕ). replicate k 0) p.work }

@@ -68,6 +68,5 @@ returns c =
     let p = c.requires in
     let f = (in-flag _ _ _ p.live).0 in
     let e1 : c.wide-at.result ≡ 5 + a.m + offset a.t.now a.j = c.wide-at.ensures ∙ p.located.starts-at.each a.j f in
-    let e2 : c.wide-weight.result ≡ get_or a.t.now (4 + a.j) 0 = c.wide-weight.ensures in 
-    let q = record { removed = removed _ _ a.j p.ready p.live e1 e2 c.forget.ensures; calm = calm-less p.calm c.forget.ensures c.raise.ensures } in
-    record { removed = q.0; calm = q.1 }
+    let e2 : c.wide-weight.result ≡ get_or a.t.now (4 + a.j) 0 = c.wide-weight.ensures in
+    record { removed = removed _ _ a.j p.ready p.live e1 e2 c.forget.ensures; calm = calm-less p.calm c.forget.ensures c.raise.ensures }

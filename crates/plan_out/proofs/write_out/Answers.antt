@@ -50,6 +50,5 @@ overflow_cast-result-5 c =
 
 pub returns : goal.returns
 returns c =
-    let p = c.requires in 
-    let q = written_out p.table p.choice p.few c.write_plan-w.ensures in
-    record { answer = q.0; plan = q.1 }
+    let p = c.requires in
+    written_out p.table p.choice p.few c.write_plan-w.ensures

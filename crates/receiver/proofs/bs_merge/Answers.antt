@@ -3,6 +3,4 @@ use borrow.Author.Rules.{rules}
 use Rattle.receiver.proofs.bs_merge.Goals as goal
 
 pub returns : goal.returns
-returns c = let e = c.merge-m.ensures in 
-    let q = record { report = e.report; block = e.block-is; map = e.map_is } in
-    record { report = q.0; block = q.1.0; map = q.1.1 }
+returns c = let e = c.merge-m.ensures in record { report = e.report; block = e.block-is; map = e.map_is }

@@ -36,18 +36,13 @@ fails-requires c =
     (omega (arith, most.0, most.1), omega (arith, most.0, most.1))
 
 pub returns-in-Refused : goal.returns-in-Refused
-returns-in-Refused c =
-    let q = numbers _ _ c.refusal-1.given.1 c.verify.ensures in
-    record { refusal = q.0; codeword = q.1.0; check = q.1.1.0; byte = q.1.1.1 }
+returns-in-Refused c = numbers _ _ c.refusal-1.given.1 c.verify.ensures
 
 pub returns-in-Codeword : goal.returns-in-Codeword
-returns-in-Codeword c =
-    let q = numbers _ _ c.enum_told-1.given.1 c.verify.ensures in
-    record { refusal = q.0; codeword = q.1.0; check = q.1.1.0; byte = q.1.1.1 }
+returns-in-Codeword c = numbers _ _ c.enum_told-1.given.1 c.verify.ensures
 
 pub returns-in-Fails : goal.returns-in-Fails
 returns-in-Fails c =
     let e = c.fails.ensures in
-    let v = numbers _ _ c.check-1.given.1 c.verify.ensures in 
-    let q = record { refusal = e.0 ∙ v.0; codeword = e.1 ∙ v.1.0; check = e.2 ∙ v.1.1.0; byte = e.3 ∙ v.1.1.1 } in
-    record { refusal = q.0; codeword = q.1.0; check = q.1.1.0; byte = q.1.1.1 }
+    let v = numbers _ _ c.check-1.given.1 c.verify.ensures in
+    record { refusal = e.0 ∙ v.0; codeword = e.1 ∙ v.1.0; check = e.2 ∙ v.1.1.0; byte = e.3 ∙ v.1.1.1 }

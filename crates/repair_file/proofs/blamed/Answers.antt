@@ -11,9 +11,7 @@ pub loop-p-init : goal.loop-p-init
 loop-p-init c = (omega arith, λ q h. absurd (omega arith))
 
 pub returns-then-map-p-eq-BLAMED : goal.returns-then-map-p-eq-BLAMED
-returns-then-map-p-eq-BLAMED c = let s = c.loop-p in 
-    let q = record { within = s.invariant.0; found = λ h. c.if-map-p-eq-BLAMED.true; passed = s.invariant.1 } in
-    record { within = q.0; found = q.1.0; passed = q.1.1 }
+returns-then-map-p-eq-BLAMED c = let s = c.loop-p in record { within = s.invariant.0; found = λ h. c.if-map-p-eq-BLAMED.true; passed = s.invariant.1 }
 
 pub loop-p-preserved : goal.loop-p-preserved
 loop-p-preserved c =
@@ -21,6 +19,4 @@ loop-p-preserved c =
     (omega arith, λ q h. ⊎_elim (λ k. s.invariant.1 q k) (λ k. let e : q ≡ s.p = omega arith in rw e c.if-map-p-eq-BLAMED.false) (side q s.p))
 
 pub returns : goal.returns
-returns c = let s = c.loop-p in 
-    let q = record { within = s.invariant.0; found = λ h. absurd (omega arith); passed = s.invariant.1 } in
-    record { within = q.0; found = q.1.0; passed = q.1.1 }
+returns c = let s = c.loop-p in record { within = s.invariant.0; found = λ h. absurd (omega arith); passed = s.invariant.1 }

@@ -114,6 +114,5 @@ returns-then-o-eq0 c =
     let s = c.loop-l.invariant in
     let w = c.wide-o.ensures in
     let free : get_or c.args.owner.now (c.loop-l.l - 1) 0 ≡ 0 = omega (arith, c.if-o-eq0.true) in
-    let end = stopped c.requires.rows.owners s (omega arith) free in 
-    let q = record { row = lowered s end (λ _. free); path = told s end } in
-    record { row = q.0; path = q.1 }
+    let end = stopped c.requires.rows.owners s (omega arith) free in
+    record { row = lowered s end (λ _. free); path = told s end }

@@ -20,9 +20,7 @@ pub run_rest-requires : goal.run_rest-requires
 run_rest-requires c = record { slots = listed-run c.collect-count.ensures.list c.requires.run.slots; room = (omega arith, omega arith) }
 
 pub returns-then-s-lt64 : goal.returns-then-s-lt64
-returns-then-s-lt64 c = let r = c.collect-count.ensures.list in 
-    let q = record { list = r; slot = listed-gathers r c.run_rest.ensures } in
-    record { list = q.0; slot = q.1 }
+returns-then-s-lt64 c = let r = c.collect-count.ensures.list in record { list = r; slot = listed-gathers r c.run_rest.ensures }
 
 pub slice_bounds-add_rest-end : goal.slice_bounds-add_rest-end
 slice_bounds-add_rest-end c = listed-room c.start_chunk-count.ensures.list
@@ -35,6 +33,4 @@ add_rest-requires c =
     record { slots = same-run c.block-2-1.given c.scratch-2-1.given (listed-run c.start_chunk-count.ensures.list c.requires.run.slots); room = omega arith }
 
 pub returns : goal.returns
-returns c = let r = c.start_chunk-count.ensures in 
-    let q = record { list = r.list; slot = gathers-on r.slot (listed-gathers r.list c.add_rest.ensures) } in
-    record { list = q.0; slot = q.1 }
+returns c = let r = c.start_chunk-count.ensures in record { list = r.list; slot = gathers-on r.slot (listed-gathers r.list c.add_rest.ensures) }

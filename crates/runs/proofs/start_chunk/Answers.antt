@@ -15,7 +15,5 @@ collect-count-requires c =
 pub returns : goal.returns
 returns c =
     let e = c.collect-count.ensures in
-    let long = length-replicate {A = ℕ} 64 0 in 
-    let q = record { list = e.list; slot = gathers-as (omega arith)
-          (gathers-part 0 (replicate 64 0) _ _ refl (omega (arith, c.requires.room)) c.add_base.auto.0 c.add_base.ensures e.sum c.put_part.ensures) } in
-    record { list = q.0; slot = q.1 }
+    let long = length-replicate {A = ℕ} 64 0 in record { list = e.list; slot = gathers-as (omega arith)
+          (gathers-part 0 (replicate 64 0) _ _ refl (omega (arith, c.requires.room)) c.add_base.auto.0 c.add_base.ensures e.sum c.put_part.ensures) }

@@ -48,9 +48,8 @@ returns-then-from-ge-NO_SLOT c =
     let fs = sources_of a.plan.now a.first a.end a.to in
     let v = c.source_into-from.ensures ∙ ap (λ x. source_into x a.to) c.decode.ensures in
     let e = passed-stop a.plan.now a.first a.end a.to l.count p.inside l.invariant.2 (omega (arith, p.order)) _ v c.if-from-ge-NO_SLOT.true in
-    let all : take l.count fs ≡ fs = take_all l.count fs (omega arith) in 
-    let q = record { list = record { count = e; front = l.invariant.1 ∙ all }; sum = parts-as all l.invariant.0 } in
-    record { list = q.0; sum = q.1 }
+    let all : take l.count fs ≡ fs = take_all l.count fs (omega arith) in
+    record { list = record { count = e; front = l.invariant.1 ∙ all }; sum = parts-as all l.invariant.0 }
 
 pub bounds-sources-count : goal.bounds-sources-count
 bounds-sources-count c = omega (arith, c.loop-count.invariant.4, c.requires.run.order, c.requires.list)
@@ -93,6 +92,5 @@ returns c =
     let l = c.loop-count in
     let fs = sources_of a.plan.now a.first a.end a.to in
     let e = passed-end a.plan.now a.first a.end a.to l.count p.inside l.invariant.2 (omega (arith, p.order)) in
-    let all : take l.count fs ≡ fs = take_all l.count fs (omega arith) in 
-    let q = record { list = record { count = e; front = l.invariant.1 ∙ all }; sum = parts-as all l.invariant.0 } in
-    record { list = q.0; sum = q.1 }
+    let all : take l.count fs ≡ fs = take_all l.count fs (omega arith) in
+    record { list = record { count = e; front = l.invariant.1 ∙ all }; sum = parts-as all l.invariant.0 }

@@ -9,9 +9,8 @@ use Rattle.staircase.proofs.make.Goals as goal
 pub returns-then-bad_parameters : goal.returns-then-bad_parameters
 returns-then-bad_parameters c =
     let a = c.args in
-    let x = answer-bad a.k a.n a.ones a.seed a.s a.table.now (sym c.bad_parameters.ensures ∙ c.if-bad_parameters.true) in 
-    let q = record { answer = c.refused.ensures ∙ x.answer; table = x.table } in
-    record { answer = q.0; table = q.1 }
+    let x = answer-bad a.k a.n a.ones a.seed a.s a.table.now (sym c.bad_parameters.ensures ∙ c.if-bad_parameters.true) in
+    record { answer = c.refused.ensures ∙ x.answer; table = x.table }
 
 pub overflow_sub-n : goal.overflow_sub-n
 overflow_sub-n c =
@@ -23,18 +22,16 @@ pub returns-then-beyond : goal.returns-then-beyond
 returns-then-beyond c =
     let a = c.args in
     let good = sym c.bad_parameters.ensures ∙ c.if-bad_parameters.false in
-    let x = answer-beyond a.k a.n a.ones a.seed a.s a.table.now good (sym c.beyond.ensures ∙ c.if-beyond.true) in 
-    let q = record { answer = c.refused-then-beyond.ensures ∙ x.answer; table = x.table } in
-    record { answer = q.0; table = q.1 }
+    let x = answer-beyond a.k a.n a.ones a.seed a.s a.table.now good (sym c.beyond.ensures ∙ c.if-beyond.true) in
+    record { answer = c.refused-then-beyond.ensures ∙ x.answer; table = x.table }
 
 pub returns-then-table-ne-MOST_WORDS : goal.returns-then-table-ne-MOST_WORDS
 returns-then-table-ne-MOST_WORDS c =
     let a = c.args in
     let good = sym c.bad_parameters.ensures ∙ c.if-bad_parameters.false in
     let far = sym c.beyond.ensures ∙ c.if-beyond.false in
-    let x = answer-length a.k a.n a.ones a.seed a.s a.table.now good far c.if-table-ne-MOST_WORDS.true in 
-    let q = record { answer = c.refused-then-table-ne-MOST_WORDS.ensures ∙ x.answer; table = x.table } in
-    record { answer = q.0; table = q.1 }
+    let x = answer-length a.k a.n a.ones a.seed a.s a.table.now good far c.if-table-ne-MOST_WORDS.true in
+    record { answer = c.refused-then-table-ne-MOST_WORDS.ensures ∙ x.answer; table = x.table }
 
 pub make_table-requires : goal.make_table-requires
 make_table-requires c =

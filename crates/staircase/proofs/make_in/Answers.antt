@@ -35,9 +35,8 @@ returns-then-not-fill c =
     let far = c.requires.limits in
     let long = c.requires.room in
     let f = c.fill in
-    let x = spent a.k a.n a.ones a.seed a.s a.table.now f.new.0 [] good far long f.result f.ensures (not-true _ c.if-not-fill.true-raw) in 
-    let q = record { answer = c.refused.ensures ∙ x.answer; table = x.table } in
-    record { answer = q.0; table = q.1 }
+    let x = spent a.k a.n a.ones a.seed a.s a.table.now f.new.0 [] good far long f.result f.ensures (not-true _ c.if-not-fill.true-raw) in
+    record { answer = c.refused.ensures ∙ x.answer; table = x.table }
 
 pub put_stairs-requires : goal.put_stairs-requires
 put_stairs-requires c =
@@ -74,9 +73,8 @@ returns-then-total-gt-MOST_ONES c =
     let st = c.put_stairs in
     let y = c.weigh-total in
     let x = heavy a.k a.n a.ones a.seed a.s a.table.now f.new.0 st.new.0 good far long f.result f.ensures
-    (not-false _ c.if-not-fill.false-raw) st.ensures y.result y.ensures c.if-total-gt-MOST_ONES.true in 
-    let q = record { answer = c.refused-then-total-gt-MOST_ONES.ensures ∙ x.answer; table = x.table } in
-    record { answer = q.0; table = q.1 }
+    (not-false _ c.if-not-fill.false-raw) st.ensures y.result y.ensures c.if-total-gt-MOST_ONES.true in
+    record { answer = c.refused-then-total-gt-MOST_ONES.ensures ∙ x.answer; table = x.table }
 
 pub write-length-requires : goal.write-length-requires
 write-length-requires c =
@@ -121,6 +119,5 @@ returns c =
     let st = c.put_stairs in
     let y = c.weigh-total in
     let x = made a.k a.n a.ones a.seed a.s a.table.now f.new.0 st.new.0 good far long f.result f.ensures
-    (not-false _ c.if-not-fill.false-raw) st.ensures y.result y.ensures c.if-total-gt-MOST_ONES.false c.write-length.ensures in 
-    let q = record { answer = x.answer; table = x.table } in
-    record { answer = q.0; table = q.1 }
+    (not-false _ c.if-not-fill.false-raw) st.ensures y.result y.ensures c.if-total-gt-MOST_ONES.false c.write-length.ensures in
+    record { answer = x.answer; table = x.table }

@@ -40,6 +40,5 @@ returns c =
     let a = c.args in let p = c.requires in let w = a.plan.now in let f = well w p.lent.formed in let n = c.places-n.ensures in let g = c.gap-g.ensures in
     let gaps = c.clear_gaps-low.ensures in let last = rw n at c.clear_gap.ensures in let back = rw (n, g) at c.clear_gap-2.ensures in
     let only = c.mark_slots.ensures in
-    let lb = c.block-2-1.given ∙ c.block-1.given ∙ p.lent.block in let lc = c.scratch-1.given ∙ p.lent.scratch in 
-    let q = record { cleared = cleared-for w f a.s _ _ a.block.now _ _ gaps last a.scratch.now _ lb lc _ only back; keeps = all-kept w f a.s _ _ a.block.now _ _ gaps last } in
-    record { cleared = q.0; keeps = q.1 }
+    let lb = c.block-2-1.given ∙ c.block-1.given ∙ p.lent.block in let lc = c.scratch-1.given ∙ p.lent.scratch in
+    record { cleared = cleared-for w f a.s _ _ a.block.now _ _ gaps last a.scratch.now _ lb lc _ only back; keeps = all-kept w f a.s _ _ a.block.now _ _ gaps last }

@@ -32,6 +32,4 @@ pub shape_of-board : goal.shape_of-board
 shape_of-board c = c.loop-i.invariant.1
 
 pub returns : goal.returns
-returns c = let s = c.loop-i in let a = c.args in let k : a.weight ≡ s.i = omega arith in 
-    let q = record { len = s.invariant.1; flips = λ l e h. let v = s.invariant.2 l e h in (rw k v.0, flips-as v.1 (turned_as a.columns (λ i q. ap (λ x. in_column a.low a.span a.j (λ y. par y (take x l)) i q) k))) } in
-    record { len = q.0; flips = q.1 }
+returns c = let s = c.loop-i in let a = c.args in let k : a.weight ≡ s.i = omega arith in record { len = s.invariant.1; flips = λ l e h. let v = s.invariant.2 l e h in (rw k v.0, flips-as v.1 (turned_as a.columns (λ i q. ap (λ x. in_column a.low a.span a.j (λ y. par y (take x l)) i q) k))) }

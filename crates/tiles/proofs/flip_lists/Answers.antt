@@ -38,6 +38,4 @@ pub shape_of-board : goal.shape_of-board
 shape_of-board c = c.loop-j.invariant.1
 
 pub returns : goal.returns
-returns c = let s = c.loop-j in let a = c.args in let k : a.count ≡ s.j = omega arith in 
-    let q = record { len = s.invariant.1; flips = λ ws l g. let y = s.invariant.2 ws l g in (rw k y.0, rw k y.1, flips-as y.2 (turned_as a.columns (λ i q. ap (λ x. in_columns a.low a.span x (list_at a.width ws l) i q) k))) } in
-    record { len = q.0; flips = q.1 }
+returns c = let s = c.loop-j in let a = c.args in let k : a.count ≡ s.j = omega arith in record { len = s.invariant.1; flips = λ ws l g. let y = s.invariant.2 ws l g in (rw k y.0, rw k y.1, flips-as y.2 (turned_as a.columns (λ i q. ap (λ x. in_columns a.low a.span x (list_at a.width ws l) i q) k))) }

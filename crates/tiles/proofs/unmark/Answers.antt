@@ -28,6 +28,4 @@ pub shape_of-board : goal.shape_of-board
 shape_of-board c = c.loop-i.invariant.1
 
 pub returns : goal.returns
-returns c = let s = c.loop-i in let a = c.args in let k : a.count ≡ s.i = omega arith in 
-    let q = record { len = s.invariant.1; flips = λ l e h. let v = s.invariant.2 l e h in (rw k v.0, flips-as v.1 (λ i q a b. ap (λ x. named (take x l) i q) k)) } in
-    record { len = q.0; flips = q.1 }
+returns c = let s = c.loop-i in let a = c.args in let k : a.count ≡ s.i = omega arith in record { len = s.invariant.1; flips = λ l e h. let v = s.invariant.2 l e h in (rw k v.0, flips-as v.1 (λ i q a b. ap (λ x. named (take x l) i q) k)) }

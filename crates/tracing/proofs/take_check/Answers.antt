@@ -36,6 +36,5 @@ returns c =
     let a = c.args in
     let p = c.requires in
     let d = c.load_lost.ensures in
-    let r = c.reduce-r.ensures in 
-    let q = record { row = lowered-as p.rows.7 d r.row; feeders = put_is c.note_feeders.ensures (ap (λ ps. row_of (map (number_in a.owner.now) ps)) (front-taken r.path ∙ put-path p.rows.7 d a.n)) } in
-    record { row = q.0; feeders = q.1 }
+    let r = c.reduce-r.ensures in
+    record { row = lowered-as p.rows.7 d r.row; feeders = put_is c.note_feeders.ensures (ap (λ ps. row_of (map (number_in a.owner.now) ps)) (front-taken r.path ∙ put-path p.rows.7 d a.n)) }

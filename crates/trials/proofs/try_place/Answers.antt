@@ -15,9 +15,7 @@ use Rattle.trials.proofs.Undoing.{not-received, received-says, block_back}
 use Rattle.trials.proofs.try_place.Goals as goal
 
 pub returns-then-map-p-ne0 : goal.returns-then-map-p-ne0
-returns-then-map-p-ne0 c =
-    let q = record { suspect = not-received c.args.t.now c.args.block.now c.args.map.now c.args.p (ne_eqb _ _ c.if-map-p-ne0.true); block = refl; map = refl } in
-    record { suspect = q.0; block = q.1.0; map = q.1.1 }
+returns-then-map-p-ne0 c = record { suspect = not-received c.args.t.now c.args.block.now c.args.map.now c.args.p (ne_eqb _ _ c.if-map-p-ne0.true); block = refl; map = refl }
 
 pub copy-requires : goal.copy-requires
 copy-requires c =
@@ -77,6 +75,4 @@ returns c =
     let room : a.p * a.s + a.s ≤ length a.block.now = omega (arith, f, cl.bytes) in
     let back = put_back _ a.map.now _ _ _ a.n (few-places a.t.now a.m a.n a.s k) cl.marks (c.map-1.given ∙ length-set a.map.now a.p 1 ∙ cl.marks) c.copy.ensures c.copy-3.ensures in
     let says = received-says a.t.now a.block.now a.map.now a.p (eq-eqb _ _ c.if-map-p-ne0.false) c.restore_packets-done.result.agrees (agrees-told _ _ _ _ _ _ done) _ done.map_is in
-    let part = part-saved _ a.block.now _ (a.p * a.s) a.s few room c.copy-2.ensures in 
-    let q = record { suspect = c.speaks-found.ensures ∙ says; block = block_back a.t.now a.m a.n a.s k a.block.now a.map.now cl a.p c.requires.place (agreeing a.t.now a.block.now (lost_too a.map.now a.p)) _ (c.block-1.given ∙ cl.bytes) done.block-is _ back _ c.zero_lost.ensures _ part _ c.copy-4.ensures; map = back } in
-    record { suspect = q.0; block = q.1.0; map = q.1.1 }
+    let part = part-saved _ a.block.now _ (a.p * a.s) a.s few room c.copy-2.ensures in record { suspect = c.speaks-found.ensures ∙ says; block = block_back a.t.now a.m a.n a.s k a.block.now a.map.now cl a.p c.requires.place (agreeing a.t.now a.block.now (lost_too a.map.now a.p)) _ (c.block-1.given ∙ cl.bytes) done.block-is _ back _ c.zero_lost.ensures _ part _ c.copy-4.ensures; map = back }
