@@ -19,4 +19,4 @@ pub loop-i-preserved : goal.loop-i-preserved
 loop-i-preserved c = (omega arith, load-turn c.args.t.now c.args.at c.loop-i.i _ (omega arith) c.wide.ensures c.loop-i.invariant.1 c.flip.ensures)
 
 pub returns : goal.returns
-returns c = let e : c.loop-i.i ≡ c.args.n = omega arith in put-put c.clear.ensures (rw e c c.loop-i.invariant.1)
+returns c = let e : c.loop-i.i ≡ c.args.n = omega arith in put-put c.clear.ensures (rw e at c.loop-i.invariant.1)
