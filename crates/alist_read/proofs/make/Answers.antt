@@ -30,8 +30,8 @@ pub returns-then-ones-gt-MOST_ONES : goal.returns-then-ones-gt-MOST_ONES
 returns-then-ones-gt-MOST_ONES c = let a = c.args in let far = sym c.beyond.ensures ∙ c.if-beyond.false in let i = inside a.n a.s a.m far in λ z k l read good agrees g.
     let few = i.few-checks in let cs = checks-loaded a.n a.m k a.b l good g i.few-places (omega arith) z (c.flip_lists.ensures.flips (drop a.n l) (drop (a.n * k) (drop a.m (drop a.n l))) g).2 in
     let y = c.weigh-ones in let t = c.if-ones-gt-MOST_ONES.true in
-    let n = rows-length c.flip_lists.new.0 a.m in
-    let heavy = weighed-heavy (rows_in c.flip_lists.new.0 a.m) (omega arith) (subst (λ x. 6144 < x) y.ensures t) in
+    let n = rows-length c.flip_lists.new.board a.m in
+    let heavy = weighed-heavy (rows_in c.flip_lists.new.board a.m) (omega arith) (subst (λ x. 6144 < x) y.ensures t) in
     answer-as _ _ _ c.refused-then-ones-gt-MOST_ONES.ensures (answer-3 a.text.now a.s a.table.now (whole a.n a.m k a.b l) read good agrees far (sym (ap too_heavy cs) ∙ heavy))
 
 pub shape_of-board-then-table-ne-MOST_WORDS : goal.shape_of-board-then-table-ne-MOST_WORDS
@@ -41,19 +41,19 @@ pub returns-then-table-ne-MOST_WORDS : goal.returns-then-table-ne-MOST_WORDS
 returns-then-table-ne-MOST_WORDS c = let a = c.args in let far = sym c.beyond.ensures ∙ c.if-beyond.false in let i = inside a.n a.s a.m far in λ z k l read good agrees g.
     let few = i.few-checks in let cs = checks-loaded a.n a.m k a.b l good g i.few-places (omega arith) z (c.flip_lists.ensures.flips (drop a.n l) (drop (a.n * k) (drop a.m (drop a.n l))) g).2 in
     let y = c.weigh-ones in
-    let light = weighed-light (rows_in c.flip_lists.new.0 a.m) (subst (λ x. x ≤ 6144) y.ensures c.if-ones-gt-MOST_ONES.false) in
+    let light = weighed-light (rows_in c.flip_lists.new.board a.m) (subst (λ x. x ≤ 6144) y.ensures c.if-ones-gt-MOST_ONES.false) in
     answer-as _ _ _ c.refused-then-table-ne-MOST_WORDS.ensures (answer-5 a.text.now a.s a.table.now (whole a.n a.m k a.b l) read good agrees far (sym (ap too_heavy cs) ∙ light.0) c.if-table-ne-MOST_WORDS.true)
 
 pub write-length-requires : goal.write-length-requires
 write-length-requires c = let a = c.args in let far = sym c.beyond.ensures ∙ c.if-beyond.false in let i = inside a.n a.s a.m far in let h = i.few-checks in let g = c.requires in let e = c.flip_lists.ensures.len in let y = c.weigh-ones in let t = c.if-ones-gt-MOST_ONES.false in
-    let light = weighed-light (rows_in c.flip_lists.new.0 a.m) (subst (λ x. x ≤ 6144) y.ensures t) in
+    let light = weighed-light (rows_in c.flip_lists.new.board a.m) (subst (λ x. x ≤ 6144) y.ensures t) in
     (y.ensures ∙ light.1, t, c.if-table-ne-MOST_WORDS.false, i.few-places, i.few_bytes, i.few-checks, omega arith)
 
 pub overflow_cast-result : goal.overflow_cast-result
 overflow_cast-result c = let a = c.args in let far = sym c.beyond.ensures ∙ c.if-beyond.false in let i = inside a.n a.s a.m far in let y = c.weigh-ones in
-    let cs = rows_in c.flip_lists.new.0 a.m in
+    let cs = rows_in c.flip_lists.new.board a.m in
     let light = weighed-light cs (subst (λ x. x ≤ 6144) y.ensures c.if-ones-gt-MOST_ONES.false) in
-    let n = rows-length c.flip_lists.new.0 a.m in let o = light.1 in let w = y.ensures in let t = c.if-ones-gt-MOST_ONES.false in
+    let n = rows-length c.flip_lists.new.board a.m in let o = light.1 in let w = y.ensures in let t = c.if-ones-gt-MOST_ONES.false in
     let few = i.few-checks in
     let l = length-written a.n a.s cs in let q = c.write-length.ensures.next in
     omega arith
@@ -65,6 +65,6 @@ pub returns : goal.returns
 returns c = let a = c.args in let far = sym c.beyond.ensures ∙ c.if-beyond.false in let i = inside a.n a.s a.m far in λ z k l read good agrees g.
     let few = i.few-checks in let cs = checks-loaded a.n a.m k a.b l good g i.few-places (omega arith) z (c.flip_lists.ensures.flips (drop a.n l) (drop (a.n * k) (drop a.m (drop a.n l))) g).2 in
     let y = c.weigh-ones in
-    let light = weighed-light (rows_in c.flip_lists.new.0 a.m) (subst (λ x. x ≤ 6144) y.ensures c.if-ones-gt-MOST_ONES.false) in
+    let light = weighed-light (rows_in c.flip_lists.new.board a.m) (subst (λ x. x ≤ 6144) y.ensures c.if-ones-gt-MOST_ONES.false) in
     answer-made a.text.now a.s a.table.now (whole a.n a.m k a.b l) read good agrees far (sym (ap too_heavy cs) ∙ light.0) c.if-table-ne-MOST_WORDS.false
     (wrote_as a.n a.s cs c.write-length.ensures)

@@ -19,13 +19,13 @@ pub solve_all-a-requires : goal.solve_all-a-requires
 solve_all-a-requires c =
     let p = c.requires.phases in
     let m = c.mark in
-    record { room = room-A p m.new.0 m.ensures c.args.plan.now c.args.at c.requires.room; table = readable p m.new.0 m.ensures; checks = solved-checks p; own = own-places p }
+    record { room = room-A p m.new.marks m.ensures c.args.plan.now c.args.at c.requires.room; table = readable p m.new.marks m.ensures; checks = solved-checks p; own = own-places p }
 
 pub set_aside-b-requires : goal.set_aside-b-requires
 set_aside-b-requires c =
     let p = c.requires.phases in
     let m = c.mark in
-    record { room = room-B p m.new.0 m.ensures c.args.plan.now c.args.at c.requires.room c.solve_all-a.ensures; table = readable p m.new.0 m.ensures; checks = set-aside p; few = aside-width p.few }
+    record { room = room-B p m.new.marks m.ensures c.args.plan.now c.args.at c.requires.room c.solve_all-a.ensures; table = readable p m.new.marks m.ensures; checks = set-aside p; few = aside-width p.few }
 
 pub bounds-t-1 : goal.bounds-t-1
 bounds-t-1 c = let r = has-weights _ _ _ _ c.requires.phases.located.table in omega arith
@@ -35,17 +35,17 @@ fit_all-e-requires c =
     let p = c.requires.phases in
     let m = c.mark in
     let n = few-places _ _ _ _ p.located.table in
-    let e = c.wide.ensures in record { room = rw e (room-C p m.new.0 m.ensures c.args.plan.now c.args.at c.requires.room c.solve_all-a.ensures c.set_aside-b.ensures); places = omega arith; few = aside-width p.few; fitted = rw e (fitted-below p); rows = p.fits.room.1 }
+    let e = c.wide.ensures in record { room = rw e (room-C p m.new.marks m.ensures c.args.plan.now c.args.at c.requires.room c.solve_all-a.ensures c.set_aside-b.ensures); places = omega arith; few = aside-width p.few; fitted = rw e (fitted-below p); rows = p.fits.room.1 }
 
 pub solve_whole-requires : goal.solve_whole-requires
 solve_whole-requires c =
     let p = c.requires.phases in
     let m = c.mark in
-    let f = wrote-is c.fit_all-e.ensures (ap (λ n. map pack (fitting_rows n c.args.g c.args.fitted.now c.args.rows.now 0 c.args.g)) c.wide.ensures) in record { room = room-D p m.new.0 m.ensures c.args.plan.now c.args.at c.requires.room c.solve_all-a.ensures c.set_aside-b.ensures f; table = p.located; checks = solved-checks p; own = own-places p }
+    let f = wrote-is c.fit_all-e.ensures (ap (λ n. map pack (fitting_rows n c.args.g c.args.fitted.now c.args.rows.now 0 c.args.g)) c.wide.ensures) in record { room = room-D p m.new.marks m.ensures c.args.plan.now c.args.at c.requires.room c.solve_all-a.ensures c.set_aside-b.ensures f; table = p.located; checks = solved-checks p; own = own-places p }
 
 pub returns : goal.returns
 returns c =
     let p = c.requires.phases in
     let m = c.mark in
     let f = wrote-is c.fit_all-e.ensures (ap (λ n. map pack (fitting_rows n c.args.g c.args.fitted.now c.args.rows.now 0 c.args.g)) c.wide.ensures) in
-    all-parts p m.new.0 m.ensures c.args.plan.now c.args.at c.requires.room c.solve_all-a.ensures c.set_aside-b.ensures f c.solve_whole.ensures
+    all-parts p m.new.marks m.ensures c.args.plan.now c.args.at c.requires.room c.solve_all-a.ensures c.set_aside-b.ensures f c.solve_whole.ensures

@@ -18,28 +18,28 @@ mark-requires c =
     below_more c.requires.fitted c.requires.places
 
 pub mark-requires-2 : goal.mark-requires-2
-mark-requires-2 c = below_more c.requires.own (let l : length c.mark.new.0 ≡ most_places = c.used-2-1.given in omega arith)
+mark-requires-2 c = below_more c.requires.own (let l : length c.mark.new.marks ≡ most_places = c.used-2-1.given in omega arith)
 
 pub unmarked-k-requires : goal.unmarked-k-requires
 unmarked-k-requires c =
     let a = c.args in
-    let i = info-is a.n a.owns.now a.fitted.now a.taken a.g c.requires.own c.requires.fitted c.requires.places c.mark.new.0 c.mark-2.new.0 c.mark.ensures c.mark-2.ensures in
-    let l = used-long a.n a.owns.now a.fitted.now a.taken a.g c.requires.own c.requires.fitted c.requires.places c.mark.new.0 c.mark-2.new.0 c.mark.ensures c.mark-2.ensures in
+    let i = info-is a.n a.owns.now a.fitted.now a.taken a.g c.requires.own c.requires.fitted c.requires.places c.mark.new.marks c.mark-2.new.marks c.mark.ensures c.mark-2.ensures in
+    let l = used-long a.n a.owns.now a.fitted.now a.taken a.g c.requires.own c.requires.fitted c.requires.places c.mark.new.marks c.mark-2.new.marks c.mark.ensures c.mark-2.ensures in
     record { room = rw i c.requires.room; marks = omega arith; places = omega arith }
 
 pub overflow_cast-plan : goal.overflow_cast-plan
 overflow_cast-plan c =
     let a = c.args in
-    let i = info-is a.n a.owns.now a.fitted.now a.taken a.g c.requires.own c.requires.fitted c.requires.places c.mark.new.0 c.mark-2.new.0 c.mark.ensures c.mark-2.ensures in
-    let l = used-long a.n a.owns.now a.fitted.now a.taken a.g c.requires.own c.requires.fitted c.requires.places c.mark.new.0 c.mark-2.new.0 c.mark.ensures c.mark-2.ensures in
+    let i = info-is a.n a.owns.now a.fitted.now a.taken a.g c.requires.own c.requires.fitted c.requires.places c.mark.new.marks c.mark-2.new.marks c.mark.ensures c.mark-2.ensures in
+    let l = used-long a.n a.owns.now a.fitted.now a.taken a.g c.requires.own c.requires.fitted c.requires.places c.mark.new.marks c.mark-2.new.marks c.mark.ensures c.mark-2.ensures in
     let w = c.unmarked-k.ensures.next in
-    let f = info-few a.n (marked c.mark-2.new.0) in
+    let f = info-few a.n (marked c.mark-2.new.marks) in
     omega arith
 
 pub returns : goal.returns
 returns c =
     let a = c.args in
-    let i = info-is a.n a.owns.now a.fitted.now a.taken a.g c.requires.own c.requires.fitted c.requires.places c.mark.new.0 c.mark-2.new.0 c.mark.ensures c.mark-2.ensures in
-    let l = used-long a.n a.owns.now a.fitted.now a.taken a.g c.requires.own c.requires.fitted c.requires.places c.mark.new.0 c.mark-2.new.0 c.mark.ensures c.mark-2.ensures in
-    let w : Wrote a.plan.now (a.at + 1) (minus (rev (below a.n)) (take a.taken a.owns.now ++ take a.g a.fitted.now)) c.unmarked-k.new.0 c.unmarked-k.result = wrote-is c.unmarked-k.ensures i in
+    let i = info-is a.n a.owns.now a.fitted.now a.taken a.g c.requires.own c.requires.fitted c.requires.places c.mark.new.marks c.mark-2.new.marks c.mark.ensures c.mark-2.ensures in
+    let l = used-long a.n a.owns.now a.fitted.now a.taken a.g c.requires.own c.requires.fitted c.requires.places c.mark.new.marks c.mark-2.new.marks c.mark.ensures c.mark-2.ensures in
+    let w : Wrote a.plan.now (a.at + 1) (minus (rev (below a.n)) (take a.taken a.owns.now ++ take a.g a.fitted.now)) c.unmarked-k.new.plan c.unmarked-k.result = wrote-is c.unmarked-k.ensures i in
     wrote_count c.requires.room w

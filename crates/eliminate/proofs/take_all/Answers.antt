@@ -60,10 +60,10 @@ take_check-r-requires c =
     let l3 = l.invariant.3 in record { check = (v, l.invariant.4.bytes, p.room.1); rows = (omega arith, few, omega arith, omega arith, owners l.invariant.4 (omega arith)); known = rw is (still-known l.invariant.4 (omega arith) p.room.0 (checks-low _ _ _ _ p.table) (omega arith) p.known.zero) }
 
 pub shape_of-block-then-r : goal.shape_of-block-then-r
-shape_of-block-then-r c = c.take_check-r.auto.1.1.1.1.1.0 ∙ c.loop-i.invariant.4.bytes ∙ sym c.requires.room.0
+shape_of-block-then-r c = c.take_check-r.auto.block ∙ c.loop-i.invariant.4.bytes ∙ sym c.requires.room.0
 
 pub shape_of-w-then-r : goal.shape_of-w-then-r
-shape_of-w-then-r c = c.take_check-r.auto.1.1.1.1.1.1.1.0 ∙ c.loop-i.invariant.1
+shape_of-w-then-r c = c.take_check-r.auto.w ∙ c.loop-i.invariant.1
 
 pub shape_of-owner-then-r : goal.shape_of-owner-then-r
 shape_of-owner-then-r c = c.loop-i.invariant.2

@@ -48,7 +48,7 @@ reduce-r-requires c =
     let h = received-few c.args.map.now _ _ _ _ c.requires.check.0 d.noted.count in
     let r = c.requires.rows.3 in
     let l = front_length d.noted (omega arith) in
-    let x = c.part_check-have.new.1.1.1.1.1.1.0 in
+    let x = c.part_check-have.new.noted in
     record { rows = reducible c.requires.rows.4 _ _ _ _ c.args.map.now c.requires.check.0 d.row c.requires.rows.0 c.requires.rows.1 c.requires.rows.2; room = omega (arith, part_length x c.part_check-have.result (length x - c.part_check-have.result) (omega arith)) }
 
 pub overflow_add-all : goal.overflow_add-all
@@ -64,24 +64,24 @@ pub sum_of_check-low-requires : goal.sum_of_check-low-requires
 sum_of_check-low-requires c =
     let d = c.part_check-have.ensures in
     let g = path-as c.requires.rows.4 _ _ _ _ c.args.map.now c.requires.check.0 d.row c.reduce-r.ensures.path in
-    noted_in (noted-part d.noted g (drop (length c.part_check-have.new.1.1.1.1.1.1.0 - c.part_check-have.result) (drop c.part_check-have.result c.part_check-have.new.1.1.1.1.1.1.0))) _ _ _ (summed-low _ c.args.map.now (leads c.args.w.now c.args.owner.now) (places-low c.requires.check.0)) c.requires.check.1
+    noted_in (noted-part d.noted g (drop (length c.part_check-have.new.noted - c.part_check-have.result) (drop c.part_check-have.result c.part_check-have.new.noted))) _ _ _ (summed-low _ c.args.map.now (leads c.args.w.now c.args.owner.now) (places-low c.requires.check.0)) c.requires.check.1
 
 pub returns-then-l-eq0 : goal.returns-then-l-eq0
 returns-then-l-eq0 c =
     let d = c.part_check-have.ensures in
     let g = path-as c.requires.rows.4 _ _ _ _ c.args.map.now c.requires.check.0 d.row c.reduce-r.ensures.path in
-    record { row = rw c.if-l-eq0.true at (lowered-as c.requires.rows.4 d.row c.reduce-r.ensures.row); sum = judged _ _ _ _ _ _ _ _ c.requires.check.0 c.requires.check.1 (noted-part d.noted g (drop (length c.part_check-have.new.1.1.1.1.1.1.0 - c.part_check-have.result) (drop c.part_check-have.result c.part_check-have.new.1.1.1.1.1.1.0))) c.sum_of_check-low.ensures }
+    record { row = rw c.if-l-eq0.true at (lowered-as c.requires.rows.4 d.row c.reduce-r.ensures.row); sum = judged _ _ _ _ _ _ _ _ c.requires.check.0 c.requires.check.1 (noted-part d.noted g (drop (length c.part_check-have.new.noted - c.part_check-have.result) (drop c.part_check-have.result c.part_check-have.new.noted))) c.sum_of_check-low.ensures }
 
 pub restore-requires : goal.restore-requires
 restore-requires c =
     let d = c.part_check-have.ensures in
     let g = path-as c.requires.rows.4 _ _ _ _ c.args.map.now c.requires.check.0 d.row c.reduce-r.ensures.path in
     let m = c.reduce-r.ensures.row.most in
-    (noted_in (noted-part d.noted g (drop (length c.part_check-have.new.1.1.1.1.1.1.0 - c.part_check-have.result) (drop c.part_check-have.result c.part_check-have.new.1.1.1.1.1.1.0))) _ _ _ (summed-low _ c.args.map.now (leads c.args.w.now c.args.owner.now) (places-low c.requires.check.0)) c.requires.check.1, omega (arith, c.if-l-eq0.false))
+    (noted_in (noted-part d.noted g (drop (length c.part_check-have.new.noted - c.part_check-have.result) (drop c.part_check-have.result c.part_check-have.new.noted))) _ _ _ (summed-low _ c.args.map.now (leads c.args.w.now c.args.owner.now) (places-low c.requires.check.0)) c.requires.check.1, omega (arith, c.if-l-eq0.false))
 
 pub returns : goal.returns
 returns c =
     let d = c.part_check-have.ensures in
     let r = c.reduce-r in
     let g = path-as c.requires.rows.4 _ _ _ _ c.args.map.now c.requires.check.0 d.row r.ensures.path in
-    record { row = lowered-as c.requires.rows.4 d.row r.ensures.row; sum = kept-sum _ _ _ _ _ _ _ _ c.requires.check.0 c.requires.check.1 (noted-part d.noted g (drop (length c.part_check-have.new.1.1.1.1.1.1.0 - c.part_check-have.result) (drop c.part_check-have.result c.part_check-have.new.1.1.1.1.1.1.0))) (omega (arith, c.if-l-eq0.false)) c.restore.ensures }
+    record { row = lowered-as c.requires.rows.4 d.row r.ensures.row; sum = kept-sum _ _ _ _ _ _ _ _ c.requires.check.0 c.requires.check.1 (noted-part d.noted g (drop (length c.part_check-have.new.noted - c.part_check-have.result) (drop c.part_check-have.result c.part_check-have.new.noted))) (omega (arith, c.if-l-eq0.false)) c.restore.ensures }

@@ -29,7 +29,7 @@ columns-t-requires c =
     let a = c.args in
     let so = c.start_order in
     let given = c.requires in
-    record { state = _; holds = begins a.w.now a.u.now a.k a.m a.ones a.seed a.draws given so.new.0 so.ensures }
+    record { state = _; holds = begins a.w.now a.u.now a.k a.m a.ones a.seed a.draws given so.new.u so.ensures }
 
 pub returns-then-not-t : goal.returns-then-not-t
 returns-then-not-t c =
@@ -39,7 +39,7 @@ returns-then-not-t c =
     let co = c.columns-t in
     let t = not-true co.result.ok c.if-not-t.true in
     columns-failed a.w.now a.u.now a.k a.m a.ones a.seed a.draws given
-    so.new.0 so.ensures _ co.result.ok co.ensures t _
+    so.new.u so.ensures _ co.result.ok co.ensures t _
 
 pub extras-requires : goal.extras-requires
 extras-requires c =
@@ -49,7 +49,7 @@ extras-requires c =
     let co = c.columns-t in
     let t = not-false co.result.ok c.if-not-t.false in
     let r = columns-passed a.w.now a.u.now a.k a.m a.ones a.seed a.draws given
-    so.new.0 so.ensures _ co.result.ok co.ensures t in
+    so.new.u so.ensures _ co.result.ok co.ensures t in
     record { e = a.ones * a.k; state = r.state; rep = r.holds.rep }
 
 pub returns : goal.returns
@@ -61,5 +61,5 @@ returns c =
     let ex = c.extras in
     let t = not-false co.result.ok c.if-not-t.false in
     let r = columns-passed a.w.now a.u.now a.k a.m a.ones a.seed a.draws given
-    so.new.0 so.ensures _ co.result.ok co.ensures t in
+    so.new.u so.ensures _ co.result.ok co.ensures t in
     finish _ (extras a.k 0 a.m) _ _ ex.result (ex.ensures (a.ones * a.k)) (rest-holds _ _ _ _ (λ x q. q.rep) r)

@@ -9,8 +9,8 @@ use Rattle.formed.proofs.good_number.Goals as goal
 pub returns-in-Valid : goal.returns-in-Valid
 returns-in-Valid c =
     let kept = is_marked c.args.marks.now in let e = c.unpack.ensures in
-    c.good_step.ensures ∙ good-decoded c.args.k kept (unpack c.args.word) _ (sym e ∙ c.x-1.given.1)
+    c.good_step.ensures ∙ good-decoded c.args.k kept (unpack c.args.word) _ (sym e ∙ c.in-Valid.is)
 
 pub returns-in-Invalid : goal.returns-in-Invalid
 returns-in-Invalid c =
-    let kept = is_marked c.args.marks.now in good-invalid c.args.k kept (unpack c.args.word) (sym c.unpack.ensures ∙ c.enum_told-1.given.1)
+    let kept = is_marked c.args.marks.now in good-invalid c.args.k kept (unpack c.args.word) (sym c.unpack.ensures ∙ c.in-Invalid.is)

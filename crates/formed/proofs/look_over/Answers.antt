@@ -38,11 +38,11 @@ pub steps_at-requires : goal.steps_at-requires
 steps_at-requires c = let w = c.args.w.now in let q : bad_counts w ≡ false = sym c.bad_counts.ensures ∙ c.if-bad_counts.false in let k = counted w q in omega arith
 
 pub good_steps-requires : goal.good_steps-requires
-good_steps-requires c = let w = c.args.w.now in let q : bad_counts w ≡ false = sym c.bad_counts.ensures ∙ c.if-bad_counts.false in let k = counted w q in record { marks = omega (arith, c.mark_places.auto.1.1.0, length-replicate {A = ℕ} most_slots 0); start = omega arith }
+good_steps-requires c = let w = c.args.w.now in let q : bad_counts w ≡ false = sym c.bad_counts.ensures ∙ c.if-bad_counts.false in let k = counted w q in record { marks = omega (arith, c.mark_places.auto.marks, length-replicate {A = ℕ} most_slots 0); start = omega arith }
 
 pub returns-then-not-good_steps : goal.returns-then-not-good_steps
 returns-then-not-good_steps c = let w = c.args.w.now in let q : bad_counts w ≡ false = sym c.bad_counts.ensures ∙ c.if-bad_counts.false in let k = counted w q in
-    let long : slots w ≤ length c.mark_places.new.1.1.0 = omega (arith, c.mark_places.auto.1.1.0, length-replicate {A = ℕ} most_slots 0) in
+    let long : slots w ≤ length c.mark_places.new.marks = omega (arith, c.mark_places.auto.marks, length-replicate {A = ℕ} most_slots 0) in
     let found : c.mark_places.result ≡ true = not-false _ c.if-not-mark_places.false-raw in
     refuse-steps w q
     (ap (λ (n : ℕ). rising n 0 (info_in w)) (sym c.places-n.ensures) ∙ sym c.mark_places.ensures.rises ∙ found)
@@ -50,7 +50,7 @@ returns-then-not-good_steps c = let w = c.args.w.now in let q : bad_counts w ≡
 
 pub returns : goal.returns
 returns c = let w = c.args.w.now in let q : bad_counts w ≡ false = sym c.bad_counts.ensures ∙ c.if-bad_counts.false in let k = counted w q in
-    let long : slots w ≤ length c.mark_places.new.1.1.0 = omega (arith, c.mark_places.auto.1.1.0, length-replicate {A = ℕ} most_slots 0) in
+    let long : slots w ≤ length c.mark_places.new.marks = omega (arith, c.mark_places.auto.marks, length-replicate {A = ℕ} most_slots 0) in
     let found : c.mark_places.result ≡ true = not-false _ c.if-not-mark_places.false-raw in
     refuse-none w q
     (ap (λ (n : ℕ). rising n 0 (info_in w)) (sym c.places-n.ensures) ∙ sym c.mark_places.ensures.rises ∙ found)

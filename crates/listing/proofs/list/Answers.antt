@@ -13,17 +13,17 @@ put_refused-requires c = refused-room _ c.args.out.now c.requires
 pub returns-in_default : goal.returns-in_default
 returns-in_default c =
     let f = c.args.file.now in 
-    let q = at-start (same_word (unfit-text f (words-none f (sym c.words_in.ensures.answer ∙ c.enum_told-1.given.1))) c.put_refused.ensures) in
+    let q = at-start (same_word (unfit-text f (words-none f (sym c.words_in.ensures.answer ∙ c.in_default.is))) c.put_refused.ensures) in
     record { text = q.0; length = q.1.0; within = q.1.1 }
 
 pub slice_bounds-words-end : goal.slice_bounds-words-end
-slice_bounds-words-end c = let w = c.words_in.ensures in (words-within c.args.file.now word_buffer word_room w.answer w.words c.n-1.given.1).0
+slice_bounds-words-end c = let w = c.words_in.ensures in (words-within c.args.file.now word_buffer word_room w.answer w.words c.in-Count.is).0
 
 pub slice_bounds-list_table-end : goal.slice_bounds-list_table-end
-slice_bounds-list_table-end c = let w = c.words_in.ensures in (words-within c.args.file.now word_buffer word_room w.answer w.words c.n-1.given.1).1
+slice_bounds-list_table-end c = let w = c.words_in.ensures in (words-within c.args.file.now word_buffer word_room w.answer w.words c.in-Count.is).1
 
 pub returns : goal.returns
 returns c =
     let w = c.words_in.ensures in 
-    let q = at-start (same_word (words-text c.args.file.now w.answer w.words c.n-1.given.1) c.list_table.ensures) in
+    let q = at-start (same_word (words-text c.args.file.now w.answer w.words c.in-Count.is) c.list_table.ensures) in
     record { text = q.0; length = q.1.0; within = q.1.1 }

@@ -20,13 +20,13 @@ pub loop-i-preserved : goal.loop-i-preserved
 loop-i-preserved c =
     let l = c.loop-i in
     let r = c.restore_chunk in
-    (omega arith, (r.auto.1.1.1.0 ∙ l.invariant.1.0, λ ok in-n. piece-more _ _ _ _ _ _ _ ok _ in-n l.i 64 _ _ (omega arith) (l.invariant.1.1 ok in-n) r.ensures))
+    (omega arith, (r.auto.block ∙ l.invariant.1.0, λ ok in-n. piece-more _ _ _ _ _ _ _ ok _ in-n l.i 64 _ _ (omega arith) (l.invariant.1.1 ok in-n) r.ensures))
 
 pub restore_rest-requires : goal.restore_rest-requires
 restore_rest-requires c = (same_check _ _ _ _ _ _ _ c.loop-i.invariant.1.0 c.requires.0, (c.requires.1, (omega arith, omega arith)))
 
 pub shape_of-block : goal.shape_of-block
-shape_of-block c = c.restore_rest.auto.1.1.1.0 ∙ c.loop-i.invariant.1.0
+shape_of-block c = c.restore_rest.auto.block ∙ c.loop-i.invariant.1.0
 
 pub returns : goal.returns
 returns c =

@@ -18,10 +18,10 @@ pub overflow_add-p : goal.overflow_add-p
 overflow_add-p c = omega (arith, place-fits c.args.p c.args.n c.args.s c.requires.1.0, c.requires.0.bytes, c.requires.1.1)
 
 pub store-requires : goal.store-requires
-store-requires c = omega (arith, place-fits c.args.p c.args.n c.args.s c.requires.1.0, c.requires.0.bytes, c.requires.1.1, c.gather_others.auto.0)
+store-requires c = omega (arith, place-fits c.args.p c.args.n c.args.s c.requires.1.0, c.requires.0.bytes, c.requires.1.1, c.gather_others.auto.acc)
 
 pub shape_of-block : goal.shape_of-block
-shape_of-block c = c.store.auto.0
+shape_of-block c = c.store.auto.b
 
 pub returns : goal.returns
 returns c =

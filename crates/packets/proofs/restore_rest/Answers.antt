@@ -23,19 +23,19 @@ pub overflow_add-p : goal.overflow_add-p
 overflow_add-p c = omega (arith, place-fits c.args.p c.args.n c.args.s c.requires.1.0, c.requires.0.bytes)
 
 pub slice_bounds-acc-end-2 : goal.slice_bounds-acc-end-2
-slice_bounds-acc-end-2 c = back-room (c.args.s - c.args.off) (replicate 64 0) (omega arith) c.gather_others.new.0 c.gather_others.auto.0
+slice_bounds-acc-end-2 c = back-room (c.args.s - c.args.off) (replicate 64 0) (omega arith) c.gather_others.new.acc c.gather_others.auto.acc
 
 pub slice_bounds-store-end : goal.slice_bounds-store-end
-slice_bounds-store-end c = back-length (c.args.s - c.args.off) (replicate 64 0) (omega arith) c.gather_others.new.0 c.gather_others.auto.0
+slice_bounds-store-end c = back-length (c.args.s - c.args.off) (replicate 64 0) (omega arith) c.gather_others.new.acc c.gather_others.auto.acc
 
 pub store-requires : goal.store-requires
-store-requires c = omega (arith, place-fits c.args.p c.args.n c.args.s c.requires.1.0, c.requires.0.bytes, back-length (c.args.s - c.args.off) (replicate 64 0) (omega arith) c.gather_others.new.0 c.gather_others.auto.0)
+store-requires c = omega (arith, place-fits c.args.p c.args.n c.args.s c.requires.1.0, c.requires.0.bytes, back-length (c.args.s - c.args.off) (replicate 64 0) (omega arith) c.gather_others.new.acc c.gather_others.auto.acc)
 
 pub shape_of-block : goal.shape_of-block
-shape_of-block c = c.store.auto.0
+shape_of-block c = c.store.auto.b
 
 pub returns : goal.returns
 returns c =
     let g = c.gather_others in
     c.store.ensures
-    ∙ ap (written c.args.block.now (c.args.p * c.args.s + c.args.off)) (others-rest _ _ _ _ _ _ _ c.requires.0 _ (omega arith) 64 _ (omega arith) g.auto.0 g.ensures)
+    ∙ ap (written c.args.block.now (c.args.p * c.args.s + c.args.off)) (others-rest _ _ _ _ _ _ _ c.requires.0 _ (omega arith) 64 _ (omega arith) g.auto.acc g.ensures)

@@ -29,9 +29,9 @@ pick-event-requires c =
 
 -- ---- an own place: numbers and room
 took-range : (c : tie.After-known-told invariant-loop decreases-loop)
-    → (c.event-1.given.0.1.0 < 512) × (c.event-1.given.0.0 < 1024) × (c.loop-left.taken < length c.loop-left.order) × (c.loop-left.taken < length c.loop-left.owns)
+    → (c.in-Took.j < 512) × (c.in-Took.p < 1024) × (c.loop-left.taken < length c.loop-left.order) × (c.loop-left.taken < length c.loop-left.owns)
 took-range c =
-    let y = place-says _ _ c.pick-event.ensures c.event-1.given.1 in
+    let y = place-says _ _ c.pick-event.ensures c.in-Took.is in
     let f = (in-flag _ _ _ y.pick.member).0 in
     let low = place-low y in
     let s = c.loop-left.invariant in
@@ -72,16 +72,16 @@ overflow_add-p c = let r = took-range c in omega arith
 
 pub remove-top-requires : goal.remove-top-requires
 remove-top-requires c =
-    let y = place-says _ _ c.pick-event.ensures c.event-1.given.1 in
+    let y = place-says _ _ c.pick-event.ensures c.in-Took.is in
     let p = c.requires in
     let ready = c.loop-left.invariant.1.ready in
     let d = remove-ready p.located ready in
     record { located = d.0; ready = d.1; live = y.pick.member; calm = calm-place _ _ ready.counts ready.tally (place-low y) y.top }
 
 -- ---- a check set aside: its number, and room
-put-range : (c : tie.After-known-told2 invariant-loop decreases-loop) → (c.event-in-Aside-1.given.0.0 < 512) × (c.loop-left.put < length c.loop-left.aside)
+put-range : (c : tie.After-known-told2 invariant-loop decreases-loop) → (c.in-Aside.j < 512) × (c.loop-left.put < length c.loop-left.aside)
 put-range c =
-    let y = choice-says _ c.pick-event.ensures c.event-in-Aside-1.given.1 in
+    let y = choice-says _ c.pick-event.ensures c.in-Aside.is in
     let f = (in-flag _ _ _ y.pick.member).0 in
     let s = c.loop-left.invariant in
     let sum = s.1.sum in
@@ -107,7 +107,7 @@ overflow_add-put c = let r = put-range c in omega arith
 
 pub remove-top-requires-in-Aside : goal.remove-top-requires-in-Aside
 remove-top-requires-in-Aside c =
-    let y = choice-says _ c.pick-event.ensures c.event-in-Aside-1.given.1 in
+    let y = choice-says _ c.pick-event.ensures c.in-Aside.is in
     let p = c.requires in
     let ready = c.loop-left.invariant.1.ready in
     let d = remove-ready p.located ready in

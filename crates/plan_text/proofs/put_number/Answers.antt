@@ -8,12 +8,12 @@ use Rattle.plan_text.proofs.Turns.{is-step, no_step}
 use Rattle.plan_text.proofs.put_number.Goals as goal
 
 pub put_step-requires : goal.put_step-requires
-put_step-requires c = rw (is-step (unpack c.args.word) _ (sym c.unpack.ensures ∙ c.x-1.given.1)) at c.requires
+put_step-requires c = rw (is-step (unpack c.args.word) _ (sym c.unpack.ensures ∙ c.in-Valid.is)) at c.requires
 
 pub returns-in-Valid : goal.returns-in-Valid
-returns-in-Valid c = rw (is-step (unpack c.args.word) _ (sym c.unpack.ensures ∙ c.x-1.given.1)) c.put_step.ensures
+returns-in-Valid c = rw (is-step (unpack c.args.word) _ (sym c.unpack.ensures ∙ c.in-Valid.is)) c.put_step.ensures
 
 pub returns-in-Invalid : goal.returns-in-Invalid
 returns-in-Invalid c =
-    let e = no_step (unpack c.args.word) c.unpack.ensures c.enum_told-1.given.1 in
+    let e = no_step (unpack c.args.word) c.unpack.ensures c.in-Invalid.is in
     rw e (nothing_put _ _ (omega (arith, rw e at c.requires)))

@@ -6,19 +6,19 @@ use Rattle.reason_file.proofs.explain_files.Goals as goal
 pub slice_bounds-block-end : goal.slice_bounds-block-end
 slice_bounds-block-end c =
     let r = c.read_argument in
-    (read_count _ r.ensures c.bytes-1.given.1).0
+    (read_count _ r.ensures c.in-Count.is).0
 
 pub slice_bounds-explain_place-end : goal.slice_bounds-explain_place-end
 slice_bounds-explain_place-end c =
     let r = c.read_argument in
-    (read_count _ r.ensures c.bytes-1.given.1).1
+    (read_count _ r.ensures c.in-Count.is).1
 
 pub slice_bounds-map-end : goal.slice_bounds-map-end
 slice_bounds-map-end c =
     let r = c.read_argument-2 in
-    (read_count _ r.ensures c.places-1.given.1).0
+    (read_count _ r.ensures c.in-Count-read_argument.is).0
 
 pub slice_bounds-explain_place-end-2 : goal.slice_bounds-explain_place-end-2
 slice_bounds-explain_place-end-2 c =
     let r = c.read_argument-2 in
-    (read_count _ r.ensures c.places-1.given.1).1
+    (read_count _ r.ensures c.in-Count-read_argument.is).1

@@ -32,17 +32,17 @@ numbers t b e h = let z = sym (ap values_of e) ∙ h in
 
 pub fails-requires : goal.fails-requires
 fails-requires c =
-    let most = small _ _ _ _ (sym (ap values_of c.check-1.given.1) ∙ c.verify.ensures) in
+    let most = small _ _ _ _ (sym (ap values_of c.in-Fails.is) ∙ c.verify.ensures) in
     (omega (arith, most.0, most.1), omega (arith, most.0, most.1))
 
 pub returns-in-Refused : goal.returns-in-Refused
-returns-in-Refused c = numbers _ _ c.refusal-1.given.1 c.verify.ensures
+returns-in-Refused c = numbers _ _ c.in-Refused.is c.verify.ensures
 
 pub returns-in-Codeword : goal.returns-in-Codeword
-returns-in-Codeword c = numbers _ _ c.enum_told-1.given.1 c.verify.ensures
+returns-in-Codeword c = numbers _ _ c.in-Codeword.is c.verify.ensures
 
 pub returns-in-Fails : goal.returns-in-Fails
 returns-in-Fails c =
     let e = c.fails.ensures in
-    let v = numbers _ _ c.check-1.given.1 c.verify.ensures in
+    let v = numbers _ _ c.in-Fails.is c.verify.ensures in
     record { refusal = e.0 ∙ v.0; codeword = e.1 ∙ v.1.0; check = e.2 ∙ v.1.1.0; byte = e.3 ∙ v.1.1.1 }

@@ -32,7 +32,7 @@ repair_without-requires c =
     let a = c.args in
     let done = c.restore_packets-done.ensures in
     let o = c.only_suspect.ensures in
-    let is = ap place_of (sym c.p-1.given.1) ∙ o.only in
+    let is = ap place_of (sym c.in-Place.is) ∙ o.only in
     (p.0, without-asks a.t.now a.block.now a.map.now p.1 _ _ _ done c.if-done.false a.m a.n a.s p.0 c.block-1.given _ is _ _ o.block o.map)
 
 pub returns-in-Nobody : goal.returns-in-Nobody
@@ -40,7 +40,7 @@ returns-in-Nobody c =
     let p = c.requires in
     let a = c.args in
     let o = c.only_suspect.ensures in
-    let is = ap place_of (sym c.enum_told-1.given.1) ∙ o.only in
+    let is = ap place_of (sym c.in-Nobody.is) ∙ o.only in
     answer-contradicted a.t.now a.block.now a.map.now p.1 _ _ _ c.restore_packets-done.ensures c.if-done.false is _ _ o.block o.map _ c.refused.ensures
 
 pub returns-in-Place : goal.returns-in-Place
@@ -48,5 +48,5 @@ returns-in-Place c =
     let p = c.requires in
     let a = c.args in
     let o = c.only_suspect.ensures in
-    let is = ap place_of (sym c.p-1.given.1) ∙ o.only in
+    let is = ap place_of (sym c.in-Place.is) ∙ o.only in
     answer-blamed a.t.now a.block.now a.map.now p.1 _ _ _ c.restore_packets-done.ensures c.if-done.false _ is _ _ o.block o.map _ _ _ c.repair_without.ensures

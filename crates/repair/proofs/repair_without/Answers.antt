@@ -28,7 +28,7 @@ bounds-map-p-2 c =
     omega (arith, c.map-1.given, length-set a.map.now a.p 1, fit-places a.t.now a.m a.n a.s a.block.now a.map.now p.table p.fits, p.place)
 
 pub shape_of-map : goal.shape_of-map
-shape_of-map c = let a = c.args in length-set {A = ℕ} c.restore_packets-done.new.1.1.1.1.1.0 a.p _ ∙ c.map-1.given ∙ length-set a.map.now a.p 1
+shape_of-map c = let a = c.args in length-set {A = ℕ} c.restore_packets-done.new.map a.p _ ∙ c.map-1.given ∙ length-set a.map.now a.p 1
 
 pub returns : goal.returns
 returns c =

@@ -154,7 +154,7 @@ loop-i-preserved c =
       omega (arith, run-within w f q.result q.ensures l.i last.result more all r _ run.ensures.list.count, last.ensures),
       c.block-1.given ∙ l.invariant.2,
       c.scratch-1.given ∙ l.invariant.3,
-      run.auto.1.1.1.1.1.0 ∙ l.invariant.4,
+      run.auto.sources ∙ l.invariant.4,
     )
 
 pub shape_of-block : goal.shape_of-block

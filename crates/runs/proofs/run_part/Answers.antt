@@ -7,4 +7,4 @@ pub returns : goal.returns
 returns c =
     let a = c.args in
     let p = c.requires in
-    gathers-part a.off a.acc.now _ _ p.zero p.room c.add_base.auto.0 c.add_base.ensures c.add_sources.ensures c.put_part.ensures
+    gathers-part a.off a.acc.now _ _ p.zero p.room c.add_base.auto.acc c.add_base.ensures c.add_sources.ensures c.put_part.ensures

@@ -24,7 +24,7 @@ reduce-r-requires c =
 pub overflow_add-all : goal.overflow_add-all
 overflow_add-all c =
     let r = c.reduce-r in
-    let l = noted-few c.args.noted.now c.args.p r.new.1.1.1.1.0 r.auto.1.1.1.1.0 r.ensures.path (omega (arith, c.requires)) in
+    let l = noted-few c.args.noted.now c.args.p r.new.noted r.auto.noted r.ensures.path (omega (arith, c.requires)) in
     omega arith
 
 pub restore-requires : goal.restore-requires
@@ -42,7 +42,7 @@ pub clear-requires : goal.clear-requires
 clear-requires c = omega (arith, place-fits c.args.p c.args.n c.args.s c.requires.room.0, c.requires)
 
 pub shape_of-noted-then-r-eq0 : goal.shape_of-noted-then-r-eq0
-shape_of-noted-then-r-eq0 c = let r = c.reduce-r in whole_long c.args.noted.now c.args.p r.new.1.1.1.1.0 r.auto.1.1.1.1.0
+shape_of-noted-then-r-eq0 c = let r = c.reduce-r in whole_long c.args.noted.now c.args.p r.new.noted r.auto.noted
 
 pub returns-then-r-eq0 : goal.returns-then-r-eq0
 returns-then-r-eq0 c =
@@ -50,7 +50,7 @@ returns-then-r-eq0 c =
     gone _ _ _ _ c.requires.rows.0 c.requires.room.0 c.requires.rows.1 c.wide-k.ensures c.flip.ensures r.row r.path _ _ c.requires.room.1 c.args.noted.now _ _ _ (omega (arith, c.requires)) c.if-r-eq0.true c.restore.ensures
 
 pub shape_of-noted-else-r-eq0 : goal.shape_of-noted-else-r-eq0
-shape_of-noted-else-r-eq0 c = let r = c.reduce-r in whole_long c.args.noted.now c.args.p r.new.1.1.1.1.0 r.auto.1.1.1.1.0
+shape_of-noted-else-r-eq0 c = let r = c.reduce-r in whole_long c.args.noted.now c.args.p r.new.noted r.auto.noted
 
 pub returns-else-r-eq0 : goal.returns-else-r-eq0
 returns-else-r-eq0 c =

@@ -34,7 +34,7 @@ loop-p-preserved-then-owner-p-ne0 c =
     let less = c.loop-p-test.true in
     let most = l.invariant.0 in
     let d = c.settle in
-    (omega arith, d.auto.0 ∙ l.invariant.1, d.auto.1.0 ∙ l.invariant.2, c.noted-then-owner-p-ne0-1.given, settled l.invariant.4 (l.p - 1) (omega arith) (omega arith) (omega (arith, c.if-owner-p-ne0.true)) d.ensures)
+    (omega arith, d.auto.w ∙ l.invariant.1, d.auto.owner ∙ l.invariant.2, c.noted-then-owner-p-ne0-1.given, settled l.invariant.4 (l.p - 1) (omega arith) (omega arith) (omega (arith, c.if-owner-p-ne0.true)) d.ensures)
 
 pub loop-p-preserved : goal.loop-p-preserved
 loop-p-preserved c =

@@ -25,7 +25,7 @@ loop-m-preserved c =
     let l = c.loop-m in (
       parts-as (take_more a.sources.now l.m c.loop-m-test.true) (parts_more l.invariant.2 l.invariant.0 (rw c.wide.ensures at c.add_part.ensures)),
       omega arith,
-      c.add_part.auto.0 ∙ l.invariant.2,
+      c.add_part.auto.acc ∙ l.invariant.2,
     )
 
 pub shape_of-acc : goal.shape_of-acc

@@ -76,7 +76,7 @@ loop-count-preserved c =
       e.passed,
       omega arith,
       length-set l.sources l.count _ ∙ l.invariant.4,
-      c.add_part.auto.0 ∙ l.invariant.5,
+      c.add_part.auto.acc ∙ l.invariant.5,
     )
 
 pub shape_of-acc : goal.shape_of-acc

@@ -6,7 +6,7 @@ use borrow.Author.Rules.{rules}
 use Rattle.slots.proofs.decode.Goals as goal
 
 pub returns-in-Valid : goal.returns-in-Valid
-returns-in-Valid c = decoded-valid (unpack c.args.word) _ (sym c.unpack.ensures ∙ c.x-1.given.1)
+returns-in-Valid c = decoded-valid (unpack c.args.word) _ (sym c.unpack.ensures ∙ c.in-Valid.is)
 
 pub returns-in-Invalid : goal.returns-in-Invalid
-returns-in-Invalid c = decoded-invalid (unpack c.args.word) (sym c.unpack.ensures ∙ c.enum_told-1.given.1)
+returns-in-Invalid c = decoded-invalid (unpack c.args.word) (sym c.unpack.ensures ∙ c.in-Invalid.is)

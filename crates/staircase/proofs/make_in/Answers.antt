@@ -35,7 +35,7 @@ returns-then-not-fill c =
     let far = c.requires.limits in
     let long = c.requires.room in
     let f = c.fill in
-    let x = spent a.k a.n a.ones a.seed a.s a.table.now f.new.0 [] good far long f.result f.ensures (not-true _ c.if-not-fill.true-raw) in
+    let x = spent a.k a.n a.ones a.seed a.s a.table.now f.new.w [] good far long f.result f.ensures (not-true _ c.if-not-fill.true-raw) in
     record { answer = c.refused.ensures ∙ x.answer; table = x.table }
 
 pub put_stairs-requires : goal.put_stairs-requires
@@ -47,7 +47,7 @@ put_stairs-requires c =
     let f = c.fill in
     let m = low a.k a.n a.ones a.seed a.s good far in
     let r = m.rows in
-    let l = wide a.k a.n a.ones a.seed a.s a.table.now f.new.0 [] good far long f.result f.ensures (not-false _ c.if-not-fill.false-raw) in
+    let l = wide a.k a.n a.ones a.seed a.s a.table.now f.new.w [] good far long f.result f.ensures (not-false _ c.if-not-fill.false-raw) in
     (omega arith, m.places)
 
 pub weigh-total-requires : goal.weigh-total-requires
@@ -59,7 +59,7 @@ weigh-total-requires c =
     let f = c.fill in
     let m = low a.k a.n a.ones a.seed a.s good far in
     let r = m.rows in
-    let l = wide a.k a.n a.ones a.seed a.s a.table.now f.new.0 [] good far long f.result f.ensures (not-false _ c.if-not-fill.false-raw) in
+    let l = wide a.k a.n a.ones a.seed a.s a.table.now f.new.w [] good far long f.result f.ensures (not-false _ c.if-not-fill.false-raw) in
     let e = c.put_stairs.ensures.len in
     (m.rows, omega arith)
 
@@ -72,7 +72,7 @@ returns-then-total-gt-MOST_ONES c =
     let f = c.fill in
     let st = c.put_stairs in
     let y = c.weigh-total in
-    let x = heavy a.k a.n a.ones a.seed a.s a.table.now f.new.0 st.new.0 good far long f.result f.ensures
+    let x = heavy a.k a.n a.ones a.seed a.s a.table.now f.new.w st.new.w good far long f.result f.ensures
     (not-false _ c.if-not-fill.false-raw) st.ensures y.result y.ensures c.if-total-gt-MOST_ONES.true in
     record { answer = c.refused-then-total-gt-MOST_ONES.ensures ∙ x.answer; table = x.table }
 
@@ -89,10 +89,10 @@ write-length-requires c =
     let r = m.rows in
     let i = inside a.n a.s (a.n - a.k) far in
     let ok = not-false _ c.if-not-fill.false-raw in
-    let l = wide a.k a.n a.ones a.seed a.s a.table.now f.new.0 [] good far long f.result f.ensures ok in
+    let l = wide a.k a.n a.ones a.seed a.s a.table.now f.new.w [] good far long f.result f.ensures ok in
     let e = st.ensures.len in
     let t = c.if-total-gt-MOST_ONES.false in
-    let o = ones-are a.k a.n a.ones a.seed a.s a.table.now f.new.0 st.new.0 good far long f.result f.ensures
+    let o = ones-are a.k a.n a.ones a.seed a.s a.table.now f.new.w st.new.w good far long f.result f.ensures
     ok st.ensures y.result y.ensures t in
     (o, t, long, i.few-places, i.few_bytes, m.rows, omega arith)
 
@@ -105,7 +105,7 @@ overflow_cast-result c =
     let f = c.fill in
     let st = c.put_stairs in
     let y = c.weigh-total in
-    let l = short a.k a.n a.ones a.seed a.s a.table.now f.new.0 st.new.0 good far long f.result f.ensures
+    let l = short a.k a.n a.ones a.seed a.s a.table.now f.new.w st.new.w good far long f.result f.ensures
     (not-false _ c.if-not-fill.false-raw) st.ensures y.result y.ensures c.if-total-gt-MOST_ONES.false c.write-length.ensures in
     omega arith
 
@@ -118,6 +118,6 @@ returns c =
     let f = c.fill in
     let st = c.put_stairs in
     let y = c.weigh-total in
-    let x = made a.k a.n a.ones a.seed a.s a.table.now f.new.0 st.new.0 good far long f.result f.ensures
+    let x = made a.k a.n a.ones a.seed a.s a.table.now f.new.w st.new.w good far long f.result f.ensures
     (not-false _ c.if-not-fill.false-raw) st.ensures y.result y.ensures c.if-total-gt-MOST_ONES.false c.write-length.ensures in
     record { answer = x.answer; table = x.table }

@@ -24,16 +24,16 @@ mark_slots-requires c =
 pub clear_gaps-low-requires : goal.clear_gaps-low-requires
 clear_gaps-low-requires c =
     let p = c.requires in let k = (well c.args.plan.now p.lent.formed).counts in
-    record { formed = p.lent.formed; marks = omega (arith, c.mark_slots.auto.1.1.1.0, length-replicate {A = ℕ} most_slots 0); block = p.lent.block }
+    record { formed = p.lent.formed; marks = omega (arith, c.mark_slots.auto.marks, length-replicate {A = ℕ} most_slots 0); block = p.lent.block }
 
 pub clear_gap-requires : goal.clear_gap-requires
 clear_gap-requires c =
-    let a = c.args in let p = c.requires in let w = a.plan.now in let f = well w p.lent.formed in let k = f.counts in let n = c.places-n.ensures in record { bytes = rw n (omega (arith, c.block-1.given, p.lent.block)); marks = omega (arith, n, c.mark_slots.auto.1.1.1.0, length-replicate {A = ℕ} most_slots 0); order = omega (arith, n, gaps-low w f _ a.s a.block.now _ _ c.clear_gaps-low.ensures) }
+    let a = c.args in let p = c.requires in let w = a.plan.now in let f = well w p.lent.formed in let k = f.counts in let n = c.places-n.ensures in record { bytes = rw n (omega (arith, c.block-1.given, p.lent.block)); marks = omega (arith, n, c.mark_slots.auto.marks, length-replicate {A = ℕ} most_slots 0); order = omega (arith, n, gaps-low w f _ a.s a.block.now _ _ c.clear_gaps-low.ensures) }
 
 pub clear_gap-requires-2 : goal.clear_gap-requires-2
 clear_gap-requires-2 c =
     let p = c.requires in let k = (well c.args.plan.now p.lent.formed).counts in let n = c.places-n.ensures in let g = c.gap-g.ensures in
-    record { bytes = rw g (omega (arith, p.lent.scratch)); marks = omega (arith, n, g, c.mark_slots.auto.1.1.1.0, length-replicate {A = ℕ} most_slots 0); order = omega arith }
+    record { bytes = rw g (omega (arith, p.lent.scratch)); marks = omega (arith, n, g, c.mark_slots.auto.marks, length-replicate {A = ℕ} most_slots 0); order = omega arith }
 
 pub returns : goal.returns
 returns c =

@@ -16,10 +16,10 @@ pub gather-requires : goal.gather-requires
 gather-requires c = (c.requires.0, omega (arith, first-length (c.args.s - c.args.off) (replicate 64 0) (omega arith)))
 
 pub slice_bounds-acc-end-2 : goal.slice_bounds-acc-end-2
-slice_bounds-acc-end-2 c = back-room (c.args.s - c.args.off) (replicate 64 0) (omega arith) c.gather.new.0 c.gather.auto.0
+slice_bounds-acc-end-2 c = back-room (c.args.s - c.args.off) (replicate 64 0) (omega arith) c.gather.new.acc c.gather.auto.acc
 
 pub slice_bounds-lowest_of-end : goal.slice_bounds-lowest_of-end
-slice_bounds-lowest_of-end c = back-length (c.args.s - c.args.off) (replicate 64 0) (omega arith) c.gather.new.0 c.gather.auto.0
+slice_bounds-lowest_of-end c = back-length (c.args.s - c.args.off) (replicate 64 0) (omega arith) c.gather.new.acc c.gather.auto.acc
 
 pub returns : goal.returns
-returns c = c.lowest_of.ensures ∙ ap lowest_nonzero (rest_of _ _ _ _ _ _ _ c.requires.0 (omega arith) 64 _ (omega arith) c.gather.auto.0 c.gather.ensures)
+returns c = c.lowest_of.ensures ∙ ap lowest_nonzero (rest_of _ _ _ _ _ _ _ c.requires.0 (omega arith) 64 _ (omega arith) c.gather.auto.acc c.gather.ensures)

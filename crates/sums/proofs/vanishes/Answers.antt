@@ -25,7 +25,7 @@ loop-i-preserved c =
     let l = c.loop-i in (
       omega arith,
       (
-        c.or_chunk.auto.0 ∙ l.invariant.1.0,
+        c.or_chunk.auto.o ∙ l.invariant.1.0,
         λ e.
             let r = c.or_chunk.ensures e in
             passed (packet_sum c.args.s (packets c.args.s c.args.n c.args.block.now) (take c.args.weight (drop c.args.at c.args.t.now))) _ 64 64 (omega (arith, sum-length _ _ _ _ _ _ c.requires)) (l.invariant.1.1 r.0) (sym r.1) (omega arith),

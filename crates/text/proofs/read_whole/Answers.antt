@@ -4,7 +4,7 @@ use Rattle.text.specs.Files.{read_count}
 use Rattle.text.proofs.read_whole.Goals as goal
 
 pub returns-then-n-buf : goal.returns-then-n-buf
-returns-then-n-buf c = read_count _ c.read_into.ensures c.n-1.given.1
+returns-then-n-buf c = read_count _ c.read_into.ensures c.in-Count.is
 
 pub returns : goal.returns
-returns c = read_count _ c.read_into.ensures c.n-1.given.1
+returns c = read_count _ c.read_into.ensures c.in-Count.is

@@ -9,7 +9,7 @@ pub returns-then-kind-eq-ADD : goal.returns-then-kind-eq-ADD
 returns-then-kind-eq-ADD c = decoded-add _ _ _ c.if-kind-eq-ADD.true
 
 pub returns-then-from-eq0 : goal.returns-then-from-eq0
-returns-then-from-eq0 c = decoded-clear _ _ _ c.else-kind-eq0.true (eqb-true _ _ c.if-from-eq0.true-raw)
+returns-then-from-eq0 c = decoded-clear _ _ _ c.if-kind-eq0.true (eqb-true _ _ c.if-from-eq0.true-raw)
 
 pub returns : goal.returns
 returns c = decoded-none _ _ _ c.if-kind-eq-ADD.false (λ k f. ⊎_elim (λ w. eqb-false _ _ w.1.left f) (λ w. w.left k) c.else-kind-eq0.branch)
