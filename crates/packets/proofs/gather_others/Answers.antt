@@ -11,6 +11,7 @@ use mathlib.Core.List.{[], ◌∷◌}
 use Rattle.packets.proofs.Gathering.{place_same, place_other}
 use lib.ListN.{take, drop}
 use Rattle.packets.proofs.gather_others.Goals as goal
+use Rattle.packets.proofs.gather_others.Goals.{then-q-skip, else-q-skip}
 
 pub loop-m-init : goal.loop-m-init
 loop-m-init c = (omega arith, gathered_none _ _ _ _ c.requires.1)
@@ -41,16 +42,15 @@ loop-m-preserved c =
     let l = c.loop-m in
     let h = c.loop-m-test.true in
     let q = c.wide-q in
-    ⊎_elim
-    (λ u. (
+    elim c.if-q-skip.branch [
+    | then-q-skip u ↦ (
       omega arith,
-      place_other _ _ _ _ _ _ _ c.requires.0 _ _ _ _ _ l.m q.result c.requires.1 h q.ensures u.0.taken l.invariant.1 u.2.ensures u.5,
-    ))
-    (λ u. (
+      place_other _ _ _ _ _ _ _ c.requires.0 _ _ _ _ _ l.m q.result c.requires.1 h q.ensures u.if-q-skip.true l.invariant.1 u.add_from.ensures u.acc-is,
+    )
+    | else-q-skip u ↦ (
       omega arith,
-      place_same _ _ _ _ _ _ _ c.requires.0 _ _ _ _ l.m q.result h q.ensures u.0.left l.invariant.1 u.1,
-    ))
-    c.if-q-skip.branch
+      place_same _ _ _ _ _ _ _ c.requires.0 _ _ _ _ l.m q.result h q.ensures u.if-q-skip.false l.invariant.1 u.acc-is,
+    ) ]
 
 pub shape_of-acc : goal.shape_of-acc
 shape_of-acc c = c.loop-m.invariant.1.len
