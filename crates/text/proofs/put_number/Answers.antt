@@ -8,11 +8,11 @@ use Rattle.text.proofs.put_number.Goals as goal
 pub put-requires : goal.put-requires
 put-requires c =
     let d = c.decimal-k in
-    let e = d.ensures.1.1 ∙ number_digits d.result _ c.ranges.x.fits d.ensures.1.0 in
+    let e = d.ensures.digits ∙ number_digits d.result _ c.ranges.x.fits d.ensures.len in
     rw e c.requires
 
 pub returns : goal.returns
 returns c =
     let d = c.decimal-k in
     let x = c.ranges.x.fits in
-    same_word (d.ensures.1.1 ∙ number_digits d.result _ x d.ensures.1.0) c.put.ensures
+    same_word (d.ensures.digits ∙ number_digits d.result _ x d.ensures.len) c.put.ensures

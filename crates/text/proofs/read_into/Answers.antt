@@ -9,13 +9,13 @@ use Rattle.text.specs.Files.{read_count}
 use Rattle.text.proofs.read_into.Goals as goal
 
 pub returns-then-more-eq0 : goal.returns-then-more-eq0
-returns-then-more-eq0 c = (omega arith, sym (length-take-le _ _ (omega arith)))
+returns-then-more-eq0 g c = (omega arith, sym (length-take-le _ _ (omega arith)))
 
 pub overflow_add-n : goal.overflow_add-n
-overflow_add-n c = let m = read_count _ c.read_some.ensures c.in-Count.is in omega (arith, m.0)
+overflow_add-n g c = let m = read_count _ c.in_ok-more.ensures c.in-Count.is in omega (arith, m.0)
 
 pub loop-n-preserved : goal.loop-n-preserved
-loop-n-preserved c = let m = read_count _ c.read_some.ensures c.in-Count.is in omega (arith, m.0)
+loop-n-preserved g c = let m = read_count _ c.in_ok-more.ensures c.in-Count.is in omega (arith, m.0)
 
 pub returns : goal.returns
-returns c = (omega arith, sym (length-take-le _ _ (omega arith)))
+returns g c = (omega arith, sym (length-take-le _ _ (omega arith)))

@@ -9,7 +9,7 @@ use Rattle.text.specs.Files.{read_count}
 use Rattle.text.proofs.read_into.Given as goal
 
 abbrev pub invariant-loop-n : goal.invariant-loop-n
-invariant-loop-n l = (l.n ≤ length l.buf) × (length l.buf ≡ length l.initial.buf)
+invariant-loop-n g l = (l.n ≤ length l.buf) × (length l.buf ≡ length l.initial.buf)
 
 abbrev pub decreases-loop-n : goal.decreases-loop-n
-decreases-loop-n l = length l.initial.buf - l.n
+decreases-loop-n g l = length l.initial.buf - l.n
