@@ -1,85 +1,87 @@
 // alist_to_table TEXT SIZE TABLE: reads alist text, and writes its table, with packets of SIZE bytes.
 #![tactic(auto)]
+
 ghost use Rattle.std.specs.Prelude.{true, [], ◌∷◌, ◌≡◌};
 ghost use Rattle.lists.specs.Lists.{has};
 
 use numerals::Number;
+use std::io::Print;
+use std::rt::Runtime;
 use text::Read;
 
 // the most bytes of a text
 const MOST_TEXT: usize = 4194304;
 
 // Says on standard error why no table is made.
-fn refuse(refusal: u32)
+fn refuse<P: Print>(err: &P, refusal: u32) -> std::io::Result<()>
     requires { has refusal (12 ∷ 13 ∷ 2 ∷ 3 ∷ []) ≡ true }
 {
     if refusal == 12 {
-        io::write_all(
-            libc::STDERR_FILENO,
+        Print::write_all(
+            err,
             b"refused 12: not alist text: anything but numbers of at most six digits, too few or too many of them, ",
-        );
-        io::write_all(
-            libc::STDERR_FILENO,
+        )?;
+        Print::write_all(
+            err,
             b"a wrong greatest weight, an entry outside its range or repeated, or padding other than 0\n",
-        );
-        return;
+        )?;
+        return Ok(());
     }
     if refusal == 13 {
-        io::write_all(
-            libc::STDERR_FILENO,
-            b"refused 13: column and row lists disagree\n",
-        );
-        return;
+        Print::write_all(err, b"refused 13: column and row lists disagree\n")?;
+        return Ok(());
     }
     if refusal == 2 {
-        io::write_all(
-            libc::STDERR_FILENO,
+        Print::write_all(
+            err,
             b"refused 2: columns or SIZE outside 1 to 1,024, or more than 512 rows\n",
-        );
-        return;
+        )?;
+        return Ok(());
     }
-    io::write_all(
-        libc::STDERR_FILENO,
+    Print::write_all(
+        err,
         b"refused 3: a row of more than 64 entries, or more than 6,144 in all\n",
-    );
+    )
 }
 
 // Makes the table of a text, and writes it.
-fn make_file(text: &[u8], s: usize) {
+fn make_file<R: Runtime, P: Print>(rt: &R, err: &P, text: &[u8], s: usize) -> std::io::Result<()> {
     let mut table = [0u16; table::MOST_WORDS];
     let made = alist_read::read_alist(text, s, &mut table);
     if made.refusal != 0 {
-        refuse(made.refusal);
-        return;
+        refuse(err, made.refusal)?;
+        return Ok(());
     }
     let length = made.length as usize;
-    made_table::write_table(3, &table[..length]);
+    made_table::write_table(rt, err, 3, &table[..length])
 }
 
 // Reads the text to a buffer, likewise.
-fn by_buffer(file: &mut [u8], s: usize) {
-    let Read::Count(n) = text::read_argument(1, file) else {
-        return;
+fn by_buffer<R: Runtime, P: Print>(
+    rt: &R,
+    err: &P,
+    file: &mut [u8],
+    s: usize,
+) -> std::io::Result<()> {
+    let Read::Count(n) = text::read_argument(rt, err, 1, file)? else {
+        return Ok(());
     };
-    make_file(&file[..n], s);
+    make_file(rt, err, &file[..n], s)
 }
 
 // The same with a buffer of its own.
-fn by_file(s: usize) {
+fn by_file<R: Runtime, P: Print>(rt: &R, err: &P, s: usize) -> std::io::Result<()> {
     let mut file = [0u8; MOST_TEXT];
-    by_buffer(&mut file, s);
+    by_buffer(rt, err, &mut file, s)
 }
 
-fn main() {
-    if os::arg_count() != 4 {
-        io::write_all(
-            libc::STDERR_FILENO,
-            b"usage: alist_to_table TEXT SIZE TABLE\n",
-        );
-        return;
+fn main(rt: HostRuntime) -> std::io::Result<()> {
+    if !text::has_argument(&rt, 3) || text::has_argument(&rt, 4) {
+        Print::write_all(&rt.stderr(), b"usage: alist_to_table TEXT SIZE TABLE\n")?;
+        return Ok(());
     }
-    let Number::Is(s) = text::number_argument(2, b"SIZE") else {
-        return;
+    let Number::Is(s) = text::number_argument(&rt, &rt.stderr(), 2, b"SIZE")? else {
+        return Ok(());
     };
-    by_file(s);
+    by_file(&rt, &rt.stderr(), s)
 }

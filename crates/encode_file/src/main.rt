@@ -1,43 +1,57 @@
 // encode_file TABLE SOURCE BLOCK [SIZE]: writes the block whose information is the source, padded with
 // zeros, in packets of SIZE bytes; of the table's size where none is given.
 #![tactic(auto)]
+
 ghost use Rattle.std.specs.Prelude.{◌≡◌, ◌≤◌, length};
 ghost use Rattle.plan.specs.Layout.{plan_refusal};
 
 use numerals::Number;
+use std::io::Print;
+use std::rt::Runtime;
 use table::MOST_BYTES;
 use text::Read;
 
 // the most bytes of a block
 const MOST_BLOCK: usize = 32768;
 
-fn print_additions(additions: u32) {
-    text::print_count(libc::STDOUT_FILENO, b"additions ", additions as u64, b"\n");
+fn print_additions<P: Print>(out: &P, additions: u32) -> std::io::Result<()> {
+    text::print_count(out, b"additions ", additions as u64, b"\n")
 }
 
 // Reads the source, encodes it and writes the block.
-fn encode_source(
+fn encode_source<R: Runtime, P: Print>(
+    rt: &R,
+    err: &P,
     plan: &[u32],
     s: usize,
     information: &mut [u8],
     block: &mut [u8],
     scratch: &mut [u8],
-) {
-    let Read::Count(_) = text::read_argument(2, information) else {
-        return;
+) -> std::io::Result<()> {
+    let Read::Count(_) = text::read_argument(rt, err, 2, information)? else {
+        return Ok(());
     };
     let encoded = encoder::encode(plan, s, information, block, scratch, usize::MAX);
     if encoded.refusal != 0 {
-        text::say_refused(encoded.refusal);
-        return;
+        text::say_refused(err, encoded.refusal)?;
+        return Ok(());
     }
-    if text::write_argument(3, block) {
-        print_additions(encoded.additions);
+    if text::write_argument(rt, err, 3, block)? {
+        print_additions(rt, encoded.additions)?;
     }
+    Ok(())
 }
 
 // Encodes with part bytes of information, the whole block's, and spare ones of scratch.
-fn encode_within(plan: &[u32], s: usize, part: usize, whole: usize, spare: usize)
+fn encode_within<R: Runtime, P: Print>(
+    rt: &R,
+    err: &P,
+    plan: &[u32],
+    s: usize,
+    part: usize,
+    whole: usize,
+    spare: usize,
+) -> std::io::Result<()>
     requires { (part ≤ 32768)
         × (whole ≤ 32768)
         × (spare ≤ 32768) }
@@ -46,78 +60,75 @@ fn encode_within(plan: &[u32], s: usize, part: usize, whole: usize, spare: usize
     let mut block = [0u8; MOST_BLOCK];
     let mut scratch = [0u8; MOST_BLOCK];
     encode_source(
+        rt,
+        err,
         plan,
         s,
         &mut information[..part],
         &mut block[..whole],
         &mut scratch[..spare],
-    );
+    )
 }
 
 // Encodes in packets of s bytes.
-fn encode_by(plan: &[u32], s: usize)
+fn encode_by<R: Runtime, P: Print>(rt: &R, err: &P, plan: &[u32], s: usize) -> std::io::Result<()>
     requires { plan_refusal plan.now ≡ 0 }
 {
     if table::outside(MOST_BYTES, s) {
-        io::write_all(
-            libc::STDERR_FILENO,
-            b"refused 2: a packet has 1 to 1024 bytes\n",
-        );
-        return;
+        Print::write_all(err, b"refused 2: a packet has 1 to 1024 bytes\n")?;
+        return Ok(());
     }
     let whole = plan::places(plan) * s;
     if whole > MOST_BLOCK {
-        io::write_all(
-            libc::STDERR_FILENO,
-            b"the block has more than 32768 bytes\n",
-        );
-        return;
+        Print::write_all(err, b"the block has more than 32768 bytes\n")?;
+        return Ok(());
     }
     encode_within(
+        rt,
+        err,
         plan,
         s,
         plan::info_count(plan) * s,
         whole,
         plan::gap(plan) * s,
-    );
+    )
 }
 
 // The size that is given, or the table's.
-fn size_for(table: &[u16]) -> Number
+fn size_for<R: Runtime, P: Print>(rt: &R, err: &P, table: &[u16]) -> std::io::Result<Number>
     requires { 5 ≤ length table.now }
 {
-    if os::arg_count() == 5 {
-        return text::number_argument(4, b"SIZE");
+    if text::has_argument(rt, 4) && !text::has_argument(rt, 5) {
+        return text::number_argument(rt, err, 4, b"SIZE");
     }
-    Number::Is(table::wide(table[2]))
+    Ok(Number::Is(table::wide(table[2])))
 }
 
-fn encode_file(table: &[u16]) {
+fn encode_file<R: Runtime, P: Print>(rt: &R, err: &P, table: &[u16]) -> std::io::Result<()> {
     let mut plan = [0u32; planner::LEAST_PLAN];
     let planned = own_plan::plan_of(table, &mut plan);
     if planned.refusal != 0 {
-        text::say_refused(planned.refusal);
-        return;
+        text::say_refused(err, planned.refusal)?;
+        return Ok(());
     }
-    let Number::Is(s) = size_for(table) else {
-        return;
+    let Number::Is(s) = size_for(rt, err, table)? else {
+        return Ok(());
     };
     let length = planned.length as usize;
-    encode_by(&plan[..length], s);
+    encode_by(rt, err, &plan[..length], s)
 }
 
-fn main() {
-    let arguments = os::arg_count();
-    if arguments < 4 || 5 < arguments {
-        io::write_all(
-            libc::STDERR_FILENO,
+fn main(rt: HostRuntime) -> std::io::Result<()> {
+    if !text::has_argument(&rt, 3) || text::has_argument(&rt, 5) {
+        Print::write_all(
+            &rt.stderr(),
             b"usage: encode_file TABLE SOURCE BLOCK [SIZE]\n",
-        );
-        return;
+        )?;
+        return Ok(());
     }
     let mut words = [0u16; table_file::MOST_WORDS];
-    let Read::Count(n) = text::read_table(1, &mut words) else {
-        return;
+    let Read::Count(n) = text::read_table(&rt, &rt.stderr(), 1, &mut words)? else {
+        return Ok(());
     };
-    encode_file(&words[..n]);
+    encode_file(&rt, &rt.stderr(), &words[..n])
 }

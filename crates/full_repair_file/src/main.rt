@@ -2,6 +2,9 @@
 // writes block and map back. Where no codeword agrees with them, the block goes back too, zero at
 // its lost places.
 #![tactic(auto)]
+
+use std::io::Print;
+use std::rt::Runtime;
 use text::Read;
 
 // the most bytes of a block
@@ -11,56 +14,65 @@ const MOST_BLOCK: usize = 32768;
 const NONE_AGREES: u32 = 8;
 
 // Says the refusal. Packets with which no codeword agrees have left zeros at the lost places.
-fn refuse(refusal: u32, block: &[u8]) {
+fn refuse<R: Runtime, P: Print>(
+    rt: &R,
+    err: &P,
+    refusal: u32,
+    block: &[u8],
+) -> std::io::Result<()> {
     if refusal == NONE_AGREES {
-        io::write_all(
-            libc::STDERR_FILENO,
+        Print::write_all(
+            err,
             b"refused 8: no codeword agrees with the received packets\n",
-        );
-        text::write_argument(2, block);
-        return;
+        )?;
+        text::write_argument(rt, err, 2, block)?;
+        return Ok(());
     }
-    text::say_refused(refusal);
+    text::say_refused(err, refusal)
 }
 
-fn repair_block(table: &[u16], block: &mut [u8], map: &mut [u8]) {
+fn repair_block<R: Runtime, P: Print>(
+    rt: &R,
+    err: &P,
+    table: &[u16],
+    block: &mut [u8],
+    map: &mut [u8],
+) -> std::io::Result<()> {
     let mut work = [0u64; table::WORK_WORDS];
     let answer = full::full_repair(table, block, map, &mut work);
     if answer.refusal != 0 {
-        refuse(answer.refusal, block);
-        return;
+        refuse(rt, err, answer.refusal, block)?;
+        return Ok(());
     }
-    if !text::write_argument(2, block) {
-        return;
+    if !text::write_argument(rt, err, 2, block)? {
+        return Ok(());
     }
-    if text::write_argument(3, map) {
-        text::print_restored(answer.restored, answer.lost, b"\n");
+    if text::write_argument(rt, err, 3, map)? {
+        text::print_restored(rt, answer.restored, answer.lost, b"\n")?;
     }
+    Ok(())
 }
 
-fn repair_files(table: &[u16]) {
+fn repair_files<R: Runtime, P: Print>(rt: &R, err: &P, table: &[u16]) -> std::io::Result<()> {
     let mut block = [0u8; MOST_BLOCK];
     let mut map = [0u8; table::MOST_PLACES];
-    let Read::Count(bytes) = text::read_argument(2, &mut block) else {
-        return;
+    let Read::Count(bytes) = text::read_argument(rt, err, 2, &mut block)? else {
+        return Ok(());
     };
-    let Read::Count(places) = text::read_argument(3, &mut map) else {
-        return;
+    let Read::Count(places) = text::read_argument(rt, err, 3, &mut map)? else {
+        return Ok(());
     };
-    repair_block(table, &mut block[..bytes], &mut map[..places]);
+    repair_block(rt, err, table, &mut block[..bytes], &mut map[..places])
 }
 
-fn main() {
-    if os::arg_count() != 4 {
-        io::write_all(
-            libc::STDERR_FILENO,
-            b"usage: full_repair_file TABLE BLOCK MAP\n",
-        );
-        return;
+fn main(rt: HostRuntime) -> std::io::Result<()> {
+    if !text::has_argument(&rt, 3) || text::has_argument(&rt, 4) {
+        Print::write_all(&rt.stderr(), b"usage: full_repair_file TABLE BLOCK MAP\n")?;
+        return Ok(());
     }
     let mut words = [0u16; table_file::MOST_WORDS];
-    let Read::Count(n) = text::read_table(1, &mut words) else {
-        return;
+    let Read::Count(n) = text::read_table(&rt, &rt.stderr(), 1, &mut words)? else {
+        return Ok(());
     };
-    repair_files(&words[..n]);
+    repair_files(&rt, &rt.stderr(), &words[..n])
 }

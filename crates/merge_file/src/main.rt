@@ -2,66 +2,68 @@
 // restores what it can of the packets that neither heard or on which they differ, and writes block
 // and map. Where the packets contradict, both are written as merged, zero at the lost places.
 #![tactic(auto)]
+
 ghost use Rattle.std.specs.Prelude.{true, [], ◌∷◌, ◌≡◌, ◌≤◌, length};
 ghost use Rattle.lists.specs.Lists.{has};
 
 use merge::Merged;
+use std::io::Print;
+use std::rt::Runtime;
 use text::Read;
 
 // the most bytes of a block
 const MOST_BLOCK: usize = 32768;
 
 // Prints how many places are of each kind, and the repair's counts.
-fn print_counts(answer: Merged) {
-    text::print_count(libc::STDOUT_FILENO, b"agreed ", answer.agreed as u64, b"");
-    text::print_count(libc::STDOUT_FILENO, b" single ", answer.single as u64, b"");
-    text::print_count(libc::STDOUT_FILENO, b" silent ", answer.silent as u64, b"");
-    text::print_count(libc::STDOUT_FILENO, b" clash ", answer.clash as u64, b"\n");
-    text::print_restored(answer.restored, answer.lost, b"");
-    text::print_count(
-        libc::STDOUT_FILENO,
-        b" additions ",
-        answer.additions as u64,
-        b"\n",
-    );
+fn print_counts<P: Print>(out: &P, answer: Merged) -> std::io::Result<()> {
+    text::print_count(out, b"agreed ", answer.agreed as u64, b"")?;
+    text::print_count(out, b" single ", answer.single as u64, b"")?;
+    text::print_count(out, b" silent ", answer.silent as u64, b"")?;
+    text::print_count(out, b" clash ", answer.clash as u64, b"\n")?;
+    text::print_restored(out, answer.restored, answer.lost, b"")?;
+    text::print_count(out, b" additions ", answer.additions as u64, b"\n")
 }
 
 // Says on standard error why nothing is merged.
-fn refuse(refusal: u32)
+fn refuse<P: Print>(err: &P, refusal: u32) -> std::io::Result<()>
     requires { has refusal (1 ∷ 2 ∷ 3 ∷ 4 ∷ 5 ∷ 7 ∷ []) ≡ true }
 {
     if refusal == 5 {
-        io::write_all(
-            libc::STDERR_FILENO,
+        Print::write_all(
+            err,
             b"refused 5: a block or map that doesn't have the table's places and packet size\n",
-        );
-        return;
+        )?;
+        return Ok(());
     }
     if refusal == 7 {
-        io::write_all(
-            libc::STDERR_FILENO,
-            b"refused 7: a receiver's map has a byte over 1\n",
-        );
-        return;
+        Print::write_all(err, b"refused 7: a receiver's map has a byte over 1\n")?;
+        return Ok(());
     }
-    text::say_table_refused(refusal);
+    text::say_table_refused(err, refusal)
 }
 
 // Writes block and map; whether they were written.
-fn write_files(block: &[u8], map: &[u8]) -> bool {
-    if text::write_argument(6, block) {
-        return text::write_argument(7, map);
+fn write_files<R: Runtime, P: Print>(
+    rt: &R,
+    err: &P,
+    block: &[u8],
+    map: &[u8],
+) -> std::io::Result<bool> {
+    if text::write_argument(rt, err, 6, block)? {
+        return text::write_argument(rt, err, 7, map);
     }
-    false
+    Ok(false)
 }
 
 // Says that packets contradict, and which check fails at which byte.
-fn say_contradict(answer: Merged) {
-    io::write_all(libc::STDERR_FILENO, b"refused 8: ");
-    text::print_fault(libc::STDERR_FILENO, answer.check as u64, answer.byte as u64);
+fn say_contradict<P: Print>(err: &P, answer: Merged) -> std::io::Result<()> {
+    Print::write_all(err, b"refused 8: ")?;
+    text::print_fault(err, answer.check as u64, answer.byte as u64)
 }
 
-fn merge_into(
+fn merge_into<R: Runtime, P: Print>(
+    rt: &R,
+    err: &P,
     table: &[u16],
     block1: &[u8],
     map1: &[u8],
@@ -69,24 +71,32 @@ fn merge_into(
     map2: &[u8],
     block: &mut [u8],
     map: &mut [u8],
-) {
+) -> std::io::Result<()> {
     let answer = merge::merge(table, block1, map1, block2, map2, block, map);
     if answer.refusal == 0 {
-        if write_files(block, map) {
-            print_counts(answer);
+        if write_files(rt, err, block, map)? {
+            print_counts(rt, answer)?;
         }
-        return;
+        return Ok(());
     }
     if answer.refusal == 8 {
-        say_contradict(answer);
-        write_files(block, map);
-        return;
+        say_contradict(err, answer)?;
+        write_files(rt, err, block, map)?;
+        return Ok(());
     }
-    refuse(answer.refusal);
+    refuse(err, answer.refusal)
 }
 
 // The third block and map have the first receiver's lengths.
-fn merge_held(table: &[u16], block1: &[u8], map1: &[u8], block2: &[u8], map2: &[u8])
+fn merge_held<R: Runtime, P: Print>(
+    rt: &R,
+    err: &P,
+    table: &[u16],
+    block1: &[u8],
+    map1: &[u8],
+    block2: &[u8],
+    map2: &[u8],
+) -> std::io::Result<()>
     requires { (length block1.now ≤ 32768)
         × (length map1.now ≤ 1024) }
 {
@@ -95,6 +105,8 @@ fn merge_held(table: &[u16], block1: &[u8], map1: &[u8], block2: &[u8], map2: &[
     let bytes = block1.len();
     let places = map1.len();
     merge_into(
+        rt,
+        err,
         table,
         block1,
         map1,
@@ -102,49 +114,63 @@ fn merge_held(table: &[u16], block1: &[u8], map1: &[u8], block2: &[u8], map2: &[
         map2,
         &mut block[..bytes],
         &mut map[..places],
-    );
+    )
 }
 
 // The second receiver's files.
-fn merge_second(table: &[u16], block1: &[u8], map1: &[u8])
+fn merge_second<R: Runtime, P: Print>(
+    rt: &R,
+    err: &P,
+    table: &[u16],
+    block1: &[u8],
+    map1: &[u8],
+) -> std::io::Result<()>
     requires { (length block1.now ≤ 32768)
         × (length map1.now ≤ 1024) }
 {
     let mut block = [0u8; MOST_BLOCK];
     let mut map = [0u8; table::MOST_PLACES];
-    let Read::Count(bytes) = text::read_argument(4, &mut block) else {
-        return;
+    let Read::Count(bytes) = text::read_argument(rt, err, 4, &mut block)? else {
+        return Ok(());
     };
-    let Read::Count(places) = text::read_argument(5, &mut map) else {
-        return;
+    let Read::Count(places) = text::read_argument(rt, err, 5, &mut map)? else {
+        return Ok(());
     };
-    merge_held(table, block1, map1, &block[..bytes], &map[..places]);
+    merge_held(
+        rt,
+        err,
+        table,
+        block1,
+        map1,
+        &block[..bytes],
+        &map[..places],
+    )
 }
 
 // The first receiver's files.
-fn merge_first(table: &[u16]) {
+fn merge_first<R: Runtime, P: Print>(rt: &R, err: &P, table: &[u16]) -> std::io::Result<()> {
     let mut block = [0u8; MOST_BLOCK];
     let mut map = [0u8; table::MOST_PLACES];
-    let Read::Count(bytes) = text::read_argument(2, &mut block) else {
-        return;
+    let Read::Count(bytes) = text::read_argument(rt, err, 2, &mut block)? else {
+        return Ok(());
     };
-    let Read::Count(places) = text::read_argument(3, &mut map) else {
-        return;
+    let Read::Count(places) = text::read_argument(rt, err, 3, &mut map)? else {
+        return Ok(());
     };
-    merge_second(table, &block[..bytes], &map[..places]);
+    merge_second(rt, err, table, &block[..bytes], &map[..places])
 }
 
-fn main() {
-    if os::arg_count() != 8 {
-        io::write_all(
-            libc::STDERR_FILENO,
+fn main(rt: HostRuntime) -> std::io::Result<()> {
+    if !text::has_argument(&rt, 7) || text::has_argument(&rt, 8) {
+        Print::write_all(
+            &rt.stderr(),
             b"usage: merge_file TABLE BLOCK1 MAP1 BLOCK2 MAP2 BLOCK MAP\n",
-        );
-        return;
+        )?;
+        return Ok(());
     }
     let mut words = [0u16; table_file::MOST_WORDS];
-    let Read::Count(n) = text::read_table(1, &mut words) else {
-        return;
+    let Read::Count(n) = text::read_table(&rt, &rt.stderr(), 1, &mut words)? else {
+        return Ok(());
     };
-    merge_first(&words[..n]);
+    merge_first(&rt, &rt.stderr(), &words[..n])
 }

@@ -1,14 +1,16 @@
 // Prints the plan of the table that it reads from standard input.
 #![tactic(auto)]
+
+use std::io::Print;
 use text::Read;
 
-fn main() {
+fn main(rt: HostRuntime) -> std::io::Result<()> {
     // a byte more than a table's file may have shows that there are too many
     let mut file = [0u8; table_file::MOST_BYTES + 1];
-    let Read::Count(n) = text::read_into(libc::STDIN_FILENO, &mut file) else {
-        return;
+    let Read::Count(n) = text::read_into(&mut rt.stdin(), &rt, &rt.stderr(), &mut file)? else {
+        return Ok(());
     };
     let mut out = [0u8; listing::MOST_TEXT];
     let length = listing::list(&file[..n], &mut out);
-    io::write_all(libc::STDOUT_FILENO, &out[..length]);
+    Print::write_all(&rt, &out[..length])
 }

@@ -1,46 +1,57 @@
 // staircase_file SOURCES PACKETS ONES SEED SIZE TABLE: writes the table of a staircase.
 #![tactic(auto)]
+
 use numerals::Number;
+use std::io::Print;
+use std::rt::Runtime;
 
 // Makes the table and writes it.
-fn make_file(k: usize, n: usize, ones: usize, seed: usize, s: usize) {
+fn make_file<R: Runtime, P: Print>(
+    rt: &R,
+    err: &P,
+    k: usize,
+    n: usize,
+    ones: usize,
+    seed: usize,
+    s: usize,
+) -> std::io::Result<()> {
     let mut table = [0u16; table::MOST_WORDS];
     let made = staircase::make(k, n, ones, seed, s, &mut table);
     if made.refusal != 0 {
-        text::say_refused(made.refusal);
-        return;
+        text::say_refused(err, made.refusal)?;
+        return Ok(());
     }
     let length = made.length as usize;
-    made_table::write_table(6, &table[..length]);
+    made_table::write_table(rt, err, 6, &table[..length])
 }
 
 // Reads the numbers and makes the file.
-fn by_arguments() {
-    let Number::Is(k) = text::number_argument(1, b"SOURCES") else {
-        return;
+fn by_arguments<R: Runtime, P: Print>(rt: &R, err: &P) -> std::io::Result<()> {
+    let Number::Is(k) = text::number_argument(rt, err, 1, b"SOURCES")? else {
+        return Ok(());
     };
-    let Number::Is(n) = text::number_argument(2, b"PACKETS") else {
-        return;
+    let Number::Is(n) = text::number_argument(rt, err, 2, b"PACKETS")? else {
+        return Ok(());
     };
-    let Number::Is(ones) = text::number_argument(3, b"ONES") else {
-        return;
+    let Number::Is(ones) = text::number_argument(rt, err, 3, b"ONES")? else {
+        return Ok(());
     };
-    let Number::Is(seed) = text::number_argument(4, b"SEED") else {
-        return;
+    let Number::Is(seed) = text::number_argument(rt, err, 4, b"SEED")? else {
+        return Ok(());
     };
-    let Number::Is(s) = text::number_argument(5, b"SIZE") else {
-        return;
+    let Number::Is(s) = text::number_argument(rt, err, 5, b"SIZE")? else {
+        return Ok(());
     };
-    make_file(k, n, ones, seed, s);
+    make_file(rt, err, k, n, ones, seed, s)
 }
 
-fn main() {
-    if os::arg_count() != 7 {
-        io::write_all(
-            libc::STDERR_FILENO,
+fn main(rt: HostRuntime) -> std::io::Result<()> {
+    if !text::has_argument(&rt, 6) || text::has_argument(&rt, 7) {
+        Print::write_all(
+            &rt.stderr(),
             b"usage: staircase_file SOURCES PACKETS ONES SEED SIZE TABLE\n",
-        );
-        return;
+        )?;
+        return Ok(());
     }
-    by_arguments();
+    by_arguments(&rt, &rt.stderr())
 }

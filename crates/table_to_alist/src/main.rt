@@ -1,42 +1,51 @@
 // table_to_alist TABLE TEXT: writes a table as alist text.
 #![tactic(auto)]
+
 ghost use Rattle.std.specs.Prelude.{◌≤◌, length};
 ghost use Rattle.alist.specs.AlistLength.{most_alist};
 
+use std::io::Print;
+use std::rt::Runtime;
 use text::Read;
 
 // as many bytes as the longest text of any table
 const MOST_TEXT: usize = 1200000;
 
 // Writes the text's file by way of a buffer, and says so.
-fn write_text(table: &[u16], file: &mut [u8])
+fn write_text<R: Runtime, P: Print>(
+    rt: &R,
+    err: &P,
+    table: &[u16],
+    file: &mut [u8],
+) -> std::io::Result<()>
     requires { most_alist ≤ length file.old }
 {
     let written = alist_write::write_alist(table, file);
     if written.refusal != 0 {
-        text::say_table_refused(written.refusal);
-        return;
+        text::say_table_refused(err, written.refusal)?;
+        return Ok(());
     }
     let length = written.length as usize;
-    if text::write_argument(2, &file[..length]) {
-        text::print_count(libc::STDOUT_FILENO, b"text of ", length as u64, b" bytes\n");
+    if text::write_argument(rt, err, 2, &file[..length])? {
+        text::print_count(rt, b"text of ", length as u64, b" bytes\n")?;
     }
+    Ok(())
 }
 
 // The same with a buffer of its own.
-fn write_file(table: &[u16]) {
+fn write_file<R: Runtime, P: Print>(rt: &R, err: &P, table: &[u16]) -> std::io::Result<()> {
     let mut file = [0u8; MOST_TEXT];
-    write_text(table, &mut file);
+    write_text(rt, err, table, &mut file)
 }
 
-fn main() {
-    if os::arg_count() != 3 {
-        io::write_all(libc::STDERR_FILENO, b"usage: table_to_alist TABLE TEXT\n");
-        return;
+fn main(rt: HostRuntime) -> std::io::Result<()> {
+    if !text::has_argument(&rt, 2) || text::has_argument(&rt, 3) {
+        Print::write_all(&rt.stderr(), b"usage: table_to_alist TABLE TEXT\n")?;
+        return Ok(());
     }
     let mut words = [0u16; table_file::MOST_WORDS];
-    let Read::Count(n) = text::read_table(1, &mut words) else {
-        return;
+    let Read::Count(n) = text::read_table(&rt, &rt.stderr(), 1, &mut words)? else {
+        return Ok(());
     };
-    write_file(&words[..n]);
+    write_file(&rt, &rt.stderr(), &words[..n])
 }

@@ -1,40 +1,39 @@
 // verify_file TABLE BLOCK: says whether the block is a codeword of the table, or which check fails at
 // which byte.
 #![tactic(auto)]
+
+use std::io::Print;
+use std::rt::Runtime;
 use text::Read;
 use verify::Verified;
 
 // the most bytes of a block
 const MOST_BLOCK: usize = 32768;
 
-fn print_verdict(verdict: Verified) {
+fn print_verdict<P: Print, Q: Print>(out: &P, err: &Q, verdict: Verified) -> std::io::Result<()> {
     match verdict {
-        Verified::Refused(number) => text::say_refused(number),
-        Verified::Codeword => {
-            io::write_all(libc::STDOUT_FILENO, b"codeword\n");
-        }
-        Verified::Fails(check, byte) => {
-            text::print_fault(libc::STDOUT_FILENO, check as u64, byte as u64)
-        }
+        Verified::Refused(number) => text::say_refused(err, number),
+        Verified::Codeword => Print::write_all(out, b"codeword\n"),
+        Verified::Fails(check, byte) => text::print_fault(out, check as u64, byte as u64),
     }
 }
 
-fn verify(table: &[u16]) {
+fn verify<R: Runtime, P: Print>(rt: &R, err: &P, table: &[u16]) -> std::io::Result<()> {
     let mut block = [0u8; MOST_BLOCK];
-    let Read::Count(n) = text::read_argument(2, &mut block) else {
-        return;
+    let Read::Count(n) = text::read_argument(rt, err, 2, &mut block)? else {
+        return Ok(());
     };
-    print_verdict(verify::verify(table, &block[..n]));
+    print_verdict(rt, err, verify::verify(table, &block[..n]))
 }
 
-fn main() {
-    if os::arg_count() != 3 {
-        io::write_all(libc::STDERR_FILENO, b"usage: verify_file TABLE BLOCK\n");
-        return;
+fn main(rt: HostRuntime) -> std::io::Result<()> {
+    if !text::has_argument(&rt, 2) || text::has_argument(&rt, 3) {
+        Print::write_all(&rt.stderr(), b"usage: verify_file TABLE BLOCK\n")?;
+        return Ok(());
     }
     let mut words = [0u16; table_file::MOST_WORDS];
-    let Read::Count(n) = text::read_table(1, &mut words) else {
-        return;
+    let Read::Count(n) = text::read_table(&rt, &rt.stderr(), 1, &mut words)? else {
+        return Ok(());
     };
-    verify(&words[..n]);
+    verify(&rt, &rt.stderr(), &words[..n])
 }

@@ -7,13 +7,13 @@ use borrow.Author.Rules.{rules}
 use Rattle.encode_file.proofs.encode_file.Goals as goal
 
 pub size_for-requires : goal.size_for-requires
-size_for-requires c = words c.args.table.now _ refl (own-plan c.args.table.now (replicate 15360 0) c.plan_of-planned.result c.plan_of-planned.ensures.answer _ c.plan_of-planned.ensures.plan c.if-planned-ne0.false).accepted
+size_for-requires g c = words c.args.table.now _ refl (own-plan c.args.table.now (replicate 15360 0) c.plan_of-planned.result c.plan_of-planned.ensures.answer _ c.plan_of-planned.ensures.plan c.if-planned-ne0.false).accepted
 
 pub slice_bounds-plan-end : goal.slice_bounds-plan-end
-slice_bounds-plan-end c = (own-plan c.args.table.now (replicate 15360 0) c.plan_of-planned.result c.plan_of-planned.ensures.answer _ c.plan_of-planned.ensures.plan c.if-planned-ne0.false).within
+slice_bounds-plan-end g c = (own-plan c.args.table.now (replicate 15360 0) c.plan_of-planned.result c.plan_of-planned.ensures.answer _ c.plan_of-planned.ensures.plan c.if-planned-ne0.false).within
 
 pub slice_bounds-encode_by-end : goal.slice_bounds-encode_by-end
-slice_bounds-encode_by-end c = (own-plan c.args.table.now (replicate 15360 0) c.plan_of-planned.result c.plan_of-planned.ensures.answer _ c.plan_of-planned.ensures.plan c.if-planned-ne0.false).counts
+slice_bounds-encode_by-end g c = (own-plan c.args.table.now (replicate 15360 0) c.plan_of-planned.result c.plan_of-planned.ensures.answer _ c.plan_of-planned.ensures.plan c.if-planned-ne0.false).counts
 
 pub encode_by-requires : goal.encode_by-requires
-encode_by-requires c = (own-plan c.args.table.now (replicate 15360 0) c.plan_of-planned.result c.plan_of-planned.ensures.answer _ c.plan_of-planned.ensures.plan c.if-planned-ne0.false).formed
+encode_by-requires g c = (own-plan c.args.table.now (replicate 15360 0) c.plan_of-planned.result c.plan_of-planned.ensures.answer _ c.plan_of-planned.ensures.plan c.if-planned-ne0.false).formed

@@ -5,22 +5,22 @@ use Rattle.made_table.proofs.Long.{long}
 use Rattle.made_table.proofs.print_table.Goals as goal
 
 pub bounds-table-3 : goal.bounds-table-3
-bounds-table-3 c = let l = (long c.args.table.now c.requires).head in omega arith
+bounds-table-3 g c = let l = (long c.args.table.now c.requires).head in omega arith
 
 pub overflow_add-checks : goal.overflow_add-checks
-overflow_add-checks c =
+overflow_add-checks g c =
     let l = long c.args.table.now c.requires in
     let e = c.wide-checks.ensures in
     omega arith
 
 pub offset_bounds-table-checks : goal.offset_bounds-table-checks
-offset_bounds-table-checks c =
+offset_bounds-table-checks g c =
     let l = long c.args.table.now c.requires in
     let e = c.wide-checks.ensures in
     omega arith
 
 pub bounds-table-checks : goal.bounds-table-checks
-bounds-table-checks c =
+bounds-table-checks g c =
     let l = long c.args.table.now c.requires in
     let e = c.wide-checks.ensures in
     omega arith

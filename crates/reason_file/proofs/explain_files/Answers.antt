@@ -4,21 +4,21 @@ use Rattle.text.specs.Files.{read_count}
 use Rattle.reason_file.proofs.explain_files.Goals as goal
 
 pub slice_bounds-block-end : goal.slice_bounds-block-end
-slice_bounds-block-end c =
+slice_bounds-block-end g c =
     let r = c.read_argument in
     (read_count _ r.ensures c.in-Count.is).0
 
 pub slice_bounds-explain_place-end : goal.slice_bounds-explain_place-end
-slice_bounds-explain_place-end c =
+slice_bounds-explain_place-end g c =
     let r = c.read_argument in
     (read_count _ r.ensures c.in-Count.is).1
 
 pub slice_bounds-map-end : goal.slice_bounds-map-end
-slice_bounds-map-end c =
+slice_bounds-map-end g c =
     let r = c.read_argument-2 in
     (read_count _ r.ensures c.in-Count-read_argument.is).0
 
 pub slice_bounds-explain_place-end-2 : goal.slice_bounds-explain_place-end-2
-slice_bounds-explain_place-end-2 c =
+slice_bounds-explain_place-end-2 g c =
     let r = c.read_argument-2 in
     (read_count _ r.ensures c.in-Count-read_argument.is).1

@@ -6,4 +6,4 @@ use lib.ListN.{length}
 use Rattle.reason_file.proofs.print_numbers.Goals as goal
 
 pub overflow_cast-list : goal.overflow_cast-list
-overflow_cast-list c = let f = c.shared_slice_known-in-loop-i-1.given c.loop-i.i in omega (arith, f)
+overflow_cast-list g c = let f = c.shared_slice_known-in-loop-i-1.given c.loop-i.i in omega (arith, f)

@@ -5,19 +5,19 @@ use Rattle.staircase_file.proofs.TableMade.{table-stands, table-accepted}
 use Rattle.staircase_file.proofs.make_file.Goals as goal
 
 pub slice_bounds-table-end : goal.slice_bounds-table-end
-slice_bounds-table-end c =
+slice_bounds-table-end g c =
     let m = c.make-made in
     let a = c.args in
     (table-stands a.k a.n a.ones a.seed a.s (replicate 6661 0) _ m.result m.ensures.answer m.ensures.table c.if-made-ne0.false).within
 
 pub slice_bounds-write_table-end : goal.slice_bounds-write_table-end
-slice_bounds-write_table-end c =
+slice_bounds-write_table-end g c =
     let m = c.make-made in
     let a = c.args in
     (table-stands a.k a.n a.ones a.seed a.s (replicate 6661 0) _ m.result m.ensures.answer m.ensures.table c.if-made-ne0.false).counts
 
 pub write_table-requires : goal.write_table-requires
-write_table-requires c =
+write_table-requires g c =
     let m = c.make-made in
     let a = c.args in
     table-accepted a.k a.n a.ones a.seed a.s (replicate 6661 0) _ m.result m.ensures.answer m.ensures.table c.if-made-ne0.false
