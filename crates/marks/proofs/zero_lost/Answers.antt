@@ -17,7 +17,7 @@ pub overflow_mul-p : goal.overflow_mul-p
 overflow_mul-p c =
     let a = c.args in
     let s = c.loop-p in
-    omega (arith, place-fits s.p a.n a.s c.loop-p-test.true, c.requires.0, c.well-formed.0.0)
+    omega (arith, place-fits s.p a.n a.s c.loop-p-test.true, c.requires.0, c.well_formed.0.0)
 
 pub clear-requires : goal.clear-requires
 clear-requires c =
