@@ -1,5 +1,6 @@
 // Numbers and line ends put into a text buffer as far as it reaches.
 #![tactic(auto)]
+
 ghost use Rattle.std.specs.Prelude.{◌≡◌, [], ◌∷◌, map, suc, ◌+◌, ◌-◌, ◌*◌, ◌≤◌, ◌<◌, eqb, length, replicate};
 ghost use Rattle.bits.specs.Row.{row, places_in};
 ghost use Rattle.bits.specs.WordPlaces.{places_of};

@@ -1,5 +1,6 @@
 // The generator of RFC 5170 (Park and Miller), and a draw by it.
 #![tactic(auto)]
+
 ghost use Rattle.std.specs.Prelude.{◌≤◌, ◌<◌, ◌≡◌};
 ghost use Rattle.draws.specs.Draws.{Draws};
 ghost use Rattle.draws.specs.Generator.{modulus};

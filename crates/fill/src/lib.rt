@@ -1,5 +1,6 @@
 // The left side of a staircase (RFC 5170), in rows of bits.
 #![tactic(auto)]
+
 ghost use Rattle.std.specs.Prelude.{◌≡◌, true, ℕ, ◌≤◌, ◌<◌, length, get_or};
 ghost use Rattle.draws.specs.Generator.{modulus};
 ghost use Rattle.fill.specs.Fill.{and_then, one as one_of, column as column_of, columns as columns_of, first_one, second_one, fill as fill_of};

@@ -1,5 +1,6 @@
 // A place without a one drawn in rows of bits, and a one put there (RFC 5170).
 #![tactic(auto)]
+
 ghost use Rattle.std.specs.Prelude.{◌≡◌, true, false, ◌++◌, map, ℕ, ◌+◌, ◌-◌, ◌%◌, ◌≤◌, ◌<◌, length, get_or, take, drop};
 ghost use Rattle.lists.specs.Lists.{any_of, from};
 ghost use Rattle.draws.specs.Generator.{modulus};

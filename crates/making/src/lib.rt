@@ -1,5 +1,6 @@
 // Rows of bits into a table (document 02, C-11 and C-15).
 #![tactic(auto)]
+
 ghost use Rattle.std.specs.Prelude.{◌≡◌, [], ◌∷◌, map, ◌+◌, ◌*◌, ◌≤◌, ◌<◌, length};
 ghost use Rattle.lists.specs.Lists.{Wrote};
 ghost use Rattle.table.specs.LookOver.{weighed};

@@ -1,5 +1,6 @@
 // Decimal numbers of at most six digits in a text, between blanks and line ends: counting them, and reading them one after another.
 #![tactic(auto)]
+
 ghost use Rattle.std.specs.Prelude.{◌≡◌, ◌<◌};
 ghost use Rattle.numbers.specs.Numbers.{is_gap, numbers_in};
 ghost use Rattle.numbers.specs.Counting.{digits_after, ends_here, Counts};

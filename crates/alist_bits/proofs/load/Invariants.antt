@@ -1,12 +1,9 @@
 -- `load` meets its contract: check after check.
-use mathlib.Core.Path.{◌≡◌, refl, subst, ◌∙◌}
+use mathlib.Core.Path.{◌≡◌}
 use Prim.Native.Nat.{◌+◌, ◌-◌, ◌≤◌}
-use native.Mathlib.Omega.{arith}
 use lib.ListN.{length}
-use Rattle.table.specs.Accepted.{few-checks, has-weights, check-is, check-fits, places-wide, few-places, few_words, offset-more}
 use Rattle.table.specs.Checks.{offset}
-use Rattle.table.specs.ChecksLaws.{offset-none}
-use Rattle.alist_bits.proofs.Turning.{Turned, turned_none, turned_more, Listed, listed-none, listed_more, loaded}
+use Rattle.alist_bits.proofs.Turning.{Turned, Listed}
 use Rattle.alist_bits.proofs.load.Given as goal
 
 abbrev pub invariant-loop-j : goal.invariant-loop-j

@@ -1,6 +1,5 @@
 -- `turn_check` meets its contract: place after place.
 use mathlib.Core.Path.{◌≡◌, subst}
-use Prim.Native.Nat.{◌-◌, ◌≤◌}
 use native.Mathlib.Omega.{arith}
 use lib.ListN.{take, drop}
 use Rattle.alist_bits.specs.Loaded.{Flipped}

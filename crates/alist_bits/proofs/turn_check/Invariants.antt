@@ -1,10 +1,7 @@
 -- `turn_check` meets its contract: place after place.
-use mathlib.Core.Path.{◌≡◌, subst}
 use Prim.Native.Nat.{◌-◌, ◌≤◌}
-use native.Mathlib.Omega.{arith}
 use lib.ListN.{take, drop}
 use Rattle.alist_bits.specs.Loaded.{Flipped}
-use Rattle.alist_bits.proofs.Turning.{flipped-none, flipped-more}
 use Rattle.alist_bits.proofs.turn_check.Given as goal
 
 abbrev pub invariant-loop-i : goal.invariant-loop-i

@@ -15,7 +15,7 @@ abbrev pub invariant-loop-c : goal.invariant-loop-c
 invariant-loop-c l =
     (l.c ≤ l.count)
     × (l.next ≤ l.at + 5 * l.c)
-    × Part (λ l. Put l.initial.text l.at (numbers_on (eqb l.at l.at) l) l.text l.next) (map length (rows_in l.w l.count)) (map length (rows_from l.w l.count l.c))
+    × Part (λ x. Put l.initial.text l.at (numbers_on (eqb l.at l.at) x) l.text l.next) (map length (rows_in l.w l.count)) (map length (rows_from l.w l.count l.c))
 
 abbrev pub decreases-loop-c : goal.decreases-loop-c
 decreases-loop-c l = l.count - l.c

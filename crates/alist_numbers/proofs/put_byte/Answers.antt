@@ -1,5 +1,4 @@
 -- `put_byte` meets its contract: it is stored inside the text, and not behind it.
-use borrow.Author.Rules.{rules}
 use Rattle.alist_numbers.specs.PutLaws.{put_in, put-out}
 use Rattle.alist_numbers.proofs.put_byte.Goals as goal
 

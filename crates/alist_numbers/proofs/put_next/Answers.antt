@@ -1,6 +1,5 @@
 -- `put_next` meets its contract: the number alone, or after a blank.
 use native.Mathlib.Omega.{arith}
-use borrow.Author.Rules.{rules}
 use Rattle.alist_numbers.specs.PutLaws.{put-decimal, next-first, next-after}
 use Rattle.alist_numbers.proofs.put_next.Goals as goal
 

@@ -2,7 +2,6 @@
 use mathlib.Core.Path.{◌≡◌}
 use Prim.Native.Nat.{◌/◌, ◌≤◌}
 use native.Mathlib.Omega.{arith}
-use borrow.Author.Rules.{rules}
 use Rattle.alist_numbers.specs.PutLaws.{put_last, put_same}
 use Rattle.alist_numbers.proofs.put_number.Goals as goal
 

@@ -1,14 +1,11 @@
 -- `put_row` meets its contract: what is left to put are the places of the words left.
 use mathlib.Core.Path.{ap, ◌∙◌}
 use mathlib.Core.List.{map, map-append}
-use Prim.Native.Nat.{suc, ◌+◌, ◌-◌, ◌*◌, ◌≤◌}
+use Prim.Native.Nat.{suc, ◌+◌, ◌-◌, ◌*◌}
 use native.Mathlib.Omega.{arith}
-use lib.Dec.{eqb}
 use lib.ListN.{get_or}
-use Rattle.bits.specs.Row.{row, places_in}
 use Rattle.bits.specs.WordPlaces.{places_of, places_from, row-places, words-next, words-none}
-use Rattle.alist_numbers.specs.Put.{Put, numbers_on}
-use Rattle.alist_numbers.specs.PutLaws.{put-none, on_both, Part, part_none, part-more, part-all}
+use Rattle.alist_numbers.specs.PutLaws.{put-none, on_both, part_none, part-more, part-all}
 use Rattle.alist_numbers.proofs.put_row.Goals as goal
 
 pub loop-i-init : goal.loop-i-init

@@ -1,21 +1,18 @@
 -- `put_row` meets its contract: what is left to put are the places of the words left.
-use mathlib.Core.Path.{ap, ◌∙◌}
-use mathlib.Core.List.{map, map-append}
+use mathlib.Core.List.{map}
 use Prim.Native.Nat.{suc, ◌+◌, ◌-◌, ◌*◌, ◌≤◌}
-use native.Mathlib.Omega.{arith}
 use lib.Dec.{eqb}
-use lib.ListN.{get_or}
 use Rattle.bits.specs.Row.{row, places_in}
-use Rattle.bits.specs.WordPlaces.{places_of, places_from, row-places, words-next, words-none}
+use Rattle.bits.specs.WordPlaces.{places_from}
 use Rattle.alist_numbers.specs.Put.{Put, numbers_on}
-use Rattle.alist_numbers.specs.PutLaws.{put-none, on_both, Part, part_none, part-more, part-all}
+use Rattle.alist_numbers.specs.PutLaws.{Part}
 use Rattle.alist_numbers.proofs.put_row.Given as goal
 
 abbrev pub invariant-loop-i : goal.invariant-loop-i
 invariant-loop-i l =
     (l.i ≤ 16)
     × (l.k ≤ l.at + 320 * l.i)
-    × Part (λ l. Put l.initial.text l.at (numbers_on (eqb l.at l.start) l) l.text l.k) (map suc (places_in (row l.w l.r))) (map suc (places_from l.w l.r l.i (16 - l.i)))
+    × Part (λ x. Put l.initial.text l.at (numbers_on (eqb l.at l.start) x) l.text l.k) (map suc (places_in (row l.w l.r))) (map suc (places_from l.w l.r l.i (16 - l.i)))
 
 abbrev pub decreases-loop-i : goal.decreases-loop-i
 decreases-loop-i l = 16 - l.i

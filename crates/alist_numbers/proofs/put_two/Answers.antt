@@ -1,7 +1,6 @@
 -- `put_two` meets its contract: one digit, or two.
 use Prim.Native.Nat.{◌/◌}
 use native.Mathlib.Omega.{arith}
-use borrow.Author.Rules.{rules}
 use Rattle.alist_numbers.specs.PutLaws.{put_first, put_last}
 use Rattle.alist_numbers.proofs.put_two.Goals as goal
 

@@ -1,17 +1,15 @@
 -- `put_word` meets its contract: what is left to put are the places of the digits left.
 use mathlib.Core.Path.{refl, sym, ap, ◌∙◌}
 use mathlib.Core.List.{[], ◌∷◌, map}
-use Prim.Native.Nat.{suc, ◌+◌, ◌-◌, ◌*◌, ◌^◌, ◌<◌, ◌≤◌}
+use Prim.Native.Nat.{suc, ◌+◌, ◌-◌}
 use native.Mathlib.Nat.{pos_of_ne-zero}
 use native.Mathlib.Numerals.{add-one}
 use native.Mathlib.Omega.{arith}
 use lib.Bits.{bit_and, and_le_l}
 use lib.Count.{ones-le, count_trailing_zeros, trailing_le}
-use lib.Dec.{eqb}
 use lib.ListN.{length}
 use Rattle.bits.specs.WordPlaces.{places_of, places-length, places-next, places-none}
-use Rattle.alist_numbers.specs.Put.{Put, numbers_on}
-use Rattle.alist_numbers.specs.PutLaws.{put-none, on_both, Part, part_none, part-more, part-all}
+use Rattle.alist_numbers.specs.PutLaws.{put-none, on_both, part_none, part-more, part-all}
 use Rattle.alist_numbers.proofs.put_word.Goals as goal
 
 pub loop-y-init : goal.loop-y-init

@@ -1,12 +1,10 @@
 -- `put_zeros` meets its contract: what is left to put are the zeros left.
 use mathlib.Core.Path.{◌≡◌, refl, ap}
 use mathlib.Core.List.{[], ◌∷◌}
-use Prim.Native.Nat.{suc, ◌+◌, ◌-◌, ◌*◌, ◌≤◌}
+use Prim.Native.Nat.{suc, ◌+◌, ◌-◌}
 use native.Mathlib.Omega.{arith}
-use lib.Dec.{eqb}
 use lib.ListN.{replicate}
-use Rattle.alist_numbers.specs.Put.{Put, numbers_on}
-use Rattle.alist_numbers.specs.PutLaws.{put-none, on_both, Part, part_none, part-more, part-all}
+use Rattle.alist_numbers.specs.PutLaws.{put-none, on_both, part_none, part-more, part-all}
 use Rattle.alist_numbers.proofs.put_zeros.Goals as goal
 
 pub loop-i-init : goal.loop-i-init

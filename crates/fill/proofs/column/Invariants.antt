@@ -1,13 +1,10 @@
 -- `column` meets its contract: c ones are left.
 use Prim.Native.Nat.{ℕ, ◌<◌}
-use mathlib.Core.Path.{◌≡◌, refl}
-use native.Mathlib.Omega.{arith}
-use borrow.Author.Rules.{rules}
-use borrow.Author.Tests.{not-true, not-false}
+use mathlib.Core.Path.{◌≡◌}
 use lib.ListN.{length}
 use Rattle.fill.specs.Fill.{State, column}
 use Rattle.fill.specs.Held.{Both}
-use Rattle.fill.proofs.Going.{Rest, from-here, column-turn, column-stop, column-done}
+use Rattle.fill.proofs.Going.{Rest}
 use Rattle.fill.proofs.column.Given as goal
 
 abbrev pub invariant-loop-c : goal.invariant-loop-c

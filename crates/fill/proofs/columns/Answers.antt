@@ -1,13 +1,9 @@
 -- `columns` meets its contract: the columns from j on are left.
-use Prim.Native.Nat.{◌-◌, ◌≤◌}
-use mathlib.Core.Path.{◌≡◌, refl}
+use mathlib.Core.Path.{refl}
 use native.Mathlib.Omega.{arith}
 use borrow.Author.Rules.{rules}
 use borrow.Author.Tests.{not-true, not-false}
-use lib.ListN.{length}
-use Rattle.fill.specs.Fill.{State, columns}
-use Rattle.fill.specs.Held.{Both}
-use Rattle.fill.proofs.Going.{Rest, columns-start, columns-turn, columns-stop, columns-done}
+use Rattle.fill.proofs.Going.{columns-start, columns-turn, columns-stop, columns-done}
 use Rattle.fill.proofs.columns.Goals as goal
 
 pub loop-j-init : goal.loop-j-init

@@ -1,13 +1,10 @@
 -- `columns` meets its contract: the columns from j on are left.
 use Prim.Native.Nat.{◌-◌, ◌≤◌}
-use mathlib.Core.Path.{◌≡◌, refl}
-use native.Mathlib.Omega.{arith}
-use borrow.Author.Rules.{rules}
-use borrow.Author.Tests.{not-true, not-false}
+use mathlib.Core.Path.{◌≡◌}
 use lib.ListN.{length}
 use Rattle.fill.specs.Fill.{State, columns}
 use Rattle.fill.specs.Held.{Both}
-use Rattle.fill.proofs.Going.{Rest, columns-start, columns-turn, columns-stop, columns-done}
+use Rattle.fill.proofs.Going.{Rest}
 use Rattle.fill.proofs.columns.Given as goal
 
 abbrev pub invariant-loop-j : goal.invariant-loop-j

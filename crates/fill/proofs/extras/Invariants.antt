@@ -1,14 +1,10 @@
 -- `extras` meets its contract: the rows from i on are left.
 use Prim.Native.Nat.{ℕ, ◌-◌, ◌≤◌}
-use mathlib.Core.Path.{◌≡◌, refl}
-use mathlib.Core.List.{List}
-use native.Mathlib.Omega.{arith}
-use borrow.Author.Rules.{rules}
-use borrow.Author.Tests.{not-true, not-false}
+use mathlib.Core.Path.{◌≡◌}
 use lib.ListN.{length}
 use Rattle.fill.specs.Fill.{State, extras}
-use Rattle.fill.specs.Held.{Rep, FilledIn}
-use Rattle.fill.proofs.Going.{Rest, rest-holds, extras-start, extras-turn, extras-stop, extras-done}
+use Rattle.fill.specs.Held.{Rep}
+use Rattle.fill.proofs.Going.{Rest}
 use Rattle.fill.proofs.extras.Given as goal
 
 abbrev pub invariant-loop-i : goal.invariant-loop-i

@@ -1,6 +1,5 @@
 -- `fill` meets its contract.
 use Prim.Native.Nat.{ℕ}
-use borrow.Author.Rules.{rules}
 use lib.ListN.{length-replicate}
 use Rattle.lists.specs.ListLaws.{get_d-zeros}
 use Rattle.fill.proofs.fill.Goals as goal

@@ -1,7 +1,6 @@
 -- `fill_by` meets its contract.
 use Prim.Native.Nat.{◌*◌}
 use native.Mathlib.Omega.{arith}
-use borrow.Author.Rules.{rules}
 use borrow.Author.Tests.{not-true, not-false}
 use Rattle.fill.specs.Fill.{extras}
 use Rattle.fill.proofs.Beginning.{entries-low}

@@ -1,7 +1,6 @@
 -- `first_one` meets its contract.
 use mathlib.Core.Path.{sym, ◌∙◌}
 use native.Mathlib.Omega.{arith}
-use borrow.Author.Rules.{rules}
 use Rattle.fill.proofs.RowOnes.{none_free, first-put, first-keep}
 use Rattle.fill.proofs.first_one.Goals as goal
 

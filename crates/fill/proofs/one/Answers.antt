@@ -1,6 +1,5 @@
 -- `one` meets its contract.
 use native.Mathlib.Omega.{arith}
-use borrow.Author.Rules.{rules}
 use Rattle.fill.proofs.Turns.{below_end, order-done, row_done}
 use Rattle.fill.proofs.one.Goals as goal
 

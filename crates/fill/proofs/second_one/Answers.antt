@@ -1,7 +1,6 @@
 -- `second_one` meets its contract.
 use mathlib.Core.Path.{sym, ◌∙◌}
 use native.Mathlib.Omega.{arith}
-use borrow.Author.Rules.{rules}
 use Rattle.fill.proofs.RowOnes.{second-put, second-keep}
 use Rattle.fill.proofs.second_one.Goals as goal
 

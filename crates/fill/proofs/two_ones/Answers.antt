@@ -1,6 +1,5 @@
 -- `two_ones` meets its contract.
 use mathlib.Core.Path.{refl}
-use borrow.Author.Rules.{rules}
 use borrow.Author.Tests.{not-true, not-false}
 use Rattle.fill.specs.Fill.{first_one, second_one}
 use Rattle.fill.proofs.Going.{from-here, turn, stop, finish, two_ones}

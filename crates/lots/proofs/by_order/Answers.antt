@@ -2,7 +2,6 @@
 use Prim.Native.Nat.{◌+◌}
 use mathlib.Core.Path.{refl, ap, ◌∙◌}
 use native.Mathlib.Omega.{arith}
-use borrow.Author.Rules.{rules}
 use Rattle.lots.specs.Grid.{free, free_entry}
 use Rattle.lots.proofs.Putting.{put-at}
 use Rattle.lots.proofs.Seeking.{drawn-passes}

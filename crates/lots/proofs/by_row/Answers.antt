@@ -1,7 +1,6 @@
 -- `by_row` meets its contract.
 use mathlib.Core.Path.{refl}
 use native.Mathlib.Omega.{arith}
-use borrow.Author.Rules.{rules}
 use Rattle.lots.proofs.Seeking.{drawn-passes}
 use Rattle.lots.proofs.by_row.Goals as goal
 

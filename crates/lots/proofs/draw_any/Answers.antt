@@ -1,6 +1,5 @@
 -- `draw_any` meets its contract.
 use mathlib.Core.Path.{refl}
-use borrow.Author.Rules.{rules}
 use Rattle.lots.proofs.Seeking.{starts, passes, ends}
 use Rattle.lots.proofs.draw_any.Goals as goal
 

@@ -2,8 +2,7 @@
 use mathlib.Core.Path.{sym, ◌∙◌}
 use native.Mathlib.Omega.{arith}
 use borrow.Author.Rules.{rules}
-use Rattle.lots.specs.Grid.{free}
-use Rattle.lots.proofs.Seeking.{Goes, starts, passes, fails, ends}
+use Rattle.lots.proofs.Seeking.{starts, passes, fails, ends}
 use Rattle.lots.proofs.draw_column.Goals as goal
 
 pub loop-l-init : goal.loop-l-init

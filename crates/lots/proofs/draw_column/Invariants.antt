@@ -1,9 +1,6 @@
 -- `draw_column` meets its contract: the draws so far did not pass.
-use mathlib.Core.Path.{sym, ◌∙◌}
-use native.Mathlib.Omega.{arith}
-use borrow.Author.Rules.{rules}
 use Rattle.lots.specs.Grid.{free}
-use Rattle.lots.proofs.Seeking.{Goes, starts, passes, fails, ends}
+use Rattle.lots.proofs.Seeking.{Goes}
 use Rattle.lots.proofs.draw_column.Given as goal
 
 abbrev pub invariant-loop-l : goal.invariant-loop-l

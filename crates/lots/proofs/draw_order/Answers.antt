@@ -1,10 +1,9 @@
 -- `draw_order` meets its contract: the draws so far did not pass.
-use Prim.Native.Nat.{◌+◌, ◌-◌}
+use Prim.Native.Nat.{◌+◌}
 use mathlib.Core.Path.{sym, ap, ◌∙◌}
 use native.Mathlib.Omega.{arith}
-use borrow.Author.Rules.{rules}
-use Rattle.lots.specs.Grid.{free, free_entry}
-use Rattle.lots.proofs.Seeking.{Goes, starts, passes, fails, ends}
+use Rattle.lots.specs.Grid.{free}
+use Rattle.lots.proofs.Seeking.{starts, passes, fails, ends}
 use Rattle.lots.proofs.draw_order.Goals as goal
 
 pub loop-l-init : goal.loop-l-init

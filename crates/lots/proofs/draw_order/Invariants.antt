@@ -1,10 +1,7 @@
 -- `draw_order` meets its contract: the draws so far did not pass.
-use Prim.Native.Nat.{◌+◌, ◌-◌}
-use mathlib.Core.Path.{sym, ap, ◌∙◌}
-use native.Mathlib.Omega.{arith}
-use borrow.Author.Rules.{rules}
-use Rattle.lots.specs.Grid.{free, free_entry}
-use Rattle.lots.proofs.Seeking.{Goes, starts, passes, fails, ends}
+use Prim.Native.Nat.{◌-◌}
+use Rattle.lots.specs.Grid.{free_entry}
+use Rattle.lots.proofs.Seeking.{Goes}
 use Rattle.lots.proofs.draw_order.Given as goal
 
 abbrev pub invariant-loop-l : goal.invariant-loop-l

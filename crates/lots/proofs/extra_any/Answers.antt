@@ -1,7 +1,6 @@
 -- `extra_any` meets its contract.
 use mathlib.Core.Path.{refl}
 use native.Mathlib.Omega.{arith}
-use borrow.Author.Rules.{rules}
 use Rattle.lots.proofs.extra_any.Goals as goal
 
 pub put-requires : goal.put-requires

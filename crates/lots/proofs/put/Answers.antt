@@ -1,5 +1,4 @@
 -- `put` meets its contract.
-use borrow.Author.Rules.{rules}
 use Rattle.lots.proofs.Putting.{flip-puts}
 use Rattle.lots.proofs.put.Goals as goal
 

@@ -1,10 +1,6 @@
 -- `scan` meets its contract: no entry so far is free.
-use Prim.Native.Nat.{◌-◌, ◌≤◌}
-use mathlib.Core.Path.{◌≡◌, refl, sym, ap, ◌∙◌}
+use mathlib.Core.Path.{refl, sym, ap, ◌∙◌}
 use native.Mathlib.Omega.{arith}
-use borrow.Author.Rules.{rules}
-use lib.ListN.{take, drop}
-use Rattle.lists.specs.Lists.{any_of}
 use Rattle.lots.specs.Grid.{free}
 use Rattle.lots.proofs.Order.{any-hit, any-miss, any_none}
 use Rattle.lots.proofs.scan.Goals as goal

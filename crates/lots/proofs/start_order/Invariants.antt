@@ -1,17 +1,13 @@
 -- `start_order` meets its contract: the first h entries are written.
 use Prim.Native.Nat.{◌-◌, ◌%◌, ◌≤◌}
-use mathlib.Core.Path.{◌≡◌, refl, ap, ◌∙◌}
+use mathlib.Core.Path.{◌≡◌}
 use mathlib.Core.List.{◌++◌, map}
-use native.Mathlib.Nat.{mod-lt}
-use native.Mathlib.Omega.{arith}
-use borrow.Author.Rules.{rules}
 use lib.ListN.{drop}
 use Rattle.lists.specs.Lists.{from}
-use Rattle.lots.proofs.Order.{order-start, order-length, order-turn}
 use Rattle.lots.proofs.start_order.Given as goal
 
 abbrev pub invariant-loop-h : goal.invariant-loop-h
-invariant-loop-h l = (l.h ≤ l.e) × (l.u ≡ map (λ l.h. l.h % l.m) (from 0 l.h) ++ drop l.h l.initial.u)
+invariant-loop-h l = (l.h ≤ l.e) × (l.u ≡ map (λ h. h % l.m) (from 0 l.h) ++ drop l.h l.initial.u)
 
 abbrev pub decreases-loop-h : goal.decreases-loop-h
 decreases-loop-h l = l.e - l.h

@@ -1,7 +1,6 @@
 -- `vacant` meets its contract.
 use mathlib.Core.Path.{ap}
 use mathlib.Core.Bool.{not}
-use borrow.Author.Rules.{rules}
 use Rattle.lots.proofs.vacant.Goals as goal
 
 pub returns : goal.returns

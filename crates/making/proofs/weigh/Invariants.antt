@@ -1,13 +1,12 @@
 -- `making::weigh` meets its contract: the rows left, and the sum so far, decide.
-use mathlib.Core.Path.{◌≡◌, sym, ap, ◌∙◌}
+use mathlib.Core.Path.{◌≡◌}
 use mathlib.Core.List.{map}
 use Prim.Native.Nat.{◌-◌, ◌*◌, ◌≤◌}
-use native.Mathlib.Omega.{arith}
 use lib.ListN.{length}
 use Rattle.table.specs.LookOver.{weighed}
 use Rattle.bits.specs.Row.{rows_in}
-use Rattle.making.specs.Rows.{rows_from, rows_all, rows_next, rows_none}
-use Rattle.table.specs.WeighLaws.{weighed_on, weigh-start, weigh-heavy, weigh-light, weigh-end}
+use Rattle.making.specs.Rows.{rows_from}
+use Rattle.table.specs.WeighLaws.{weighed_on}
 use Rattle.making.proofs.weigh.Given as goal
 
 abbrev pub invariant-loop-i : goal.invariant-loop-i

@@ -2,7 +2,6 @@
 use Rattle.bits.specs.Row.{rows_in}
 use Rattle.making.specs.MakingLaws.{rows-length}
 use Rattle.making.proofs.Whole.{rows-room, whole, whole_length}
-use borrow.Author.Rules.{rules}
 use Rattle.making.proofs.write.Goals as goal
 
 pub write_rows-requires : goal.write_rows-requires

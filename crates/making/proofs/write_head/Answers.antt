@@ -1,7 +1,6 @@
 -- `making::write_head` meets its contract: one number after the other.
 use native.Mathlib.Omega.{arith}
 use lib.ListN.{length-set}
-use borrow.Author.Rules.{rules}
 use Rattle.lists.specs.WroteLaws.{wrote_one, wrote-more}
 use Rattle.making.proofs.write_head.Goals as goal
 

@@ -1,12 +1,8 @@
 -- `making::write_row` meets its contract: what is left to write are the places of the words left.
-use mathlib.Core.List.{[]}
-use Prim.Native.Nat.{◌+◌, ◌-◌, ◌*◌, ◌≤◌}
-use native.Mathlib.Omega.{arith}
-use lib.ListN.{get_or}
-use Rattle.lists.specs.WroteLaws.{Left, left-all, left_is, left-done, left-length, left-more}
+use Prim.Native.Nat.{◌-◌, ◌≤◌}
+use Rattle.lists.specs.WroteLaws.{Left}
 use Rattle.bits.specs.Row.{row, places_in}
-use Rattle.bits.specs.WordPlaces.{places_of, places_from, row-places, words-next, words-none}
-use Rattle.lists.specs.WroteLaws.{front-room}
+use Rattle.bits.specs.WordPlaces.{places_from}
 use Rattle.making.proofs.write_row.Given as goal
 
 abbrev pub invariant-loop-i : goal.invariant-loop-i

@@ -1,10 +1,10 @@
 -- `making::write_rows` meets its contract: what is left to write are the places of the rows left.
 use mathlib.Core.List.{[]}
 use mathlib.Core.Path.{ap}
-use Prim.Native.Nat.{◌+◌, ◌-◌, ◌≤◌}
+use Prim.Native.Nat.{◌+◌}
 use native.Mathlib.Omega.{arith}
-use Rattle.lists.specs.WroteLaws.{Left, left-all, left_is, left-done, left-length, left-more}
-use Rattle.bits.specs.Row.{row, places_in, rows_in}
+use Rattle.lists.specs.WroteLaws.{left-all, left_is, left-done, left-length, left-more}
+use Rattle.bits.specs.Row.{row, places_in}
 use Rattle.making.specs.Written.{flat}
 use Rattle.making.specs.Rows.{rows_from, rows_all, rows_next, rows_none}
 use Rattle.lists.specs.WroteLaws.{front-room}

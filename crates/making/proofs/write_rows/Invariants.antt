@@ -1,13 +1,9 @@
 -- `making::write_rows` meets its contract: what is left to write are the places of the rows left.
-use mathlib.Core.List.{[]}
-use mathlib.Core.Path.{ap}
-use Prim.Native.Nat.{◌+◌, ◌-◌, ◌≤◌}
-use native.Mathlib.Omega.{arith}
-use Rattle.lists.specs.WroteLaws.{Left, left-all, left_is, left-done, left-length, left-more}
-use Rattle.bits.specs.Row.{row, places_in, rows_in}
+use Prim.Native.Nat.{◌-◌, ◌≤◌}
+use Rattle.lists.specs.WroteLaws.{Left}
+use Rattle.bits.specs.Row.{rows_in}
 use Rattle.making.specs.Written.{flat}
-use Rattle.making.specs.Rows.{rows_from, rows_all, rows_next, rows_none}
-use Rattle.lists.specs.WroteLaws.{front-room}
+use Rattle.making.specs.Rows.{rows_from}
 use Rattle.making.proofs.write_rows.Given as goal
 
 abbrev pub invariant-loop-i : goal.invariant-loop-i

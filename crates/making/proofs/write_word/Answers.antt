@@ -1,13 +1,13 @@
 -- `making::write_word` meets its contract: what is left to write are the places of the digits left.
 use mathlib.Core.List.{[]}
 use mathlib.Core.Path.{ap, ◌∙◌}
-use Prim.Native.Nat.{◌-◌, ◌^◌, ◌<◌}
+use Prim.Native.Nat.{◌-◌, ◌<◌}
 use native.Mathlib.Nat.{pos_of_ne-zero}
 use native.Mathlib.Omega.{arith}
 use lib.Bits.{and_le_l}
 use lib.Count.{trailing_le}
 use lib.ListN.{length}
-use Rattle.lists.specs.WroteLaws.{Left, left-all, left_is, left-done, left-room, left-length, left_one}
+use Rattle.lists.specs.WroteLaws.{left-all, left_is, left-done, left-room, left-length, left_one}
 use Rattle.bits.specs.WordPlaces.{places_of, places-next, places-none}
 use Rattle.making.proofs.write_word.Goals as goal
 
@@ -34,13 +34,13 @@ bounds-table-k c =
 
 pub offset_bounds-table-k : goal.offset_bounds-table-k
 offset_bounds-table-k c =
-    let h : c.loop-y.k < length c.loop-y.table = slice-write-table c in
+    let h : c.loop-y.k < length c.loop-y.table = bounds-table-k c in
     let l = left-length c.requires.0 c.loop-y.invariant.1 in
     omega arith
 
 pub overflow_add-k : goal.overflow_add-k
 overflow_add-k c =
-    let h : c.loop-y.k < length c.loop-y.table = slice-write-table c in
+    let h : c.loop-y.k < length c.loop-y.table = bounds-table-k c in
     let l = left-length c.requires.0 c.loop-y.invariant.1 in
     omega arith
 

@@ -1,14 +1,8 @@
 -- `making::write_word` meets its contract: what is left to write are the places of the digits left.
-use mathlib.Core.List.{[]}
-use mathlib.Core.Path.{ap, ◌∙◌}
-use Prim.Native.Nat.{◌-◌, ◌^◌, ◌<◌}
-use native.Mathlib.Nat.{pos_of_ne-zero}
-use native.Mathlib.Omega.{arith}
-use lib.Bits.{and_le_l}
-use lib.Count.{trailing_le}
+use Prim.Native.Nat.{◌^◌, ◌<◌}
 use lib.ListN.{length}
-use Rattle.lists.specs.WroteLaws.{Left, left-all, left_is, left-done, left-room, left-length, left_one}
-use Rattle.bits.specs.WordPlaces.{places_of, places-next, places-none}
+use Rattle.lists.specs.WroteLaws.{Left}
+use Rattle.bits.specs.WordPlaces.{places_of}
 use Rattle.making.proofs.write_word.Given as goal
 
 abbrev pub invariant-loop-y : goal.invariant-loop-y

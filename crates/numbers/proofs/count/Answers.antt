@@ -1,9 +1,6 @@
 -- `numbers::count` meets its contract. The loop's invariant: k numbers ended and d digits of another were seen in the bytes passed.
-use Prim.Native.Nat.{◌+◌, ◌-◌, ◌≤◌, ◌<◌}
 use native.Mathlib.Omega.{arith}
-use lib.ListN.{length}
-use Rattle.numbers.specs.Counting.{ends_here}
-use Rattle.numbers.proofs.Laws.{Passed, passed_start, passed-bad, passed_on, passed-end, ends_next, ends-few}
+use Rattle.numbers.proofs.Laws.{passed_start, passed-bad, passed_on, passed-end, ends_next, ends-few}
 use Rattle.numbers.proofs.count.Goals as goal
 
 pub loop-i-init : goal.loop-i-init

@@ -1,9 +1,8 @@
 -- `numbers::count` meets its contract. The loop's invariant: k numbers ended and d digits of another were seen in the bytes passed.
 use Prim.Native.Nat.{◌+◌, ◌-◌, ◌≤◌, ◌<◌}
-use native.Mathlib.Omega.{arith}
 use lib.ListN.{length}
 use Rattle.numbers.specs.Counting.{ends_here}
-use Rattle.numbers.proofs.Laws.{Passed, passed_start, passed-bad, passed_on, passed-end, ends_next, ends-few}
+use Rattle.numbers.proofs.Laws.{Passed}
 use Rattle.numbers.proofs.count.Given as goal
 
 abbrev pub invariant-loop-i : goal.invariant-loop-i

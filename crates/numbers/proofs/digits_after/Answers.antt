@@ -1,7 +1,6 @@
 -- `numbers::digits_after` meets its contract.
 use mathlib.Core.Path.{sym, ◌∙◌}
 use Rattle.numbers.proofs.Laws.{after-digit, after-gap, after-other}
-use borrow.Author.Rules.{rules}
 use Rattle.numbers.proofs.digits_after.Goals as goal
 
 pub returns-then-is_digit : goal.returns-then-is_digit

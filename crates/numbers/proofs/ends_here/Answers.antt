@@ -1,6 +1,5 @@
 -- `numbers::ends_here` meets its contract.
 use Rattle.numbers.proofs.Laws.{ends-one, ends-not}
-use borrow.Author.Rules.{rules}
 use Rattle.numbers.proofs.ends_here.Goals as goal
 
 pub returns-then-e-eq0 : goal.returns-then-e-eq0

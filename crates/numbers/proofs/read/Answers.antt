@@ -1,5 +1,4 @@
 -- `numbers::read` meets its contract: blanks skipped, then digits taken.
-use borrow.Author.Rules.{rules}
 use Rattle.numbers.proofs.Reading.{reads}
 use Rattle.numbers.proofs.read.Goals as goal
 

@@ -1,10 +1,7 @@
 -- `numbers::skip` meets its contract. The loop's invariant: from at to i there are only blanks and line ends.
-use mathlib.Core.Path.{◌≡◌, refl, sym, ◌∙◌}
-use Prim.Native.Nat.{◌-◌}
+use mathlib.Core.Path.{refl, sym, ◌∙◌}
 use native.Mathlib.Omega.{arith}
 use borrow.Author.Tests.{not-true, not-false}
-use lib.ListN.{length, drop}
-use Rattle.numbers.specs.Steps.{numbers_from}
 use Rattle.numbers.proofs.Reading.{gap-on}
 use Rattle.numbers.proofs.skip.Goals as goal
 

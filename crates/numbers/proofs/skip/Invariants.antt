@@ -1,11 +1,8 @@
 -- `numbers::skip` meets its contract. The loop's invariant: from at to i there are only blanks and line ends.
-use mathlib.Core.Path.{◌≡◌, refl, sym, ◌∙◌}
+use mathlib.Core.Path.{◌≡◌}
 use Prim.Native.Nat.{◌-◌}
-use native.Mathlib.Omega.{arith}
-use borrow.Author.Tests.{not-true, not-false}
 use lib.ListN.{length, drop}
 use Rattle.numbers.specs.Steps.{numbers_from}
-use Rattle.numbers.proofs.Reading.{gap-on}
 use Rattle.numbers.proofs.skip.Given as goal
 
 abbrev pub invariant-loop-i : goal.invariant-loop-i

@@ -1,12 +1,12 @@
 -- `numbers::take_digits` meets its contract. The loop's invariant: d digits of value v stand from at to i.
-use mathlib.Core.Path.{◌≡◌, refl, sym, ◌∙◌}
-use Prim.Native.Nat.{◌+◌, ◌-◌, ◌^◌, ◌≤◌, ◌<◌}
+use mathlib.Core.Path.{refl, sym, ◌∙◌}
+use Prim.Native.Nat.{◌<◌}
 use native.Mathlib.Numerals.{add-one}
 use native.Mathlib.Omega.{arith}
 use borrow.Author.Tests.{not-true, not-false}
-use lib.ListN.{length, get_or, drop}
+use lib.ListN.{get_or}
 use Rattle.numerals.specs.NumeralLaws.{digit-range}
-use Rattle.numbers.specs.Steps.{numbers_from, value_low, few-low}
+use Rattle.numbers.specs.Steps.{value_low, few-low}
 use Rattle.numbers.proofs.Reading.{digit-on}
 use Rattle.numbers.proofs.take_digits.Goals as goal
 

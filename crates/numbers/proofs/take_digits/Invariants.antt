@@ -1,13 +1,8 @@
 -- `numbers::take_digits` meets its contract. The loop's invariant: d digits of value v stand from at to i.
-use mathlib.Core.Path.{◌≡◌, refl, sym, ◌∙◌}
+use mathlib.Core.Path.{◌≡◌}
 use Prim.Native.Nat.{◌+◌, ◌-◌, ◌^◌, ◌≤◌, ◌<◌}
-use native.Mathlib.Numerals.{add-one}
-use native.Mathlib.Omega.{arith}
-use borrow.Author.Tests.{not-true, not-false}
-use lib.ListN.{length, get_or, drop}
-use Rattle.numerals.specs.NumeralLaws.{digit-range}
-use Rattle.numbers.specs.Steps.{numbers_from, value_low, few-low}
-use Rattle.numbers.proofs.Reading.{digit-on}
+use lib.ListN.{length, drop}
+use Rattle.numbers.specs.Steps.{numbers_from}
 use Rattle.numbers.proofs.take_digits.Given as goal
 
 abbrev pub invariant-loop-i : goal.invariant-loop-i

@@ -1,6 +1,5 @@
 -- `bad_parameters` meets its contract: the tests, one after the other.
 use native.Mathlib.Omega.{arith}
-use borrow.Author.Rules.{rules}
 use Rattle.staircase.specs.Parameters.{no_source, not-above, too_few, too_many, over-checks, seed-zero, seed-decides}
 use Rattle.staircase.proofs.bad_parameters.Goals as goal
 

@@ -1,7 +1,6 @@
 -- `make` meets its contract: the refusals before the fill, and then the rest.
 use mathlib.Core.Path.{sym, ◌∙◌}
 use native.Mathlib.Omega.{arith}
-use borrow.Author.Rules.{rules}
 use Rattle.staircase.specs.Parameters.{fine}
 use Rattle.staircase.proofs.Answering.{answer-bad, answer-beyond, answer-length}
 use Rattle.staircase.proofs.make.Goals as goal

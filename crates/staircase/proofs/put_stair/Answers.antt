@@ -1,6 +1,5 @@
 -- `put_stair` meets its contract: one place, or two.
 use native.Mathlib.Omega.{arith}
-use borrow.Author.Rules.{rules}
 use Rattle.staircase.proofs.StairRows.{stair-one, stair-two}
 use Rattle.staircase.proofs.put_stair.Goals as goal
 

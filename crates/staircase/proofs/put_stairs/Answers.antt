@@ -1,8 +1,6 @@
 -- `put_stairs` meets its contract: row after row.
 use mathlib.Core.Path.{◌≡◌, subst}
-use Prim.Native.Nat.{◌-◌, ◌≤◌}
 use native.Mathlib.Omega.{arith}
-use borrow.Author.Rules.{rules}
 use Rattle.staircase.specs.Staired.{Staired}
 use Rattle.staircase.proofs.StairRows.{stairs-none, stairs-more}
 use Rattle.staircase.proofs.put_stairs.Goals as goal
