@@ -1,5 +1,6 @@
 // The lines of an alist text, from rows of bits.
 #![tactic(auto)]
+
 ghost use Rattle.std.specs.Prelude.{[], ◌∷◌, map, suc, ◌+◌, ◌*◌, ◌≤◌, ◌<◌, length};
 ghost use Rattle.bits.specs.Row.{row, places_in, rows_in};
 ghost use Rattle.alist.specs.AlistText.{number_line, number_lines, padded};

@@ -1,5 +1,6 @@
 // A table written as alist text (document 02, C-15), from rows of bits: one for each place and one for each check.
 #![tactic(auto)]
+
 ghost use Rattle.std.specs.Prelude.{◌≡◌, map, max, ◌*◌, ◌≤◌, length};
 ghost use Rattle.table.specs.Table.{refusal as refusal_of};
 ghost use Rattle.bits.specs.Row.{rows_in};

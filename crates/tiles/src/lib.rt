@@ -1,5 +1,6 @@
 // The lists of an alist text in a board of bits, a tile of 1,024 rows and columns at a time: repeats, and lists flipped, for texts of every size.
 #![tactic(auto)]
+
 ghost use Rattle.std.specs.Prelude.{◌≡◌, ◌≤◌, ◌<◌, eqb, length};
 ghost use Rattle.tiles.specs.Board.{Flips, in_column, turned};
 ghost use Rattle.tiles.specs.Tiles.{Marks, Unmarks, FlipsList, FlipsLists};

@@ -1,5 +1,6 @@
 // Walks over the numbers of a text.
 #![tactic(auto)]
+
 ghost use Rattle.std.specs.Prelude.{◌≡◌, ◌-◌, max, eqb};
 ghost use Rattle.lists.specs.Lists.{all_pass};
 ghost use Rattle.alist.specs.Alist.{greatest as greatest_of};

@@ -2,7 +2,6 @@
 use mathlib.Core.Path.{sym}
 use mathlib.Core.List.{append-nil}
 use native.Mathlib.Omega.{arith}
-use borrow.Author.Rules.{rules}
 use Rattle.alist_numbers.specs.PutLaws.{put_both, put_is}
 use Rattle.alist_lines.proofs.put_head.Goals as goal
 

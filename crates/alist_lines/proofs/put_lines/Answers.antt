@@ -1,6 +1,5 @@
 -- `put_lines` meets its contract: the head and the lists, one after the other.
 use native.Mathlib.Omega.{arith}
-use borrow.Author.Rules.{rules}
 use Rattle.alist_lines.proofs.Whole.{put-lines}
 use Rattle.alist_lines.proofs.put_lines.Goals as goal
 

@@ -1,6 +1,5 @@
 -- `put_list` meets its contract: the places, the zeros, and the line's end.
 use native.Mathlib.Omega.{arith}
-use borrow.Author.Rules.{rules}
 use Rattle.bits.specs.Row.{row, places_in}
 use Rattle.alist_numbers.specs.PutLaws.{put-padded}
 use Rattle.alist_lines.proofs.put_list.Goals as goal

@@ -1,14 +1,12 @@
 -- `put_lists` meets its contract: what is left to put are the lists of the rows left.
 use mathlib.Core.Path.{ap}
 use mathlib.Core.List.{[], ◌∷◌, map}
-use Prim.Native.Nat.{suc, ◌+◌, ◌-◌, ◌*◌, ◌≤◌}
+use Prim.Native.Nat.{suc}
 use native.Mathlib.Omega.{arith}
 use Rattle.bits.specs.Row.{row, places_in}
-use Rattle.making.specs.Rows.{rows_from, rows_all, rows_next, rows_none}
-use Rattle.alist.specs.AlistText.{number_lines, rows_of, padded}
-use Rattle.alist_numbers.specs.Put.{Put}
-use Rattle.alist_lines.specs.Lines.{padded_lists}
-use Rattle.alist_numbers.specs.PutLaws.{put-none, lines_more, Part, part_none, part-more, part-all}
+use Rattle.making.specs.Rows.{rows_all, rows_next, rows_none}
+use Rattle.alist.specs.AlistText.{rows_of, padded}
+use Rattle.alist_numbers.specs.PutLaws.{put-none, lines_more, part_none, part-more, part-all}
 use Rattle.alist_lines.proofs.put_lists.Goals as goal
 
 pub loop-c-init : goal.loop-c-init

@@ -1,14 +1,11 @@
 -- `put_lists` meets its contract: what is left to put are the lists of the rows left.
-use mathlib.Core.Path.{ap}
-use mathlib.Core.List.{[], ◌∷◌, map}
-use Prim.Native.Nat.{suc, ◌+◌, ◌-◌, ◌*◌, ◌≤◌}
-use native.Mathlib.Omega.{arith}
-use Rattle.bits.specs.Row.{row, places_in}
-use Rattle.making.specs.Rows.{rows_from, rows_all, rows_next, rows_none}
+use mathlib.Core.List.{map}
+use Prim.Native.Nat.{◌+◌, ◌-◌, ◌*◌, ◌≤◌}
+use Rattle.making.specs.Rows.{rows_from}
 use Rattle.alist.specs.AlistText.{number_lines, rows_of, padded}
 use Rattle.alist_numbers.specs.Put.{Put}
 use Rattle.alist_lines.specs.Lines.{padded_lists}
-use Rattle.alist_numbers.specs.PutLaws.{put-none, lines_more, Part, part_none, part-more, part-all}
+use Rattle.alist_numbers.specs.PutLaws.{Part}
 use Rattle.alist_lines.proofs.put_lists.Given as goal
 
 abbrev pub invariant-loop-c : goal.invariant-loop-c

@@ -1,7 +1,6 @@
 -- `put_pair` meets its contract: two numbers, and the line's end.
 use mathlib.Core.List.{[], ◌∷◌}
 use native.Mathlib.Omega.{arith}
-use borrow.Author.Rules.{rules}
 use Rattle.alist_numbers.specs.PutLaws.{on_both, put-line}
 use Rattle.alist_lines.proofs.put_pair.Goals as goal
 

@@ -1,6 +1,5 @@
 -- `put_text` meets its contract: the lines go into the buffer's part below the limit.
 use mathlib.Core.Path.{sym}
-use borrow.Author.Rules.{rules}
 use lib.Seq.{length-take-le}
 use Rattle.alist.specs.AlistText.{number_lines}
 use Rattle.alist_lines.specs.Lines.{lines}

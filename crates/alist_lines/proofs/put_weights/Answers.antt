@@ -1,14 +1,12 @@
 -- `put_weights` meets its contract: what is left to put are the weights of the rows left.
 use mathlib.Core.Path.{sym, ap, ◌∙◌}
 use mathlib.Core.List.{[], ◌∷◌, map}
-use Prim.Native.Nat.{◌+◌, ◌-◌, ◌*◌, ◌≤◌}
+use Prim.Native.Nat.{◌+◌}
 use native.Mathlib.Omega.{arith}
-use lib.Dec.{eqb}
 use lib.ListN.{length}
 use Rattle.bits.specs.Row.{rows_in}
 use Rattle.making.specs.Rows.{rows_from, rows_all, rows_next, rows_none}
-use Rattle.alist_numbers.specs.Put.{Put, numbers_on}
-use Rattle.alist_numbers.specs.PutLaws.{put-none, on_both, put-line, Part, part_none, part-more, part-all}
+use Rattle.alist_numbers.specs.PutLaws.{put-none, on_both, put-line, part_none, part-more, part-all}
 use Rattle.alist_lines.proofs.put_weights.Goals as goal
 
 pub loop-c-init : goal.loop-c-init

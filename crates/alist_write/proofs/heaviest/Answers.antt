@@ -1,11 +1,9 @@
 -- `heaviest` meets its contract: the greatest so far and the rows left decide.
-use mathlib.Core.Path.{◌≡◌, ap}
+use mathlib.Core.Path.{ap}
 use mathlib.Core.List.{map}
-use Prim.Native.Nat.{max, ◌-◌, ◌≤◌}
 use native.Mathlib.Omega.{arith}
 use lib.ListN.{length}
-use Rattle.bits.specs.Row.{rows_in}
-use Rattle.making.specs.Rows.{rows_from, rows_all, rows_next, rows_none}
+use Rattle.making.specs.Rows.{rows_all, rows_next, rows_none}
 use Rattle.alist.specs.Alist.{greatest}
 use Rattle.alist_write.proofs.heaviest.Goals as goal
 

@@ -2,7 +2,6 @@
 use mathlib.Core.Path.{refl, ◌∙◌}
 use Prim.Native.Nat.{ℕ}
 use native.Mathlib.Omega.{arith}
-use borrow.Author.Rules.{rules}
 use lib.ListN.{length-replicate}
 use Rattle.lists.specs.ListLaws.{get_d-zeros}
 use Rattle.table.specs.ChecksLaws.{has-weights, limits}
@@ -24,15 +23,14 @@ write_bits-requires c =
     let l = limits c.args.t.now c.requires in
     let n = c.wide-n.ensures in
     let m = c.wide-m.ensures in
-    let k = c.load.auto.1.1 in
-    let x = k.0 ∙ length-replicate {A = ℕ} 16384 0 in
-    let y = k.1.0 ∙ length-replicate {A = ℕ} 8192 0 in
+    let x = c.load.auto.columns ∙ length-replicate {A = ℕ} 16384 0 in
+    let y = c.load.auto.rows ∙ length-replicate {A = ℕ} 8192 0 in
     (omega arith, omega arith, omega arith, omega arith)
 
 pub returns : goal.returns
 returns c =
     let a = c.args in
     let p = c.write_bits.ensures in
-    let e = table-text _ c.load.ensures c.wide-n.ensures in 
+    let e = table-text _ c.load.ensures c.wide-n.ensures in
     let q = answer-room a.t.now a.text.now c.requires e p in
     record { answer = q.0; text = q.1 }

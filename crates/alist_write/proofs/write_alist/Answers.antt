@@ -1,6 +1,5 @@
 -- `write_alist` meets its contract: the table's refusal, or the rest.
 use mathlib.Core.Path.{◌∙◌}
-use borrow.Author.Rules.{rules}
 use Rattle.alist_write.proofs.Whole.{answer-refused}
 use Rattle.alist_write.proofs.write_alist.Goals as goal
 

@@ -1,6 +1,5 @@
 -- `write_bits` meets its contract: the text is measured, and put if there is room.
 use mathlib.Core.Path.{◌∙◌}
-use borrow.Author.Rules.{rules}
 use Rattle.alist_numbers.specs.PutLaws.{below-is}
 use Rattle.alist_write.proofs.Whole.{whole-text, answer-short, answer-written}
 use Rattle.alist_write.proofs.write_bits.Goals as goal

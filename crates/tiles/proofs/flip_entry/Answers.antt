@@ -1,9 +1,7 @@
 -- `flip_entry` meets its contract.
 use native.Mathlib.Omega.{arith}
 use mathlib.Core.Path.{refl}
-use Prim.Native.Nat.{◌-◌}
 use Rattle.tiles.proofs.Flipping.{turned_none, entry-columns, entry-rows, entry-low, entry-high}
-use borrow.Author.Rules.{rules}
 use Rattle.tiles.proofs.flip_entry.Goals as goal
 
 pub returns-then-x-low : goal.returns-then-x-low

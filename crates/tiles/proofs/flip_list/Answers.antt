@@ -1,13 +1,10 @@
 -- `flip_list` meets its contract.
 use mathlib.Core.Path.{◌≡◌, refl, ap, ◌∙◌}
-use mathlib.Core.List.{List}
-use Prim.Native.Nat.{ℕ, ◌-◌, ◌≤◌}
 use native.Mathlib.Omega.{arith}
-use lib.ListN.{length, take, drop}
+use lib.ListN.{take}
 use Rattle.lists.specs.Lists.{par}
-use Rattle.numbers.specs.Cursor.{Ahead}
 use Rattle.walks.specs.WalksLaws.{step_value, step-next}
-use Rattle.tiles.specs.Board.{Flips, in_column, turned}
+use Rattle.tiles.specs.Board.{in_column}
 use Rattle.tiles.proofs.Flipping.{flips-as, turned_as, turned-both, turned_none, column-next, column-none}
 use Rattle.tiles.proofs.flip_list.Goals as goal
 

@@ -1,13 +1,10 @@
 -- `flip_lists` meets its contract.
 use mathlib.Core.Path.{◌≡◌, refl, ap, ◌∙◌}
-use mathlib.Core.List.{List}
-use Prim.Native.Nat.{ℕ, ◌-◌, ◌≤◌}
 use native.Mathlib.Omega.{arith}
-use lib.ListN.{length, take, drop, length-drop}
-use Rattle.numbers.specs.Cursor.{Ahead}
-use Rattle.walks.specs.Walks.{after, list_at, ListsAhead}
+use lib.ListN.{take, drop, length-drop}
+use Rattle.walks.specs.Walks.{after, list_at}
 use Rattle.walks.specs.WalksLaws.{weight_is, weight-next, weight-within, after_next}
-use Rattle.tiles.specs.Board.{Flips, in_columns, turned}
+use Rattle.tiles.specs.Board.{in_columns}
 use Rattle.tiles.proofs.Flipping.{flips-as, turned_as, turned-both, turned_none, columns-next, columns-none}
 use Rattle.tiles.proofs.flip_lists.Goals as goal
 

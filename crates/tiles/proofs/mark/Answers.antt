@@ -1,15 +1,12 @@
 -- `mark` meets its contract.
 use mathlib.Core.Path.{◌≡◌, refl, sym, ap, ap₂, ◌∙◌}
-use mathlib.Core.Bool.{true, ◌&&◌, false≢true}
-use mathlib.Core.List.{List}
-use Prim.Native.Nat.{ℕ, ◌-◌, ◌≤◌}
+use mathlib.Core.Bool.{◌&&◌, false≢true}
 use native.Mathlib.Omega.{arith}
-use lib.ListN.{length, take, drop}
+use lib.ListN.{take}
 use Rattle.lists.specs.Lists.{all_pass, all_differ}
-use Rattle.numbers.specs.Cursor.{Ahead}
 use Rattle.alist.specs.Alist.{in_range}
 use Rattle.walks.specs.WalksLaws.{step_value, step-next, pass-next}
-use Rattle.tiles.specs.Board.{Blank, Flips, named}
+use Rattle.tiles.specs.Board.{named}
 use Rattle.tiles.proofs.Flipping.{flips-as, named-next, named_none}
 use Rattle.tiles.proofs.Marking.{outside-fails, repeat-fails, differ-next, range-in, range-zero, range-over, bit-tells}
 use Rattle.tiles.proofs.mark.Goals as goal
@@ -21,15 +18,21 @@ pub shape_of-board-then-x-eq0 : goal.shape_of-board-then-x-eq0
 shape_of-board-then-x-eq0 c = c.loop-i.invariant.1
 
 pub returns-then-x-eq0 : goal.returns-then-x-eq0
-returns-then-x-eq0 c = let s = c.loop-i in let a = c.args in record { len = s.invariant.1; marks = λ z l e h. let v = s.invariant.2 z l e h in let x = step_value l s.i c.read-spot.ensures v.0 (omega arith) in
-      (outside-fails l a.count s.i _ a.most h (omega arith) x (range-zero a.most _ c.if-x-eq0.true), λ f. absurd (false≢true f)) }
+returns-then-x-eq0 c = let s = c.loop-i in let a = c.args in record {
+  len = s.invariant.1;
+  marks = λ z l e h. let v = s.invariant.2 z l e h in let x = step_value l s.i c.read-spot.ensures v.0 (omega arith) in
+      (outside-fails l a.count s.i _ a.most h (omega arith) x (range-zero a.most _ c.if-x-eq0.true), λ f. absurd (false≢true f));
+}
 
 pub shape_of-board-then-most-x : goal.shape_of-board-then-most-x
 shape_of-board-then-most-x c = c.loop-i.invariant.1
 
 pub returns-then-most-x : goal.returns-then-most-x
-returns-then-most-x c = let s = c.loop-i in let a = c.args in record { len = s.invariant.1; marks = λ z l e h. let v = s.invariant.2 z l e h in let x = step_value l s.i c.read-spot.ensures v.0 (omega arith) in
-      (outside-fails l a.count s.i _ a.most h (omega arith) x (range-over a.most _ c.if-most-x.true), λ f. absurd (false≢true f)) }
+returns-then-most-x c = let s = c.loop-i in let a = c.args in record {
+  len = s.invariant.1;
+  marks = λ z l e h. let v = s.invariant.2 z l e h in let x = step_value l s.i c.read-spot.ensures v.0 (omega arith) in
+      (outside-fails l a.count s.i _ a.most h (omega arith) x (range-over a.most _ c.if-most-x.true), λ f. absurd (false≢true f));
+}
 
 pub has_place-requires : goal.has_place-requires
 has_place-requires c = let h = c.loop-i.invariant.1 in let g = c.requires in let v = c.read-spot.ensures.small in (omega arith, omega arith)
@@ -38,11 +41,14 @@ pub shape_of-board-then-has_place : goal.shape_of-board-then-has_place
 shape_of-board-then-has_place c = c.loop-i.invariant.1
 
 pub returns-then-has_place : goal.returns-then-has_place
-returns-then-has_place c = let s = c.loop-i in let a = c.args in record { len = s.invariant.1; marks = λ z l e h. let v = s.invariant.2 z l e h in let x = step_value l s.i c.read-spot.ensures v.0 (omega arith) in (
+returns-then-has_place c = let s = c.loop-i in let a = c.args in record {
+  len = s.invariant.1;
+  marks = λ z l e h. let v = s.invariant.2 z l e h in let x = step_value l s.i c.read-spot.ensures v.0 (omega arith) in (
     repeat-fails l a.count s.i _ a.most h (omega arith) x
         (sym (bit-tells (take s.i l) _ c.read-spot.ensures.small z v.3 v.2) ∙ sym c.has_place.ensures ∙ c.if-has_place.true),
     λ f. absurd (false≢true f),
-  ) }
+  );
+}
 
 pub flip-requires : goal.flip-requires
 flip-requires c = let h = c.loop-i.invariant.1 in let g = c.requires in let v = c.read-spot.ensures.small in (omega arith, omega arith)
@@ -64,5 +70,8 @@ pub shape_of-board : goal.shape_of-board
 shape_of-board c = c.loop-i.invariant.1
 
 pub returns : goal.returns
-returns c = let s = c.loop-i in let a = c.args in let k : a.count ≡ s.i = omega arith in record { len = s.invariant.1; marks = λ z l e h. let v = s.invariant.2 z l e h in
-      (sym (ap₂ ◌&&◌ (ap (λ x. all_pass (in_range a.most) (take x l)) k ∙ v.1) (ap (λ x. all_differ (take x l)) k ∙ v.2)), λ t. flips-as v.3 (λ i q a b. ap (λ x. named (take x l) i q) k)) }
+returns c = let s = c.loop-i in let a = c.args in let k : a.count ≡ s.i = omega arith in record {
+  len = s.invariant.1;
+  marks = λ z l e h. let v = s.invariant.2 z l e h in
+      (sym (ap₂ ◌&&◌ (ap (λ x. all_pass (in_range a.most) (take x l)) k ∙ v.1) (ap (λ x. all_differ (take x l)) k ∙ v.2)), λ t. flips-as v.3 (λ i q a b. ap (λ x. named (take x l) i q) k));
+}

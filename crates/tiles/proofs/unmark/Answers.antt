@@ -1,12 +1,9 @@
 -- `unmark` meets its contract.
 use mathlib.Core.Path.{◌≡◌, refl, ap, ◌∙◌}
-use mathlib.Core.List.{List}
-use Prim.Native.Nat.{ℕ, ◌-◌, ◌≤◌}
 use native.Mathlib.Omega.{arith}
-use lib.ListN.{length, take, drop}
-use Rattle.numbers.specs.Cursor.{Ahead}
+use lib.ListN.{take}
 use Rattle.walks.specs.WalksLaws.{step_value, step-next}
-use Rattle.tiles.specs.Board.{Flips, named}
+use Rattle.tiles.specs.Board.{named}
 use Rattle.tiles.proofs.Flipping.{flips-as, named-next, named_none}
 use Rattle.tiles.proofs.unmark.Goals as goal
 

@@ -1,14 +1,12 @@
 -- `all_zero` meets its contract.
 use mathlib.Core.Path.{◌≡◌, refl, sym, ap, ◌∙◌}
-use mathlib.Core.Bool.{Bool, true}
-use mathlib.Core.List.{List}
-use Prim.Native.Nat.{ℕ, ◌-◌, ◌≤◌}
+use mathlib.Core.Bool.{Bool}
+use Prim.Native.Nat.{ℕ}
 use native.Mathlib.Omega.{arith}
 use borrow.Author.Tests.{eq-eqb, ne_eqb}
 use lib.Dec.{eqb}
-use lib.ListN.{length, take, drop}
+use lib.ListN.{take}
 use Rattle.lists.specs.Lists.{all_pass}
-use Rattle.numbers.specs.Cursor.{Ahead}
 use Rattle.walks.specs.WalksLaws.{step-next, step_value, pass-fails, pass-next}
 use Rattle.walks.proofs.all_zero.Goals as goal
 

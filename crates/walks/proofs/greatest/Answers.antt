@@ -1,10 +1,9 @@
 -- `greatest` meets its contract.
 use mathlib.Core.Path.{◌≡◌, refl, sym, ap, ◌∙◌}
 use mathlib.Core.List.{List, [], ◌∷◌, ◌++◌}
-use Prim.Native.Nat.{ℕ, max, ◌+◌, ◌-◌, ◌≤◌, ◌<◌}
+use Prim.Native.Nat.{ℕ, max, ◌+◌, ◌<◌}
 use native.Mathlib.Omega.{arith}
-use lib.ListN.{length, get_or, take, drop}
-use Rattle.numbers.specs.Cursor.{Ahead}
+use lib.ListN.{length, get_or, take}
 use Rattle.alist.specs.Alist.{greatest}
 use Rattle.walks.specs.WalksLaws.{step-next, step_value, one_more}
 use Rattle.walks.proofs.greatest.Goals as goal

@@ -1,10 +1,6 @@
 -- `skip_numbers` meets its contract.
 use mathlib.Core.Path.{◌≡◌}
-use mathlib.Core.List.{List}
-use Prim.Native.Nat.{ℕ, ◌-◌, ◌≤◌}
 use native.Mathlib.Omega.{arith}
-use lib.ListN.{length, drop}
-use Rattle.numbers.specs.Cursor.{Ahead}
 use Rattle.walks.specs.WalksLaws.{step-next}
 use Rattle.walks.proofs.skip_numbers.Goals as goal
 

@@ -1,15 +1,12 @@
 -- `skip_numbers` meets its contract.
-use mathlib.Core.Path.{◌≡◌}
 use mathlib.Core.List.{List}
 use Prim.Native.Nat.{ℕ, ◌-◌, ◌≤◌}
-use native.Mathlib.Omega.{arith}
 use lib.ListN.{length, drop}
 use Rattle.numbers.specs.Cursor.{Ahead}
-use Rattle.walks.specs.WalksLaws.{step-next}
 use Rattle.walks.proofs.skip_numbers.Given as goal
 
 abbrev pub invariant-loop-i : goal.invariant-loop-i
-invariant-loop-i l = (l.i ≤ l.count) × ((l : List ℕ) → Ahead l.text l.at l → l.count ≤ length l → Ahead l.text l.next (drop l.i l))
+invariant-loop-i l = (l.i ≤ l.count) × ((xs : List ℕ) → Ahead l.text l.at xs → l.count ≤ length xs → Ahead l.text l.next (drop l.i xs))
 
 abbrev pub decreases-loop-i : goal.decreases-loop-i
 decreases-loop-i l = l.count - l.i
