@@ -18,7 +18,7 @@ use Rattle.own_plan.specs.Own.{Own, lent_work, own-refusal, own-plan}
 use Rattle.table_file.specs.declared.Words.{Words}
 use Rattle.table_file.specs.declared.Words.TheVariants.{Count}
 use Rattle.table_file.specs.Words.{unfit, words_read, words_after}
-use Rattle.table_file.specs.WordsLaws.{words-taken}
+use Rattle.table_file.proofs.WordsLaws.{words-taken}
 use Rattle.text.specs.Lines.{Appended}
 use Rattle.listing.specs.Listing.{table_text, listing}
 use Rattle.listing.specs.ListingLaws.{ones-few, accepted-text, refused-text}

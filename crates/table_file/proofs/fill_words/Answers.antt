@@ -6,7 +6,7 @@ use borrow.Author.Count.{below_more}
 use lib.ListN.{length, get_or, length-set}
 use lib.Seq.{get_or-set_same, get_or-set_other, ext_get_or}
 use Rattle.table_file.specs.Words.{words_of}
-use Rattle.table_file.specs.WordsLaws.{words-length}
+use Rattle.table_file.proofs.WordsLaws.{words-length}
 use Rattle.table_file.proofs.Laws.{words-at}
 use Rattle.table_file.proofs.fill_words.Goals as goal
 

@@ -5,7 +5,7 @@ use native.Mathlib.Omega.{arith}
 use borrow.Author.Rules.{rules}
 use lib.ListN.{length, take}
 use lib.Seq.{length-take-le}
-use Rattle.table_file.specs.WordsLaws.{words-length}
+use Rattle.table_file.proofs.WordsLaws.{words-length}
 use Rattle.table_file.proofs.Laws.{odd_refused, long-refused, words-put}
 use Rattle.table_file.proofs.words_in.Goals as goal
 
