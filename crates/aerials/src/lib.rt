@@ -1,5 +1,6 @@
 // Two aerials: what each place comes to by two listeners' marks and packets, and the third block.
 #![tactic(auto)]
+
 ghost use Rattle.std.specs.Prelude.{◌≡◌, cond, map as each, ◌+◌, ◌*◌, ◌≤◌, ltb, length, take, drop};
 ghost use Rattle.lists.specs.Lists.{same_list, written};
 ghost use Rattle.erasure.specs.Offered.{held};

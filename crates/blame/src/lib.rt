@@ -1,5 +1,6 @@
 // One bad packet among good ones: the received place that is blamed where the old repair meets a contradiction.
 #![tactic(auto)]
+
 ghost use Rattle.std.specs.Prelude.{◌≡◌, ◌*◌, ◌≤◌, ◌<◌, length};
 ghost use Rattle.table.specs.Accepted.{Accepted};
 ghost use Rattle.table.specs.Packets.{bytes_at};

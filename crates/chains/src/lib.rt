@@ -1,5 +1,6 @@
 // Counts and chains: for each check the number of its lost places, for each place the chain of its checks.
 #![tactic(auto)]
+
 ghost use Rattle.std.specs.Prelude.{List, ◌≡◌, ℕ, ◌+◌, ◌≤◌, length, get_or, take, drop};
 ghost use Rattle.table.specs.Checks.{check, Places, Starts};
 ghost use Rattle.table.specs.Accepted.{Accepted};

@@ -1,5 +1,6 @@
 // Entering: what is carried over to a longer table, and what has arrived since.
 #![tactic(auto)]
+
 ghost use Rattle.std.specs.Prelude.{◌≡◌, ◌+◌, ◌≤◌, ◌<◌, length, take, drop};
 ghost use Rattle.entering.specs.Entering.{entry, mark_of, packet_of, carried_mark, entered};
 ghost use Rattle.erasure.specs.Offered.{held};

@@ -1,5 +1,5 @@
 -- What C-22 promises of every call, over its definitions: accepted, contradicted, refused, and what doesn't count.
-use Rattle.std.specs.Prelude.{◌≡◌, refl, true, false, List, ◌≢◌, ◌⊎◌, ℕ, zero, suc, ◌+◌, ◌*◌, ◌<◌, ◌≤◌, ltb, length, get_or, take, replicate}
+use Rattle.std.specs.Prelude.{◌≡◌, refl, false, List, ◌≢◌, ◌⊎◌, ℕ, zero, suc, ◌+◌, ◌*◌, ◌<◌, ◌≤◌, ltb, length, get_or, take, replicate}
 use Rattle.std.proofs.Common.{sym, ap, ap₂, ◌∙◌, true≢false, ⊎_elim, arith, ne_eqb, ext_get_or, get_or-take, length-take-le}
 use Rattle.std.proofs.Math.Option.{none, some}
 use Rattle.entering.specs.EnteredLaws.{parts-long, mark-at, entered-part, entered-zero}

@@ -1,5 +1,6 @@
 // A longer table in the middle of a pass: block and map are carried over, arrivals are entered, and the old repair goes on; the call with its refusals.
 #![tactic(auto)]
+
 ghost use Rattle.std.specs.Prelude.{◌≡◌};
 ghost use Rattle.erasure.specs.Offered.{held};
 ghost use Rattle.lengthen.specs.Lengthen.{Answers, LengthenFitting, offer_causes};

@@ -1,5 +1,6 @@
 // Whether a table lengthens another.
 #![tactic(auto)]
+
 ghost use Rattle.std.specs.Prelude.{◌≡◌, ◌≤◌, length};
 ghost use Rattle.lists.specs.Lists.{same_list};
 ghost use Rattle.longer.specs.Longer.{are_first, lengthens};

@@ -1,6 +1,7 @@
 // Lengths of a block and its map. Marks of lost places and of checks: whether one is over a bound, how many places are
 // lost, zero bytes at each, and whether a check is to be summed.
 #![tactic(auto)]
+
 ghost use Rattle.std.specs.Prelude.{◌≡◌, true, false, ◌||◌, ◌*◌, ◌≤◌, ltb, length};
 ghost use Rattle.lists.specs.Lists.{any_of};
 ghost use Rattle.table.specs.FirstCause.{wrong_length};

@@ -1,5 +1,6 @@
 // The receiver with two aerials: merging two blocks and maps into a third, and the old repair of it; the call with its refusals.
 #![tactic(auto)]
+
 ghost use Rattle.std.specs.Prelude.{◌≡◌, ◌≤◌, length};
 ghost use Rattle.table.specs.Accepted.{Accepted};
 ghost use Rattle.erasure.specs.Restoring.{tally};

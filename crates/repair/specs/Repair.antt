@@ -10,7 +10,7 @@ use Rattle.report.specs.Report.{RepairAnswer, accepted_with, refused_with, repai
 use Rattle.report.specs.declared.Repaired.{Repaired}
 use Rattle.table.specs.FirstCause.{first_cause}
 use Rattle.table.specs.Packets.{packets, joined}
-use Rattle.table.specs.Table.{places, size, table_causes, refusal}
+use Rattle.table.specs.Table.{places, size, table_causes}
 
 -- ---- the call: table t, block b and map of any length and content
 -- the map that repair goes by: the blamed place is "marked lost too"

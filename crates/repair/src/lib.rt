@@ -1,5 +1,6 @@
 // The receiver: repair, the call with its refusals; where one packet is bad, repair without it.
 #![tactic(auto)]
+
 ghost use Rattle.std.specs.Prelude.{◌≡◌, true, ◌<◌};
 ghost use Rattle.table.specs.Accepted.{Accepted};
 ghost use Rattle.suspects.specs.Blame.{lost_too};

@@ -1,5 +1,6 @@
 // What repair reports, and so do the calls that go on with it.
 #![tactic(auto)]
+
 ghost use Rattle.std.specs.Prelude.{◌≡◌};
 ghost use Rattle.report.specs.Report.{repair_answer_of, accepted_with, refused_with};
 

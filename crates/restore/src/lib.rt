@@ -1,5 +1,6 @@
 // The core of the receiver: restores lost places. A map byte of 1 is lost, any other is known.
 #![tactic(auto)]
+
 ghost use Rattle.std.specs.Prelude.{◌≡◌, true, false, ◌-◌, ◌*◌, ◌≤◌, length};
 ghost use Rattle.table.specs.Checks.{Starts};
 ghost use Rattle.table.specs.Table.{checks};

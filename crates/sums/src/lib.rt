@@ -1,5 +1,6 @@
 // The sum of a check's packets, and its lowest byte that isn't zero.
 #![tactic(auto)]
+
 ghost use Rattle.std.specs.Prelude.{true, ◌≡◌, ◌+◌, ◌≤◌, ◌<◌, length, take, drop};
 ghost use Rattle.gf2.specs.Gf2.{xor_group, add as add_vectors};
 ghost use Rattle.table.specs.Checks.{CheckIn, check_sum};

@@ -1,5 +1,6 @@
 // One trial: whether a received place is a suspect.
 #![tactic(auto)]
+
 ghost use Rattle.std.specs.Prelude.{◌≡◌, not, ◌&&◌, ◌<◌, eqb};
 ghost use Rattle.table.specs.Accepted.{Accepted};
 ghost use Rattle.suspects.specs.Blame.{suspect};

@@ -1,5 +1,6 @@
 // The turns of restoring: the lowest check with exactly one lost place restores it, as long as there is one.
 #![tactic(auto)]
+
 ghost use Rattle.std.specs.Prelude.{◌≡◌, ◌*◌, length, get_or, take, drop};
 ghost use Rattle.table.specs.Checks.{Places, Starts};
 ghost use Rattle.table.specs.Table.{checks};

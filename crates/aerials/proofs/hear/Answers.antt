@@ -1,7 +1,5 @@
 -- `aerials::hear` meets its contract.
 use mathlib.Core.Path.{refl, sym, ◌∙◌}
-use native.Mathlib.Omega.{arith}
-use borrow.Author.Rules.{rules}
 use lib.ListN.{take, drop}
 use Rattle.aerials.specs.Aerials.{agreed, single, silent, clash, heard, packet_of, kind_of}
 use Rattle.aerials.specs.HeardLaws.{heard-agreed, heard-clash, heard-first, heard-second, heard-silent}

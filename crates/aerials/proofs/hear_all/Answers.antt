@@ -1,15 +1,12 @@
 -- `aerials::hear_all` meets its contract.
 use mathlib.Core.Path.{sym, ◌∙◌}
-use Prim.Native.Nat.{◌-◌, ◌≤◌}
 use native.Mathlib.Omega.{arith}
 use lib.ListN.{get_or}
 use Rattle.table.specs.BufferLaws.{place-fits}
 use Rattle.table.specs.PacketCall.{part_at}
-use Rattle.erasure.specs.Offered.{held}
 use Rattle.aerials.specs.HeardLaws.{packet-sized}
-use Rattle.aerials.specs.Aerials.{packet_of, kind_of, heard_at}
 use Rattle.erasure.specs.PlaceByPlace.{part-sized}
-use Rattle.packets.specs.Filling.{Filled, none_filled, one-filled, block-filled, map-filled}
+use Rattle.packets.specs.Filling.{none_filled, one-filled, block-filled, map-filled}
 use Rattle.aerials.proofs.hear_all.Goals as goal
 
 pub loop-p-init : goal.loop-p-init

@@ -1,12 +1,9 @@
 -- `aerials::same` meets its contract.
-use mathlib.Core.Path.{◌≡◌, refl, sym, ap, ◌∙◌}
+use mathlib.Core.Path.{◌≡◌}
 use mathlib.Core.Bool.{◌&&◌}
-use mathlib.Core.Logic.{⊎_elim}
 use Prim.Native.Nat.{◌-◌, ◌≤◌}
-use native.Mathlib.Omega.{arith}
 use lib.ListN.{length, drop}
 use Rattle.lists.specs.Lists.{same_list}
-use Rattle.lists.specs.Comparing.{same-hit, same-miss, same_end, missed, ended}
 use Rattle.aerials.proofs.same.Given as goal
 
 abbrev pub invariant-loop-i : goal.invariant-loop-i

@@ -1,6 +1,5 @@
 -- `blame::is_suspect` meets its contract: one byte position is enough to say no.
 use mathlib.Core.Path.{refl, sym, ap, ◌∙◌}
-use borrow.Author.Rules.{rules}
 use Rattle.suspects.specs.Blame.{suspect}
 use Rattle.blame.proofs.Narrowing.{small-accepted, column-cleared, none-narrow}
 use Rattle.blame.proofs.Searching.{cleared-same}

@@ -1,8 +1,7 @@
 -- `blame::narrow_table` meets its contract.
-use mathlib.Core.Path.{◌≡◌, refl, sym, ap, ◌∙◌}
-use Prim.Native.Nat.{ℕ, ◌-◌, ◌<◌, ◌≤◌}
+use mathlib.Core.Path.{refl, sym, ap, ◌∙◌}
 use native.Mathlib.Omega.{arith}
-use lib.ListN.{length, get_or, set, length-set}
+use lib.ListN.{get_or, set, length-set}
 use Rattle.lists.specs.Buffers.{filled_more}
 use Rattle.blame.proofs.Copying.{filled-table}
 use Rattle.blame.proofs.narrow_table.Goals as goal

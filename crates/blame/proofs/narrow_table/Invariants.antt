@@ -1,10 +1,7 @@
 -- `blame::narrow_table` meets its contract.
-use mathlib.Core.Path.{◌≡◌, refl, sym, ap, ◌∙◌}
+use mathlib.Core.Path.{◌≡◌}
 use Prim.Native.Nat.{ℕ, ◌-◌, ◌<◌, ◌≤◌}
-use native.Mathlib.Omega.{arith}
-use lib.ListN.{length, get_or, set, length-set}
-use Rattle.lists.specs.Buffers.{filled_more}
-use Rattle.blame.proofs.Copying.{filled-table}
+use lib.ListN.{length, get_or}
 use Rattle.blame.proofs.narrow_table.Given as goal
 
 abbrev pub invariant-loop-i : goal.invariant-loop-i

@@ -1,10 +1,7 @@
 -- `blame::next_suspect` meets its contract: the rest decides.
-use mathlib.Core.Path.{◌≡◌, refl, ap, ◌∙◌}
+use mathlib.Core.Path.{◌≡◌}
 use Prim.Native.Nat.{◌-◌}
-use native.Mathlib.Omega.{arith}
-use lib.ListN.{length}
 use Rattle.lists.specs.Lists.{from, filter}
-use Rattle.blame.proofs.Searching.{cleared-same, narrow-same, tried_same, step-over, stop-at, stop-at-end}
 use Rattle.suspects.specs.Blame.{suspect}
 use Rattle.blame.proofs.next_suspect.Given as goal
 

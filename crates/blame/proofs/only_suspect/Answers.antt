@@ -1,6 +1,5 @@
 -- `blame::only_suspect` meets its contract.
 use mathlib.Core.Path.{sym}
-use borrow.Author.Rules.{rules}
 use Rattle.table.specs.Accepted.{few-places, few_words}
 use Rattle.table.specs.BufferLaws.{part-of-same}
 use Rattle.blame.proofs.only_suspect.Goals as goal

@@ -1,7 +1,6 @@
 -- `blame::search` meets its contract: none, one and no other, or two.
 use mathlib.Core.Path.{refl, ap, ◌∙◌}
 use native.Mathlib.Omega.{arith}
-use borrow.Author.Rules.{rules}
 use Rattle.lists.specs.Lists.{from, filter}
 use Rattle.suspects.specs.Blame.{suspect, only_one}
 use Rattle.blame.proofs.Narrowing.{words}

@@ -1,8 +1,8 @@
 -- `blame::take_column` meets its contract.
-use mathlib.Core.Path.{◌≡◌, refl, sym, ◌∙◌}
-use Prim.Native.Nat.{ℕ, ◌+◌, ◌-◌, ◌*◌, ◌<◌, ◌≤◌}
+use mathlib.Core.Path.{refl, sym, ◌∙◌}
+use Prim.Native.Nat.{◌+◌, ◌*◌}
 use native.Mathlib.Omega.{arith}
-use lib.ListN.{length, get_or, length-set}
+use lib.ListN.{get_or, length-set}
 use Rattle.table.specs.BufferLaws.{place-fits}
 use Rattle.lists.specs.Buffers.{filled_more}
 use Rattle.blame.proofs.Copying.{filled-column}

@@ -1,11 +1,7 @@
 -- `blame::take_column` meets its contract.
-use mathlib.Core.Path.{◌≡◌, refl, sym, ◌∙◌}
+use mathlib.Core.Path.{◌≡◌}
 use Prim.Native.Nat.{ℕ, ◌+◌, ◌-◌, ◌*◌, ◌<◌, ◌≤◌}
-use native.Mathlib.Omega.{arith}
-use lib.ListN.{length, get_or, length-set}
-use Rattle.table.specs.BufferLaws.{place-fits}
-use Rattle.lists.specs.Buffers.{filled_more}
-use Rattle.blame.proofs.Copying.{filled-column}
+use lib.ListN.{length, get_or}
 use Rattle.blame.proofs.take_column.Given as goal
 
 abbrev pub invariant-loop-p : goal.invariant-loop-p

@@ -1,12 +1,9 @@
 -- `chains::count_all` meets its contract.
 use Rattle.table.specs.Checks.{check}
 use Rattle.erasure.specs.Restoring.{lost_places}
-use Rattle.chains.proofs.Counting.{counted-turn, counted-small}
-use Rattle.table.specs.Accepted.{has-weights, places-at}
 use Prim.Native.Nat.{ℕ, ◌-◌, ◌≤◌, ◌<◌}
-use mathlib.Core.Path.{◌≡◌, refl, ◌∙◌}
-use native.Mathlib.Omega.{arith}
-use lib.ListN.{length, get_or, length-set}
+use mathlib.Core.Path.{◌≡◌}
+use lib.ListN.{length, get_or}
 use Rattle.chains.proofs.count_all.Given as goal
 
 abbrev pub invariant-loop-j : goal.invariant-loop-j

@@ -1,12 +1,10 @@
 -- `chains::link_all` meets its contract.
-use Rattle.table.specs.Checks.{offset, check}
-use Rattle.chains.specs.Linked.{Links, holders}
+use Rattle.table.specs.Checks.{check}
+use Rattle.chains.specs.Linked.{holders}
 use Rattle.chains.proofs.Linking.{links-none, links-more, links-all}
 use Rattle.table.specs.Accepted.{has-weights, few-checks, places-wide, check-fits}
-use Prim.Native.Nat.{◌+◌, ◌-◌, ◌≤◌}
-use mathlib.Core.Path.{◌≡◌, refl, ◌∙◌}
+use mathlib.Core.Path.{refl, ◌∙◌}
 use native.Mathlib.Omega.{arith}
-use lib.ListN.{length}
 use Rattle.chains.proofs.link_all.Goals as goal
 
 pub loop-j-init : goal.loop-j-init

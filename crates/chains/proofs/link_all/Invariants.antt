@@ -1,11 +1,8 @@
 -- `chains::link_all` meets its contract.
 use Rattle.table.specs.Checks.{offset, check}
 use Rattle.chains.specs.Linked.{Links, holders}
-use Rattle.chains.proofs.Linking.{links-none, links-more, links-all}
-use Rattle.table.specs.Accepted.{has-weights, few-checks, places-wide, check-fits}
 use Prim.Native.Nat.{◌+◌, ◌-◌, ◌≤◌}
-use mathlib.Core.Path.{◌≡◌, refl, ◌∙◌}
-use native.Mathlib.Omega.{arith}
+use mathlib.Core.Path.{◌≡◌}
 use lib.ListN.{length}
 use Rattle.chains.proofs.link_all.Given as goal
 

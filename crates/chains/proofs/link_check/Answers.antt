@@ -1,12 +1,9 @@
 -- `chains::link_check` meets its contract.
-use Rattle.chains.specs.Linked.{Links}
-use Rattle.chains.proofs.Linking.{partly, check-start, check-turn, check-end}
+use Rattle.chains.proofs.Linking.{check-start, check-turn, check-end}
 use Rattle.erasure.specs.LostLaws.{place-below}
-use Prim.Native.Nat.{ℕ, ◌-◌, ◌≤◌}
-use mathlib.Core.Path.{◌≡◌, refl}
-use mathlib.Core.List.{List}
+use mathlib.Core.Path.{refl}
 use native.Mathlib.Omega.{arith}
-use lib.ListN.{length, take, drop, length-set}
+use lib.ListN.{length, length-set}
 use Rattle.chains.proofs.link_check.Goals as goal
 
 pub overflow_add-end : goal.overflow_add-end

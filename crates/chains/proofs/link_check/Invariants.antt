@@ -1,12 +1,10 @@
 -- `chains::link_check` meets its contract.
 use Rattle.chains.specs.Linked.{Links}
-use Rattle.chains.proofs.Linking.{partly, check-start, check-turn, check-end}
-use Rattle.erasure.specs.LostLaws.{place-below}
+use Rattle.chains.proofs.Linking.{partly}
 use Prim.Native.Nat.{ℕ, ◌-◌, ◌≤◌}
-use mathlib.Core.Path.{◌≡◌, refl}
+use mathlib.Core.Path.{◌≡◌}
 use mathlib.Core.List.{List}
-use native.Mathlib.Omega.{arith}
-use lib.ListN.{length, take, drop, length-set}
+use lib.ListN.{length, take, drop}
 use Rattle.chains.proofs.link_check.Given as goal
 
 abbrev pub invariant-loop-i : goal.invariant-loop-i

@@ -1,10 +1,9 @@
 -- `chains::lost_in` meets its contract.
-use Rattle.erasure.specs.Restoring.{lost_places}
 use Rattle.erasure.specs.LostLaws.{place-below, lost-hit, lost-miss, lost-end}
 use Prim.Native.Nat.{◌+◌, ◌-◌, ◌≤◌}
 use mathlib.Core.Path.{◌≡◌, ap}
 use native.Mathlib.Omega.{arith}
-use lib.ListN.{length, take, drop}
+use lib.ListN.{length}
 use Rattle.chains.proofs.lost_in.Goals as goal
 use Rattle.chains.proofs.lost_in.Goals.{then-map-wide-eq1, else-map-wide-eq1}
 
@@ -32,8 +31,9 @@ loop-i-preserved c =
     let p = c.wide.ensures in
     let more = c.loop-i-test.true in
     elim c.if-map-wide-eq1.branch [
-    | then-map-wide-eq1 w ↦ let e = ap length (lost-hit a.map.now a.t.now s.i (a.at + a.weight) more r (rw p at w.if-map-wide-eq1.true)) in (omega arith, omega arith, omega (arith, w.k-is), omega (arith, w.k-is))
-    | else-map-wide-eq1 w ↦ let e = ap length (lost-miss a.map.now a.t.now s.i (a.at + a.weight) more r (rw p at w.if-map-wide-eq1.false)) in (omega arith, omega arith, omega (arith, w.k-is), omega (arith, w.k-is)) ]
+      | then-map-wide-eq1 w ↦ let e = ap length (lost-hit a.map.now a.t.now s.i (a.at + a.weight) more r (rw p at w.if-map-wide-eq1.true)) in (omega arith, omega arith, omega (arith, w.k-is), omega (arith, w.k-is))
+      | else-map-wide-eq1 w ↦ let e = ap length (lost-miss a.map.now a.t.now s.i (a.at + a.weight) more r (rw p at w.if-map-wide-eq1.false)) in (omega arith, omega arith, omega (arith, w.k-is), omega (arith, w.k-is))
+    ]
 
 pub returns : goal.returns
 returns c =

@@ -1,10 +1,7 @@
 -- `chains::lost_in` meets its contract.
 use Rattle.erasure.specs.Restoring.{lost_places}
-use Rattle.erasure.specs.LostLaws.{place-below, lost-hit, lost-miss, lost-end}
 use Prim.Native.Nat.{◌+◌, ◌-◌, ◌≤◌}
-use mathlib.Core.Path.{◌≡◌, ap}
-use mathlib.Core.Logic.{⊎_elim}
-use native.Mathlib.Omega.{arith}
+use mathlib.Core.Path.{◌≡◌}
 use lib.ListN.{length, take, drop}
 use Rattle.chains.proofs.lost_in.Given as goal
 

@@ -1,10 +1,8 @@
 -- `chains::lowest_one` meets its contract.
 use Rattle.lists.specs.Tests.{side}
-use Prim.Native.Nat.{ℕ, ◌-◌, ◌≤◌, ◌<◌}
 use mathlib.Core.Path.{◌≡◌}
 use mathlib.Core.Logic.{⊎_elim}
 use native.Mathlib.Omega.{arith}
-use lib.ListN.{get_or}
 use Rattle.chains.proofs.lowest_one.Goals as goal
 
 pub loop-j-init : goal.loop-j-init

@@ -1,5 +1,5 @@
 -- `chains::walk` meets its contract.
-use Rattle.chains.proofs.Walking.{Walking, walk_start, walk_end, walk-in, walk-in-owner, walk-falls, walk-check, walk-some, walk_turn}
+use Rattle.chains.proofs.Walking.{walk_start, walk_end, walk-in, walk-in-owner, walk-falls, walk-check, walk-some, walk_turn}
 use Prim.Native.Nat.{◌-◌, ◌≤◌}
 use mathlib.Core.Path.{◌≡◌, refl}
 use native.Mathlib.Omega.{arith}
@@ -46,9 +46,10 @@ loop-i-preserved c =
     let j = c.wide-j.result in
     let l : (get_or s.count j 0 - 1 ≡ 1 → c.if-left-eq1.low ≤ j) × (c.if-left-eq1.low ≤ s.low) =
     elim c.if-left-eq1.branch [
-    | then-left-eq1+then-j-low u ↦ ((λ e. omega (arith, u.low-is)), omega (arith, u.low-is, u.if-j-low.true))
-    | then-left-eq1+else-j-low u ↦ ((λ e. omega (arith, u.low-is, u.if-j-low.false)), omega (arith, u.low-is))
-    | else-left-eq1 u ↦ ((λ e. absurd (u.if-left-eq1.false e)), omega (arith, u.low-is)) ] in
+      | then-left-eq1+then-j-low u ↦ ((λ e. omega (arith, u.low-is)), omega (arith, u.low-is, u.if-j-low.true))
+      | then-left-eq1+else-j-low u ↦ ((λ e. omega (arith, u.low-is, u.if-j-low.false)), omega (arith, u.low-is))
+      | else-left-eq1 u ↦ ((λ e. absurd (u.if-left-eq1.false e)), omega (arith, u.low-is))
+    ] in
     walk_turn _ _ _ _ _ _ _ _ s.invariant c.loop-i-test.true _ c.wide-j.ensures _ _ _ refl l.0 l.1 c.wide-i.ensures
 
 pub shape_of-count : goal.shape_of-count

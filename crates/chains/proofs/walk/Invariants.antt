@@ -1,10 +1,5 @@
 -- `chains::walk` meets its contract.
-use Rattle.chains.proofs.Walking.{Walking, walk_start, walk_end, walk-in, walk-in-owner, walk-falls, walk-check, walk-some, walk_turn}
-use Prim.Native.Nat.{◌-◌, ◌≤◌}
-use mathlib.Core.Path.{◌≡◌, refl}
-use mathlib.Core.Logic.{⊎_elim}
-use native.Mathlib.Omega.{arith}
-use lib.ListN.{get_or}
+use Rattle.chains.proofs.Walking.{Walking}
 use Rattle.chains.proofs.walk.Given as goal
 
 abbrev pub invariant-loop-i : goal.invariant-loop-i

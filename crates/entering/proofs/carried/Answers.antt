@@ -1,6 +1,5 @@
 -- `entering::carried` meets its contract.
 use mathlib.Core.Path.{sym}
-use borrow.Author.Rules.{rules}
 use Rattle.entering.specs.EntryLaws.{carried-old, carried-new}
 use Rattle.entering.proofs.carried.Goals as goal
 

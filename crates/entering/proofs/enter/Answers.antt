@@ -1,6 +1,5 @@
 -- `entering::enter` meets its contract.
 use mathlib.Core.Path.{refl}
-use borrow.Author.Rules.{rules}
 use lib.ListN.{take, drop}
 use Rattle.entering.specs.Entering.{known, arrived, missing, entry, mark_of, packet_of}
 use Rattle.entering.specs.EntryLaws.{entry_known, entry-arrived, entry-missing}
@@ -28,7 +27,7 @@ pub returns : goal.returns
 returns c =
     let a = c.args in
     let x = take a.s (drop a.at a.block.now) in
-    let y = take a.s (drop a.at a.arrivals.now) in 
+    let y = take a.s (drop a.at a.arrivals.now) in
     let q = told mark_of (packet_of a.s) a.at a.carried a.block.now _ (entry a.carried a.arrived x y) (known a.carried x) (entry_known a.carried a.arrived x y c.if-carried-eq-LOST.false) refl
     (written_same a.block.now a.at a.s c.requires.0) in
     record { mark = q.0; packet = q.1 }

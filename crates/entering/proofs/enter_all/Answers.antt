@@ -1,10 +1,9 @@
 -- `entering::enter_all` meets its contract.
 use mathlib.Core.Path.{sym, ◌∙◌}
-use Prim.Native.Nat.{◌-◌, ◌≤◌}
 use native.Mathlib.Omega.{arith}
 use Rattle.packets.specs.Filling.{none_filled, block-filled, map-filled}
 use Rattle.table.specs.BufferLaws.{place-fits}
-use Rattle.entering.proofs.Going.{Entered, entered-more}
+use Rattle.entering.proofs.Going.{entered-more}
 use Rattle.entering.proofs.enter_all.Goals as goal
 
 pub loop-p-init : goal.loop-p-init

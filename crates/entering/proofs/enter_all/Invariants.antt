@@ -1,10 +1,6 @@
 -- `entering::enter_all` meets its contract.
-use mathlib.Core.Path.{sym, ◌∙◌}
 use Prim.Native.Nat.{◌-◌, ◌≤◌}
-use native.Mathlib.Omega.{arith}
-use Rattle.packets.specs.Filling.{none_filled, block-filled, map-filled}
-use Rattle.table.specs.BufferLaws.{place-fits}
-use Rattle.entering.proofs.Going.{Entered, entered-more}
+use Rattle.entering.proofs.Going.{Entered}
 use Rattle.entering.proofs.enter_all.Given as goal
 
 abbrev pub invariant-loop-p : goal.invariant-loop-p

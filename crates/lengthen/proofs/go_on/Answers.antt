@@ -1,7 +1,6 @@
 -- `lengthen::go_on` meets its contract.
 use mathlib.Core.Path.{ap, ◌∙◌}
 use native.Mathlib.Omega.{arith}
-use borrow.Author.Rules.{rules}
 use Rattle.erasure.specs.Offered.{Held, held}
 use Rattle.table.specs.ChecksLaws.{limits}
 use Rattle.lengthen.proofs.Answering.{answer-accepted, answer-contradicted, started, lent}

@@ -1,6 +1,5 @@
 -- `lengthen::lengthen` meets its contract.
 use mathlib.Core.Path.{sym, ◌∙◌}
-use borrow.Author.Rules.{rules}
 use Rattle.erasure.specs.Offered.{held}
 use Rattle.lengthen.specs.LengthenLaws.{offer-fits}
 use Rattle.lengthen.proofs.Answering.{answer-refused}

@@ -1,12 +1,10 @@
 -- `lengthen::look` meets its contract.
 use mathlib.Core.Path.{refl, sym, ◌∙◌}
 use native.Mathlib.Omega.{arith}
-use borrow.Author.Rules.{rules}
-use borrow.Author.Tests.{not-true, not-false}
 use Rattle.erasure.specs.Offered.{held}
 use Rattle.lengthen.specs.LengthenLaws.{old-refused, new-refused}
 use Rattle.table.specs.Accepted.{looked-over, words, block-small}
-use Rattle.lengthen.proofs.Looking.{five-carried, five-arrivals, fifteen, sixteen, inside, seven, none-holds}
+use Rattle.lengthen.proofs.Looking.{five-carried, five-arrivals, fifteen, sixteen, seven, none-holds}
 use Rattle.lengthen.proofs.look.Goals as goal
 
 pub returns-then-first-ne0 : goal.returns-then-first-ne0
@@ -37,16 +35,16 @@ pub is_lengthening-requires : goal.is_lengthening-requires
 is_lengthening-requires c = (sym c.look_over-first.ensures ∙ c.if-first-ne0.false, sym c.look_over-second.ensures ∙ c.if-second-ne0.false)
 
 pub returns-then-not-is_lengthening : goal.returns-then-not-is_lengthening
-returns-then-not-is_lengthening c = fifteen c.args.old.now c.args.new.now (held c.args.block.now c.args.map.now) (held c.args.arrivals.now c.args.arrived.now) _ _ _ _ c.look_over-first.ensures c.if-first-ne0.false c.look_over-second.ensures c.if-second-ne0.false c.wide-k.ensures c.wide-s.ensures _ _ c.wrong_lengths.ensures c.wrong_lengths-2.ensures c.if-wrong_lengths.false c.if-wrong_lengths-2.false _ c.is_lengthening.ensures (not-true _ c.if-not-is_lengthening.true-raw)
+returns-then-not-is_lengthening c = fifteen c.args.old.now c.args.new.now (held c.args.block.now c.args.map.now) (held c.args.arrivals.now c.args.arrived.now) _ _ _ _ c.look_over-first.ensures c.if-first-ne0.false c.look_over-second.ensures c.if-second-ne0.false c.wide-k.ensures c.wide-s.ensures _ _ c.wrong_lengths.ensures c.wrong_lengths-2.ensures c.if-wrong_lengths.false c.if-wrong_lengths-2.false _ c.is_lengthening.ensures c.if-not-is_lengthening.true
 
 pub bounds-old-1 : goal.bounds-old-1
 bounds-old-1 c = omega (arith, words c.args.old.now _ c.look_over-first.ensures c.if-first-ne0.false)
 
 pub returns-then-over : goal.returns-then-over
-returns-then-over c = sixteen c.args.old.now c.args.new.now (held c.args.block.now c.args.map.now) (held c.args.arrivals.now c.args.arrived.now) _ _ _ _ c.look_over-first.ensures c.if-first-ne0.false c.look_over-second.ensures c.if-second-ne0.false c.wide-k.ensures c.wide-s.ensures _ _ c.wrong_lengths.ensures c.wrong_lengths-2.ensures c.if-wrong_lengths.false c.if-wrong_lengths-2.false _ c.is_lengthening.ensures (not-false _ c.if-not-is_lengthening.false-raw) _ c.wide-n.ensures _ c.over.ensures c.if-over.true
+returns-then-over c = sixteen c.args.old.now c.args.new.now (held c.args.block.now c.args.map.now) (held c.args.arrivals.now c.args.arrived.now) _ _ _ _ c.look_over-first.ensures c.if-first-ne0.false c.look_over-second.ensures c.if-second-ne0.false c.wide-k.ensures c.wide-s.ensures _ _ c.wrong_lengths.ensures c.wrong_lengths-2.ensures c.if-wrong_lengths.false c.if-wrong_lengths-2.false _ c.is_lengthening.ensures c.if-not-is_lengthening.false _ c.wide-n.ensures _ c.over.ensures c.if-over.true
 
 pub returns-then-over_one : goal.returns-then-over_one
-returns-then-over_one c = seven c.args.old.now c.args.new.now (held c.args.block.now c.args.map.now) (held c.args.arrivals.now c.args.arrived.now) _ _ _ _ c.look_over-first.ensures c.if-first-ne0.false c.look_over-second.ensures c.if-second-ne0.false c.wide-k.ensures c.wide-s.ensures _ _ c.wrong_lengths.ensures c.wrong_lengths-2.ensures c.if-wrong_lengths.false c.if-wrong_lengths-2.false _ c.is_lengthening.ensures (not-false _ c.if-not-is_lengthening.false-raw) _ c.wide-n.ensures _ c.over.ensures c.if-over.false _ c.over_one.ensures c.if-over_one.true
+returns-then-over_one c = seven c.args.old.now c.args.new.now (held c.args.block.now c.args.map.now) (held c.args.arrivals.now c.args.arrived.now) _ _ _ _ c.look_over-first.ensures c.if-first-ne0.false c.look_over-second.ensures c.if-second-ne0.false c.wide-k.ensures c.wide-s.ensures _ _ c.wrong_lengths.ensures c.wrong_lengths-2.ensures c.if-wrong_lengths.false c.if-wrong_lengths-2.false _ c.is_lengthening.ensures c.if-not-is_lengthening.false _ c.wide-n.ensures _ c.over.ensures c.if-over.false _ c.over_one.ensures c.if-over_one.true
 
 pub returns : goal.returns
-returns c = none-holds c.args.old.now c.args.new.now (held c.args.block.now c.args.map.now) (held c.args.arrivals.now c.args.arrived.now) _ _ _ _ c.look_over-first.ensures c.if-first-ne0.false c.look_over-second.ensures c.if-second-ne0.false c.wide-k.ensures c.wide-s.ensures _ _ c.wrong_lengths.ensures c.wrong_lengths-2.ensures c.if-wrong_lengths.false c.if-wrong_lengths-2.false _ c.is_lengthening.ensures (not-false _ c.if-not-is_lengthening.false-raw) _ c.wide-n.ensures _ c.over.ensures c.if-over.false _ c.over_one.ensures c.if-over_one.false
+returns c = none-holds c.args.old.now c.args.new.now (held c.args.block.now c.args.map.now) (held c.args.arrivals.now c.args.arrived.now) _ _ _ _ c.look_over-first.ensures c.if-first-ne0.false c.look_over-second.ensures c.if-second-ne0.false c.wide-k.ensures c.wide-s.ensures _ _ c.wrong_lengths.ensures c.wrong_lengths-2.ensures c.if-wrong_lengths.false c.if-wrong_lengths-2.false _ c.is_lengthening.ensures c.if-not-is_lengthening.false _ c.wide-n.ensures _ c.over.ensures c.if-over.false _ c.over_one.ensures c.if-over_one.false

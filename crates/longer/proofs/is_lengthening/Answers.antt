@@ -1,7 +1,6 @@
 -- `longer::is_lengthening` meets its contract.
 use mathlib.Core.Path.{refl, sym, ◌∙◌}
 use native.Mathlib.Omega.{arith}
-use borrow.Author.Rules.{rules}
 use Rattle.table.specs.Accepted.{words}
 use Rattle.longer.proofs.Words.{other-size, fewer-places, fewer-checks, checks-tell}
 use Rattle.longer.proofs.is_lengthening.Goals as goal

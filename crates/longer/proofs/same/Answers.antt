@@ -1,10 +1,7 @@
 -- `longer::same` meets its contract.
-use mathlib.Core.Path.{◌≡◌, refl, sym, ◌∙◌}
-use Prim.Native.Nat.{◌-◌, ◌≤◌}
+use mathlib.Core.Path.{refl, sym, ◌∙◌}
 use native.Mathlib.Omega.{arith}
-use lib.ListN.{length, drop}
 use Rattle.lists.specs.Comparing.{same-hit, same-miss, same_end}
-use Rattle.lists.specs.Lists.{same_list}
 use Rattle.longer.proofs.same.Goals as goal
 
 pub loop-i-init : goal.loop-i-init

@@ -1,8 +1,6 @@
 -- `longer::same_checks` meets its contract.
 use mathlib.Core.Path.{sym, ◌∙◌}
 use native.Mathlib.Omega.{arith}
-use borrow.Author.Rules.{rules}
-use borrow.Author.Tests.{not-true, not-false}
 use Rattle.table.specs.Accepted.{has-weights, few_words}
 use Rattle.longer.proofs.Words.{other-weights, places-tell, room}
 use Rattle.longer.proofs.same_checks.Goals as goal

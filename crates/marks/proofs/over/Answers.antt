@@ -1,12 +1,9 @@
 -- `marks::over` meets its contract.
 use lib.Dec.{ltb}
 use borrow.Author.Tests.{lt-ltb, le-ltb}
-use Rattle.lists.specs.Lists.{any_of}
 use Rattle.marks.proofs.MapLaws.{any-hit, any-miss, any-end}
-use Prim.Native.Nat.{◌-◌, ◌≤◌}
-use mathlib.Core.Path.{◌≡◌, refl, sym, ◌∙◌}
+use mathlib.Core.Path.{refl, sym, ◌∙◌}
 use native.Mathlib.Omega.{arith}
-use lib.ListN.{length, drop}
 use Rattle.marks.proofs.over.Goals as goal
 
 pub loop-p-init : goal.loop-p-init

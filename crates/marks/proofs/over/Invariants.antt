@@ -1,11 +1,8 @@
 -- `marks::over` meets its contract.
 use lib.Dec.{ltb}
-use borrow.Author.Tests.{lt-ltb, le-ltb}
 use Rattle.lists.specs.Lists.{any_of}
-use Rattle.marks.proofs.MapLaws.{any-hit, any-miss, any-end}
 use Prim.Native.Nat.{◌-◌, ◌≤◌}
-use mathlib.Core.Path.{◌≡◌, refl, sym, ◌∙◌}
-use native.Mathlib.Omega.{arith}
+use mathlib.Core.Path.{◌≡◌}
 use lib.ListN.{length, drop}
 use Rattle.marks.proofs.over.Given as goal
 

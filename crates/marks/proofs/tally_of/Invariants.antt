@@ -1,10 +1,7 @@
 -- `marks::tally_of` meets its contract.
 use Rattle.erasure.specs.Restoring.{tally}
-use Rattle.marks.proofs.MapLaws.{tally-hit, tally-miss, tally-end}
 use Prim.Native.Nat.{◌+◌, ◌-◌, ◌≤◌}
 use mathlib.Core.Path.{◌≡◌}
-use mathlib.Core.Logic.{⊎_elim}
-use native.Mathlib.Omega.{arith}
 use lib.ListN.{length, drop}
 use Rattle.marks.proofs.tally_of.Given as goal
 

@@ -1,5 +1,4 @@
 -- `marks::wrong_lengths` meets its contract.
-use borrow.Author.Rules.{rules}
 use borrow.Author.Tests.{eq-eqb, ne_eqb}
 use Rattle.marks.proofs.wrong_lengths.Goals as goal
 

@@ -1,12 +1,9 @@
 -- `marks::zero_lost` meets its contract.
 use Rattle.table.specs.BufferLaws.{place-fits}
-use Rattle.table.specs.Packets.{packets, joined}
-use Rattle.erasure.specs.Restoring.{zero_lost}
-use Rattle.marks.proofs.BlockLaws.{zero_from, cleared-hit, cleared-miss, cleared-end}
-use Prim.Native.Nat.{◌-◌, ◌*◌, ◌≤◌}
-use mathlib.Core.Path.{◌≡◌, refl, sym, ap, ◌∙◌}
+use Rattle.table.specs.Packets.{joined}
+use Rattle.marks.proofs.BlockLaws.{cleared-hit, cleared-miss, cleared-end}
+use mathlib.Core.Path.{refl, sym, ap, ◌∙◌}
 use native.Mathlib.Omega.{arith}
-use lib.ListN.{length}
 use Rattle.marks.proofs.zero_lost.Goals as goal
 use Rattle.marks.proofs.zero_lost.Goals.{then-map-p-eq1, else-map-p-eq1}
 
@@ -32,9 +29,10 @@ loop-p-preserved c =
     let s = c.loop-p in
     let more = c.loop-p-test.true in
     elim c.if-map-p-eq1.branch [
-    | then-map-p-eq1 w ↦ let z = cleared-hit a.s a.n a.map.now s.block s.invariant.1 c.requires.1 s.p more c.if-map-p-eq1.block (w.block-is ∙ w.clear.ensures) w.if-map-p-eq1.true in
-    (omega arith, z.0, s.invariant.2 ∙ z.1)
-    | else-map-p-eq1 w ↦ let e = w.block-is in (omega arith, rw e s.invariant.1, s.invariant.2 ∙ rw e (cleared-miss a.s a.n a.map.now s.block s.invariant.1 c.requires.1 s.p more w.if-map-p-eq1.false)) ]
+      | then-map-p-eq1 w ↦ let z = cleared-hit a.s a.n a.map.now s.block s.invariant.1 c.requires.1 s.p more c.if-map-p-eq1.block (w.block-is ∙ w.clear.ensures) w.if-map-p-eq1.true in
+          (omega arith, z.0, s.invariant.2 ∙ z.1)
+      | else-map-p-eq1 w ↦ let e = w.block-is in (omega arith, rw e s.invariant.1, s.invariant.2 ∙ rw e (cleared-miss a.s a.n a.map.now s.block s.invariant.1 c.requires.1 s.p more w.if-map-p-eq1.false))
+    ]
 
 pub shape_of-block : goal.shape_of-block
 shape_of-block c = c.loop-p.invariant.1 ∙ sym c.requires.0

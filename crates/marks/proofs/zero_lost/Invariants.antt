@@ -1,12 +1,9 @@
 -- `marks::zero_lost` meets its contract.
-use Rattle.table.specs.BufferLaws.{place-fits}
-use Rattle.table.specs.Packets.{packets, joined}
+use Rattle.table.specs.Packets.{packets}
 use Rattle.erasure.specs.Restoring.{zero_lost}
-use Rattle.marks.proofs.BlockLaws.{zero_from, cleared-hit, cleared-miss, cleared-end}
+use Rattle.marks.proofs.BlockLaws.{zero_from}
 use Prim.Native.Nat.{◌-◌, ◌*◌, ◌≤◌}
-use mathlib.Core.Path.{◌≡◌, refl, sym, ap, ◌∙◌}
-use mathlib.Core.Logic.{⊎_elim}
-use native.Mathlib.Omega.{arith}
+use mathlib.Core.Path.{◌≡◌}
 use lib.ListN.{length}
 use Rattle.marks.proofs.zero_lost.Given as goal
 

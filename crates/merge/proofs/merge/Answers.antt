@@ -1,7 +1,6 @@
 -- `merge::merge` meets its contract.
 use mathlib.Core.Path.{refl}
 use native.Mathlib.Omega.{arith}
-use borrow.Author.Rules.{rules}
 use Rattle.table.specs.Accepted.{looked-over, words, block-small}
 use Rattle.erasure.specs.Offered.{held}
 use Rattle.merge.proofs.Answering.{answer-table, answer-first, answer-second, answer-third, answer-byte-first, answer-byte-second, fitting}
@@ -86,5 +85,8 @@ merge_packets-requires c =
     let a = c.args in
     let one = held a.block1.now a.map1.now in
     let two = held a.block2.now a.map2.now in
-    let out = held a.block3.now a.map3.now in record { table = looked-over a.t.now _ _ _ _ c.look_over-refusal.ensures c.if-refusal-ne0.false c.wide.ensures c.wide-n.ensures c.wide-s.ensures; fitting = fitting a.t.now one two out _ _ _ c.look_over-refusal.ensures c.if-refusal-ne0.false c.wide-n.ensures c.wide-s.ensures _ _ _ c.wrong_lengths.ensures c.wrong_lengths-2.ensures c.wrong_lengths-3.ensures c.if-wrong_lengths.false c.if-wrong_lengths-2.false c.if-wrong_lengths-3.false
-          _ _ c.over_one.ensures c.over_one-2.ensures c.if-over_one.false c.if-over_one-2.false }
+    let out = held a.block3.now a.map3.now in record {
+      table = looked-over a.t.now _ _ _ _ c.look_over-refusal.ensures c.if-refusal-ne0.false c.wide.ensures c.wide-n.ensures c.wide-s.ensures;
+      fitting = fitting a.t.now one two out _ _ _ c.look_over-refusal.ensures c.if-refusal-ne0.false c.wide-n.ensures c.wide-s.ensures _ _ _ c.wrong_lengths.ensures c.wrong_lengths-2.ensures c.wrong_lengths-3.ensures c.if-wrong_lengths.false c.if-wrong_lengths-2.false c.if-wrong_lengths-3.false
+          _ _ c.over_one.ensures c.over_one-2.ensures c.if-over_one.false c.if-over_one-2.false;
+    }

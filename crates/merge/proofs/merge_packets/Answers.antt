@@ -1,7 +1,6 @@
 -- `merge::merge_packets` meets its contract.
 use mathlib.Core.Path.{◌∙◌}
 use native.Mathlib.Omega.{arith}
-use borrow.Author.Rules.{rules}
 use Rattle.table.specs.TableLaws.{accepted}
 use Rattle.erasure.specs.Offered.{held}
 use Rattle.merge.proofs.Answering.{answer-merged, answer-contradicted, lent, block-third, marks-third, kinds-all, counted}

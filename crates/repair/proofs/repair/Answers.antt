@@ -1,10 +1,8 @@
 -- `repair::repair` meets its contract.
 use Rattle.repair.proofs.Answering.{answer-table, answer-block, answer-map, answer-byte, fitting}
 use Rattle.table.specs.Accepted.{looked-over, words, block-small}
-use Prim.Native.Nat.{◌-◌}
 use mathlib.Core.Path.{refl, sym, ◌∙◌}
 use native.Mathlib.Omega.{arith}
-use borrow.Author.Rules.{rules}
 use Rattle.repair.proofs.repair.Goals as goal
 
 pub returns-then-refusal-ne0 : goal.returns-then-refusal-ne0

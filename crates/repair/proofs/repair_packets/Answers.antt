@@ -1,6 +1,5 @@
 -- `repair::repair_packets` meets its contract.
 use mathlib.Core.Path.{sym, ap, ◌∙◌}
-use borrow.Author.Rules.{rules}
 use Rattle.blame.specs.Trying.{place_of}
 use Rattle.repair.proofs.Answering.{answer-accepted, answer-contradicted, answer-blamed, cleared, byte_inside, without-asks, fit-bytes, fit-places}
 use Rattle.repair.proofs.repair_packets.Goals as goal

@@ -2,7 +2,6 @@
 use mathlib.Core.Path.{◌∙◌}
 use Prim.Native.Nat.{ℕ}
 use native.Mathlib.Omega.{arith}
-use borrow.Author.Rules.{rules}
 use lib.ListN.{length-set}
 use Rattle.repair.proofs.Answering.{answer-without, fit-bytes, fit-places}
 use Rattle.repair.proofs.repair_without.Goals as goal

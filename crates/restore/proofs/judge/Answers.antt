@@ -1,21 +1,18 @@
 -- `restore::judge` meets its contract.
-use Rattle.table.specs.Checks.{offset}
 use Rattle.table.specs.Packets.{packets}
 use Rattle.table.specs.Table.{checks}
-use Rattle.erasure.specs.Restoring.{lost_places, none_lost, contradiction}
-use Rattle.erasure.specs.States.{state_of}
+use Rattle.erasure.specs.Restoring.{lost_places, none_lost}
 use Rattle.turns.specs.TurnLaws.{at-check}
 use Rattle.restore.proofs.Passing.{passed, byte_fits, tells-fault, tells_none}
 use Rattle.faults.specs.FaultLaws.{fault-hit, fault-zero, fault-end}
-use Rattle.faults.specs.Faults.{failing}
 use Rattle.table.specs.Accepted.{few-checks, has-weights, check-count, check-is, check-fits, check-in, offset-more}
 use Rattle.table.specs.ChecksLaws.{offset-none}
 use Rattle.table.specs.CodewordLaws.{sum-byte, sum-zero, sum-nonzero}
-use Prim.Native.Nat.{◌+◌, ◌-◌, ◌≤◌, ◌<◌}
-use mathlib.Core.Path.{◌≡◌, refl, sym, ap, ◌∙◌}
+use Prim.Native.Nat.{◌<◌}
+use mathlib.Core.Path.{refl, sym, ap, ◌∙◌}
 use native.Mathlib.Omega.{arith}
 use lib.Dec.{eqb}
-use lib.ListN.{length, drop}
+use lib.ListN.{length}
 use Rattle.restore.proofs.judge.Goals as goal
 use Rattle.restore.proofs.judge.Goals.{then-to_sum+else-low-s, else-to_sum}
 
@@ -99,9 +96,10 @@ loop-j-preserved c =
       omega arith,
       offset-more _ _ _ _ _ s.invariant.1 c.wide-w.ensures,
       s.invariant.2 ∙ elim c.if-to_sum.branch [
-          | then-to_sum+else-low-s u ↦ fault-zero (none_lost a.map.now) a.s (packets a.s a.n a.block.now) (checks a.t.now) s.j in_list (ap (λ k. eqb k 0) (sym l ∙ c.to_sum.ensures.0 u.if-to_sum.true))
-          (sum-zero a.t.now a.block.now a.n a.s _ _ inside _ is _ u.sum_of_check-low.ensures u.if-low-s.false)
-          | else-to_sum u ↦ passed a.t.now a.m a.n a.s a.block.now a.map.now a.count.now a.used.now (checks a.t.now) s.j more in_list at p.3 p.4 (c.to_sum.ensures.1 u.if-to_sum.false) ],
+        | then-to_sum+else-low-s u ↦ fault-zero (none_lost a.map.now) a.s (packets a.s a.n a.block.now) (checks a.t.now) s.j in_list (ap (λ k. eqb k 0) (sym l ∙ c.to_sum.ensures.0 u.if-to_sum.true))
+            (sum-zero a.t.now a.block.now a.n a.s _ _ inside _ is _ u.sum_of_check-low.ensures u.if-low-s.false)
+        | else-to_sum u ↦ passed a.t.now a.m a.n a.s a.block.now a.map.now a.count.now a.used.now (checks a.t.now) s.j more in_list at p.3 p.4 (c.to_sum.ensures.1 u.if-to_sum.false)
+      ],
     )
 
 pub returns : goal.returns

@@ -4,9 +4,7 @@ use mathlib.Core.Path.{◌∙◌}
 use Rattle.chains.specs.LinkedLaws.{linked_of}
 use Rattle.restore.proofs.Passing.{spent-start}
 use Rattle.table.specs.Accepted.{few-places, few-checks, few_words}
-use Prim.Native.Nat.{◌-◌}
 use native.Mathlib.Omega.{arith}
-use borrow.Author.Rules.{rules}
 use Rattle.restore.proofs.restore_lost.Goals as goal
 
 pub count_all-requires : goal.count_all-requires

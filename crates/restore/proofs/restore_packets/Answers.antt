@@ -2,7 +2,6 @@
 use Prim.Native.Nat.{◌-◌}
 use mathlib.Core.Path.{ap₂, ◌∙◌}
 use native.Mathlib.Omega.{arith}
-use borrow.Author.Rules.{rules}
 use Rattle.table.specs.Accepted.{by_number, few-places, few-checks}
 use Rattle.restore.proofs.Settling.{fewer, settled, unsettled}
 use Rattle.restore.specs.SavedLaws.{saved-room, put_back}

@@ -1,12 +1,9 @@
 -- `sums::gather` meets its contract: after m turns, the parts of the first m places are added.
-use Prim.Native.Nat.{◌-◌, ◌≤◌}
 use mathlib.Core.Path.{◌≡◌}
 use native.Mathlib.Omega.{arith}
-use Rattle.table.specs.GatherLaws.{Gathered, gathered_none}
-use Rattle.table.specs.Packets.{packets}
+use Rattle.table.specs.GatherLaws.{gathered_none}
 use Rattle.packets.specs.PlaceLaws.{place-room}
 use Rattle.sums.proofs.Sums.{next_place}
-use lib.ListN.{take, drop}
 use Rattle.sums.proofs.gather.Goals as goal
 
 pub loop-m-init : goal.loop-m-init

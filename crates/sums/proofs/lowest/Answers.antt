@@ -1,8 +1,6 @@
 -- `sums::lowest` meets its contract: the bytes passed are zero.
-use Prim.Native.Nat.{ℕ, ◌-◌, ◌≤◌, ◌<◌}
-use mathlib.Core.Path.{◌≡◌, sym}
+use mathlib.Core.Path.{sym}
 use native.Mathlib.Omega.{arith}
-use lib.ListN.{length, get_or}
 use borrow.Author.Count.{below_more}
 use Rattle.table.specs.SumLaws.{lowest-is}
 use Rattle.sums.proofs.lowest.Goals as goal

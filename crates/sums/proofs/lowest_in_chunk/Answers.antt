@@ -2,7 +2,6 @@
 use mathlib.Core.Path.{ap, ◌∙◌}
 use Rattle.table.specs.Packets.{lowest_nonzero}
 use Rattle.sums.proofs.Sums.{chunk_of}
-use borrow.Author.Rules.{rules}
 use Rattle.sums.proofs.lowest_in_chunk.Goals as goal
 
 pub returns : goal.returns

@@ -6,7 +6,6 @@ use Rattle.table.specs.Packets.{lowest_nonzero}
 use lib.ListN.{replicate}
 use Rattle.table.specs.GatherLaws.{first-length, back-room, back-length}
 use Rattle.sums.proofs.Sums.{rest_of}
-use borrow.Author.Rules.{rules}
 use Rattle.sums.proofs.lowest_in_rest.Goals as goal
 
 pub slice_bounds-gather-end : goal.slice_bounds-gather-end

@@ -1,7 +1,6 @@
 -- `sums::or_chunk` meets its contract: what was gathered from zeros is the part of the sum.
 use mathlib.Core.Path.{sym, ◌∙◌}
 use Rattle.sums.proofs.Sums.{chunk_of, or-piece}
-use borrow.Author.Rules.{rules}
 use Rattle.sums.proofs.or_chunk.Goals as goal
 
 pub gather-requires : goal.gather-requires

@@ -1,8 +1,7 @@
 -- `sums::or_into` meets its contract: the bytes passed are zero only where both were.
 use Prim.Native.Nat.{◌-◌, ◌≤◌}
-use native.Mathlib.Omega.{arith}
-use lib.ListN.{length, length-set}
-use Rattle.sums.proofs.Sums.{Ored, or-none, or_turn, or-done}
+use lib.ListN.{length}
+use Rattle.sums.proofs.Sums.{Ored}
 use Rattle.sums.proofs.or_into.Given as goal
 
 abbrev pub invariant-loop-i : goal.invariant-loop-i

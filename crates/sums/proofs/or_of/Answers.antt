@@ -1,8 +1,6 @@
 -- `sums::or_of` meets its contract: where the or is zero, the bytes passed are.
-use Prim.Native.Nat.{ℕ, ◌-◌, ◌≤◌, ◌<◌}
-use mathlib.Core.Path.{◌≡◌, ◌∙◌}
+use mathlib.Core.Path.{◌∙◌}
 use native.Mathlib.Omega.{arith}
-use lib.ListN.{length, get_or}
 use borrow.Author.Count.{below_more}
 use Rattle.table.specs.SumLaws.{lowest-is}
 use Rattle.sums.proofs.Sums.{or_left, or_right}

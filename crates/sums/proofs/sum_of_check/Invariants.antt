@@ -1,11 +1,8 @@
 -- `sums::sum_of_check` meets its contract: by one test of all pieces, or else the bytes of the sum passed are zero.
 use Prim.Native.Nat.{◌+◌, ◌-◌, ◌≤◌}
-use mathlib.Core.Path.{◌≡◌, sym}
-use native.Mathlib.Omega.{arith}
+use mathlib.Core.Path.{◌≡◌}
 use lib.ListN.{take, drop}
 use Rattle.table.specs.Packets.{lowest_nonzero, packets, packet_sum}
-use Rattle.table.specs.SumLaws.{lowest-le, sum-length}
-use Rattle.sums.proofs.Sums.{found, passed}
 use Rattle.sums.proofs.sum_of_check.Given as goal
 
 abbrev pub invariant-loop-i : goal.invariant-loop-i

@@ -1,14 +1,8 @@
 -- `sums::vanishes` meets its contract: where all bytes or-ed are zero, the bytes of the sum passed are.
 use Prim.Native.Nat.{◌+◌, ◌-◌, ◌≤◌}
-use mathlib.Core.Path.{◌≡◌, refl, sym, ◌∙◌}
-use mathlib.Core.Bool.{false≢true}
-use native.Mathlib.Omega.{arith}
-use borrow.Author.Tests.{eqb-true}
-use borrow.Author.Rules.{rules}
+use mathlib.Core.Path.{◌≡◌}
 use lib.ListN.{length, take, drop}
 use Rattle.table.specs.Packets.{lowest_nonzero, packets, packet_sum}
-use Rattle.table.specs.SumLaws.{sum-length}
-use Rattle.sums.proofs.Sums.{passed}
 use Rattle.sums.proofs.vanishes.Given as goal
 
 abbrev pub invariant-loop-i : goal.invariant-loop-i

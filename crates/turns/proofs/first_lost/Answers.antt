@@ -1,10 +1,9 @@
 -- `turns::first_lost` meets its contract.
-use Rattle.erasure.specs.Restoring.{lost_places}
 use Rattle.erasure.specs.LostLaws.{place-below, lost-hit, lost-miss, lost-end}
 use Prim.Native.Nat.{◌+◌, ◌-◌, ◌≤◌}
 use mathlib.Core.Path.{◌≡◌, sym, ap, ◌∙◌}
 use native.Mathlib.Omega.{arith}
-use lib.ListN.{length, get_or, take, drop}
+use lib.ListN.{length, get_or}
 use Rattle.turns.proofs.first_lost.Goals as goal
 
 pub loop-i-init : goal.loop-i-init

@@ -1,10 +1,8 @@
 -- `turns::first_lost` meets its contract.
 use Rattle.erasure.specs.Restoring.{lost_places}
-use Rattle.erasure.specs.LostLaws.{place-below, lost-hit, lost-miss, lost-end}
-use Prim.Native.Nat.{◌+◌, ◌-◌, ◌≤◌}
-use mathlib.Core.Path.{◌≡◌, sym, ap, ◌∙◌}
-use native.Mathlib.Omega.{arith}
-use lib.ListN.{length, get_or, take, drop}
+use Prim.Native.Nat.{◌-◌, ◌≤◌}
+use mathlib.Core.Path.{◌≡◌}
+use lib.ListN.{get_or, take, drop}
 use Rattle.turns.proofs.first_lost.Given as goal
 
 abbrev pub invariant-loop-i : goal.invariant-loop-i

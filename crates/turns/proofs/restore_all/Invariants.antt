@@ -2,15 +2,10 @@
 use Rattle.table.specs.Table.{checks}
 use Rattle.erasure.specs.LostLaws.{lost_in}
 use Rattle.turns.specs.Spent.{Spent}
-use Rattle.turns.proofs.Spending.{spent-turn}
-use Rattle.turns.specs.TurnLaws.{at-check}
-use Rattle.turns.proofs.Ordering.{Tracked, tracked-start, lowest-ready, walk-ready, tracked-turn}
-use Rattle.table.specs.Accepted.{few-places, has-weights, check-is}
-use Rattle.turns.proofs.Turning.{lost-place-in, lost-place, Going, going_start, going_end, going-small, none-next, next-in, next-places, next_one, next-some, next-light, next-turn, next-fewer, next-packets, next-long}
-use Prim.Native.Nat.{◌-◌}
-use mathlib.Core.Path.{◌≡◌, refl, sym, ap, ◌∙◌}
-use native.Mathlib.Omega.{arith}
-use lib.ListN.{length, set, take, drop, length-set}
+use Rattle.turns.proofs.Ordering.{Tracked}
+use Rattle.turns.proofs.Turning.{Going}
+use mathlib.Core.Path.{◌≡◌}
+use lib.ListN.{length}
 use Rattle.turns.proofs.restore_all.Given as goal
 
 abbrev pub invariant-loop-m : goal.invariant-loop-m

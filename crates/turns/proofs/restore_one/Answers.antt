@@ -2,11 +2,9 @@
 use Rattle.table.specs.Checks.{Places}
 use Rattle.table.specs.SumLaws.{places-in}
 use Rattle.turns.proofs.Turning.{lost-place-in}
-use Prim.Native.Nat.{◌-◌}
 use mathlib.Core.Path.{sym, ◌∙◌, subst}
 use native.Mathlib.Omega.{arith}
 use lib.ListN.{take, drop}
-use borrow.Author.Rules.{rules}
 use Rattle.turns.proofs.restore_one.Goals as goal
 
 pub first_lost-p-requires : goal.first_lost-p-requires

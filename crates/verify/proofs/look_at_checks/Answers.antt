@@ -1,18 +1,15 @@
 -- `verify::look_at_checks` meets its contract.
-use Rattle.table.specs.Checks.{offset}
 use Rattle.table.specs.Packets.{packets}
 use Rattle.table.specs.Table.{checks}
 use Rattle.faults.specs.FaultLaws.{fault-hit, fault-zero, fault-end}
-use Rattle.faults.specs.Faults.{failing, every_check}
+use Rattle.faults.specs.Faults.{every_check}
 use Rattle.verify.specs.Verify.{values_of, verdict}
 use Rattle.verify.specs.declared.Verified.TheVariants.{Fails}
 use Rattle.table.specs.Accepted.{has-weights, check-count, check-is, check-fits, check-in, offset-more}
 use Rattle.table.specs.ChecksLaws.{offset-none}
 use Rattle.table.specs.CodewordLaws.{sum-byte, sum-zero, sum-nonzero}
-use Prim.Native.Nat.{◌+◌, ◌-◌, ◌≤◌}
-use mathlib.Core.Path.{◌≡◌, refl, sym, ap, ◌∙◌}
+use mathlib.Core.Path.{refl, sym, ap, ◌∙◌}
 use native.Mathlib.Omega.{arith}
-use lib.ListN.{drop}
 use Rattle.verify.proofs.look_at_checks.Goals as goal
 
 pub overflow_add-at : goal.overflow_add-at

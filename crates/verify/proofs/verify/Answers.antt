@@ -3,10 +3,9 @@ use Rattle.verify.specs.Verify.{values_of}
 use Rattle.verify.specs.VerifyLaws.{verification-is, verification-refused, verification-short}
 use Rattle.verify.specs.declared.Verified.TheVariants.{Refused}
 use Rattle.table.specs.Accepted.{looked-over, words, block-small}
-use Prim.Native.Nat.{◌-◌, ◌*◌}
+use Prim.Native.Nat.{◌*◌}
 use mathlib.Core.Path.{refl, sym, ap, ap₂, ◌∙◌}
 use native.Mathlib.Omega.{arith}
-use borrow.Author.Rules.{rules}
 use Rattle.verify.proofs.verify.Goals as goal
 
 pub returns-then-refusal-ne0 : goal.returns-then-refusal-ne0
