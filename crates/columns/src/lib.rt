@@ -1,5 +1,6 @@
 // Step 5 of the rule: the columns of the set-aside checks, the fitted places and the rows of the inverse.
 #![tactic(auto)]
+
 ghost use Rattle.std.specs.Prelude.{List, [], map, ℕ, ◌≤◌, ◌<◌, length, get_or, take, drop};
 ghost use Rattle.std.specs.Int.Bits.{bit_xor};
 ghost use Rattle.rule.specs.Rule.{put_in_all};

@@ -1,5 +1,6 @@
 // Step 1 of the rule: the checks that are kept.
 #![tactic(auto)]
+
 ghost use Rattle.std.specs.Prelude.{◌≡◌, ℕ, ◌+◌, ◌*◌, ◌≤◌, ◌<◌, length, get_or, take, drop, replicate};
 ghost use Rattle.gf2.specs.Gf2.{row_of};
 ghost use Rattle.table.specs.Accepted.{Accepted};

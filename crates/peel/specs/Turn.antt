@@ -1,7 +1,7 @@
 -- One turn of steps 2 and 3 on the numbers of the checks.
 use Rattle.std.specs.Prelude.{◌≡◌, Bool, true, cond, List, [], ◌∷◌, map, ℕ, ◌+◌, ◌<◌, ◌≤◌, length, get_or, set, take, eqb}
 use Rattle.std.proofs.Math.Option.{none, some}
-use Rattle.lists.specs.Lists.{highest, has, count}
+use Rattle.lists.specs.Lists.{highest, has}
 use Rattle.rule.specs.Buffers.{solved}
 use Rattle.table.specs.Checks.{check}
 use Rattle.rule.specs.Rule.{in_one_only, first, without, most_freed, peel, solved_of, set_aside_of}

@@ -1,5 +1,6 @@
 // Steps 2 and 3: own places, and checks set aside.
 #![tactic(auto)]
+
 ghost use Rattle.std.specs.Prelude.{◌≡◌, map, ℕ, ◌+◌, ◌≤◌, ◌<◌, length, get_or, replicate};
 ghost use Rattle.table.specs.Accepted.{Accepted, Located};
 ghost use Rattle.table.specs.Checks.{check};

@@ -1,15 +1,12 @@
 -- `columns::fill_columns` meets its contract: the columns are those of the first i set-aside checks.
-use mathlib.Core.List.{map}
-use Rattle.gf2.specs.Gf2.{row_of}
 use Rattle.table.specs.Accepted.{has-weights, each-places, places-wide}
-use Rattle.table.specs.Checks.{check, offset}
-use Rattle.columns.specs.Cols.{Columns}
+use Rattle.table.specs.Checks.{offset}
 use Rattle.masks.specs.DotLaws.{unit-word}
 use Rattle.columns.proofs.Pushing.{fill-turn}
-use Prim.Native.Nat.{◌+◌, ◌-◌, ◌≤◌, ◌<◌}
+use Prim.Native.Nat.{◌+◌, ◌<◌}
 use mathlib.Core.Path.{◌≡◌, refl, ◌∙◌}
 use native.Mathlib.Omega.{arith}
-use lib.ListN.{length, get_or, take}
+use lib.ListN.{length, get_or}
 use Rattle.columns.proofs.fill_columns.Goals as goal
 
 pub loop-i-init : goal.loop-i-init

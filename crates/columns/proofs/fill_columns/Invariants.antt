@@ -1,15 +1,11 @@
 -- `columns::fill_columns` meets its contract: the columns are those of the first i set-aside checks.
 use mathlib.Core.List.{map}
 use Rattle.gf2.specs.Gf2.{row_of}
-use Rattle.table.specs.Accepted.{has-weights, each-places, places-wide}
-use Rattle.table.specs.Checks.{check, offset}
+use Rattle.table.specs.Checks.{check}
 use Rattle.columns.specs.Cols.{Columns}
-use Rattle.masks.specs.DotLaws.{unit-word}
-use Rattle.columns.proofs.Pushing.{fill-turn}
-use Prim.Native.Nat.{◌+◌, ◌-◌, ◌≤◌, ◌<◌}
-use mathlib.Core.Path.{◌≡◌, refl, ◌∙◌}
-use native.Mathlib.Omega.{arith}
-use lib.ListN.{length, get_or, take}
+use Prim.Native.Nat.{◌-◌, ◌≤◌}
+use mathlib.Core.Path.{◌≡◌}
+use lib.ListN.{length, take}
 use Rattle.columns.proofs.fill_columns.Given as goal
 
 abbrev pub invariant-loop-i : goal.invariant-loop-i

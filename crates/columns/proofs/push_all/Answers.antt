@@ -1,12 +1,8 @@
 -- `columns::push_all` meets its contract: k solved checks are put in.
-use mathlib.Core.List.{map, List}
-use Rattle.rule.specs.Rule.{put_in_all}
-use Rattle.rule.specs.Buffers.{solved}
 use Rattle.table.specs.Accepted.{has-weights, each-places, places-wide}
-use Rattle.table.specs.Checks.{check, offset}
-use Rattle.columns.specs.Cols.{Columns}
+use Rattle.table.specs.Checks.{offset}
 use Rattle.columns.proofs.Pushing.{start, turn}
-use Prim.Native.Nat.{ℕ, ◌+◌, ◌-◌, ◌≤◌, ◌<◌}
+use Prim.Native.Nat.{◌+◌, ◌<◌}
 use mathlib.Core.Path.{◌≡◌, refl, ◌∙◌}
 use native.Mathlib.Omega.{arith}
 use lib.ListN.{length, get_or}

@@ -2,14 +2,11 @@
 use mathlib.Core.List.{map, List}
 use Rattle.rule.specs.Rule.{put_in_all}
 use Rattle.rule.specs.Buffers.{solved}
-use Rattle.table.specs.Accepted.{has-weights, each-places, places-wide}
-use Rattle.table.specs.Checks.{check, offset}
+use Rattle.table.specs.Checks.{check}
 use Rattle.columns.specs.Cols.{Columns}
-use Rattle.columns.proofs.Pushing.{start, turn}
-use Prim.Native.Nat.{ℕ, ◌+◌, ◌-◌, ◌≤◌, ◌<◌}
-use mathlib.Core.Path.{◌≡◌, refl, ◌∙◌}
-use native.Mathlib.Omega.{arith}
-use lib.ListN.{length, get_or}
+use Prim.Native.Nat.{ℕ, ◌-◌, ◌≤◌}
+use mathlib.Core.Path.{◌≡◌}
+use lib.ListN.{length}
 use Rattle.columns.proofs.push_all.Given as goal
 
 abbrev pub invariant-loop-k : goal.invariant-loop-k

@@ -1,34 +1,25 @@
 -- `columns::spread` meets its contract: i places are marked.
-use Prim.Native.Nat.{◌-◌, ◌≤◌, ◌<◌}
+use Prim.Native.Nat.{◌<◌}
 use mathlib.Core.Path.{◌≡◌, refl}
 use native.Mathlib.Omega.{arith}
-use lib.Bits.{bit_xor}
-use lib.ListN.{length, take, drop}
-use Rattle.live.specs.Live.{Upd}
+use lib.ListN.{length}
 use Rattle.live.specs.MarkLaws.{upd-none, upd-turn, place-low}
 use Rattle.columns.proofs.spread.Goals as goal
 
 pub loop-i-init : goal.loop-i-init
 loop-i-init c = (omega arith, upd-none _ _)
 
--- the place lies in the list
-in-range : (c : tie.After-wide invariant-loop decreases-loop) → c.wide-p.result < length c.loop-i.col
-in-range c =
-    let l = c.loop-i.invariant.1.len in
-    let p = place-low c.requires c.loop-i-test.true _ c.wide-p.ensures in
-    omega arith
-
 pub offset_bounds-col-p : goal.offset_bounds-col-p
-offset_bounds-col-p c = let r = in-range c in omega arith
+offset_bounds-col-p c = let r : c.wide-p.result < length c.loop-i.col = (let l = c.loop-i.invariant.1.len in let p = place-low c.requires c.loop-i-test.true _ c.wide-p.ensures in omega arith) in omega arith
 
 pub bounds-col-p : goal.bounds-col-p
-bounds-col-p c = let r = in-range c in omega arith
+bounds-col-p c = let r : c.wide-p.result < length c.loop-i.col = (let l = c.loop-i.invariant.1.len in let p = place-low c.requires c.loop-i-test.true _ c.wide-p.ensures in omega arith) in omega arith
 
 pub offset_bounds-col-p-in-loop-i : goal.offset_bounds-col-p-in-loop-i
-offset_bounds-col-p-in-loop-i c = let r = in-range c in omega arith
+offset_bounds-col-p-in-loop-i c = let r : c.wide-p.result < length c.loop-i.col = (let l = c.loop-i.invariant.1.len in let p = place-low c.requires c.loop-i-test.true _ c.wide-p.ensures in omega arith) in omega arith
 
 pub bounds-col-p-in-loop-i : goal.bounds-col-p-in-loop-i
-bounds-col-p-in-loop-i c = let r = in-range c in omega arith
+bounds-col-p-in-loop-i c = let r : c.wide-p.result < length c.loop-i.col = (let l = c.loop-i.invariant.1.len in let p = place-low c.requires c.loop-i-test.true _ c.wide-p.ensures in omega arith) in omega arith
 
 pub loop-i-preserved : goal.loop-i-preserved
 loop-i-preserved c = (omega arith, upd-turn c.requires c.loop-i-test.true _ c.wide-p.ensures _ (omega arith) refl c.loop-i.invariant.1)

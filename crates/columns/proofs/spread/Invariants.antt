@@ -1,11 +1,8 @@
 -- `columns::spread` meets its contract: i places are marked.
-use Prim.Native.Nat.{◌-◌, ◌≤◌, ◌<◌}
-use mathlib.Core.Path.{◌≡◌, refl}
-use native.Mathlib.Omega.{arith}
+use Prim.Native.Nat.{◌-◌, ◌≤◌}
 use lib.Bits.{bit_xor}
-use lib.ListN.{length, take, drop}
+use lib.ListN.{take, drop}
 use Rattle.live.specs.Live.{Upd}
-use Rattle.live.specs.MarkLaws.{upd-none, upd-turn, place-low}
 use Rattle.columns.proofs.spread.Given as goal
 
 abbrev pub invariant-loop-i : goal.invariant-loop-i

@@ -1,7 +1,6 @@
 -- `keep::eliminate` meets its contract.
 use mathlib.Core.Path.{sym, subst}
 use native.Mathlib.Omega.{arith}
-use borrow.Author.Rules.{rules}
 use Rattle.gf2.specs.Gf2.{Short}
 use Rattle.gf2.specs.EchelonLaws.{places-short}
 use Rattle.rows.specs.LeadsLaws.{owners-kept, lowered-as}
@@ -19,13 +18,16 @@ reduce-requires c =
     let p = c.requires in
     let room = p.room in
     let d = c.load.ensures in
-    let len = d.len in record { rows = record {
+    let len = d.len in record {
+      rows = record {
         inside = omega arith;
         most = room.1;
         places = room.2;
         owners = owners-kept p.owners d;
         short = subst (Short a.n) (sym d.here) (places-short a.t.now a.at a.weight a.n p.check.1);
-      }; room = room.3 }
+      };
+      room = room.3;
+    }
 
 pub returns : goal.returns
 returns c = lowered-as c.requires.owners c.load.ensures c.reduce.ensures.row

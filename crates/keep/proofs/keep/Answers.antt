@@ -1,13 +1,13 @@
 -- `keep::keep` meets its contract: `Keeps` holds at each turn.
-use Prim.Native.Nat.{◌-◌, ◌<◌, ◌≤◌}
+use Prim.Native.Nat.{◌<◌, ◌≤◌}
 use mathlib.Core.Path.{◌≡◌, refl, sym, ap, ◌∙◌}
-use mathlib.Core.Logic.{⊎_elim}
 use native.Mathlib.Omega.{arith}
 use lib.ListN.{length, length-set}
 use Rattle.table.specs.Accepted.{few-places, few-checks, has-weights, places-at, check-fits}
 use Rattle.bits.specs.Front.{front_length}
-use Rattle.keep.proofs.Keeping.{Keeps, start, owners, turn-hit, turn-miss, stop, told}
+use Rattle.keep.proofs.Keeping.{start, owners, turn-hit, turn-miss, stop, told}
 use Rattle.keep.proofs.keep.Goals as goal
+use Rattle.keep.proofs.keep.Goals.{then-l-gt0, else-l-gt0}
 
 pub overflow_add-at : goal.overflow_add-at
 overflow_add-at c = let f = few-checks _ _ _ _ c.requires.table in omega arith
@@ -41,46 +41,32 @@ eliminate-l-requires c =
     let l3 = s.invariant.3 in
     record { room = (omega arith, nar, omega arith, omega arith); owners = owners s.invariant.4 (omega arith); check = (v.room, v.below) }
 
--- a row more: its number and its lead are in range
-in-range : (c : tie.Then1 invariant-loop decreases-loop) → (c.loop-i.k < 512) × (c.eliminate-l.result ≤ length c.loop-i.owner) × (c.loop-i.k < length c.loop-i.ids)
-in-range c =
-    let s = c.loop-i in
-    let p = c.requires in
-    let room = p.room in
-    let less = c.loop-i-test.true in
-    let few = s.invariant.4.rows.few in
-    let most = few-checks _ _ _ _ p.table in
-    let own = s.invariant.2 in
-    let lead = c.eliminate-l.ensures.most in
-    let long = front_length s.invariant.4.front (omega arith) in
-    (omega arith, omega arith, omega arith)
-
 pub overflow_add-owner : goal.overflow_add-owner
-overflow_add-owner c = let b = in-range c in omega arith
+overflow_add-owner c = let b : (c.loop-i.k < 512) × (c.eliminate-l.result ≤ length c.loop-i.owner) × (c.loop-i.k < length c.loop-i.ids) = (let s = c.loop-i in let p = c.requires in let room = p.room in let less = c.loop-i-test.true in let few = s.invariant.4.rows.few in let most = few-checks _ _ _ _ p.table in let own = s.invariant.2 in let lead = c.eliminate-l.ensures.most in let long = front_length s.invariant.4.front (omega arith) in (omega arith, omega arith, omega arith)) in omega arith
 
 pub overflow_cast-owner : goal.overflow_cast-owner
-overflow_cast-owner c = let b = in-range c in omega arith
+overflow_cast-owner c = let b : (c.loop-i.k < 512) × (c.eliminate-l.result ≤ length c.loop-i.owner) × (c.loop-i.k < length c.loop-i.ids) = (let s = c.loop-i in let p = c.requires in let room = p.room in let less = c.loop-i-test.true in let few = s.invariant.4.rows.few in let most = few-checks _ _ _ _ p.table in let own = s.invariant.2 in let lead = c.eliminate-l.ensures.most in let long = front_length s.invariant.4.front (omega arith) in (omega arith, omega arith, omega arith)) in omega arith
 
 pub overflow_sub-owner : goal.overflow_sub-owner
 overflow_sub-owner c = omega (arith, c.if-l-gt0.true)
 
 pub offset_bounds-owner-l : goal.offset_bounds-owner-l
-offset_bounds-owner-l c = let b = in-range c in omega (arith, c.if-l-gt0.true)
+offset_bounds-owner-l c = let b : (c.loop-i.k < 512) × (c.eliminate-l.result ≤ length c.loop-i.owner) × (c.loop-i.k < length c.loop-i.ids) = (let s = c.loop-i in let p = c.requires in let room = p.room in let less = c.loop-i-test.true in let few = s.invariant.4.rows.few in let most = few-checks _ _ _ _ p.table in let own = s.invariant.2 in let lead = c.eliminate-l.ensures.most in let long = front_length s.invariant.4.front (omega arith) in (omega arith, omega arith, omega arith)) in omega (arith, c.if-l-gt0.true)
 
 pub bounds-owner-l : goal.bounds-owner-l
-bounds-owner-l c = let b = in-range c in omega (arith, c.if-l-gt0.true)
+bounds-owner-l c = let b : (c.loop-i.k < 512) × (c.eliminate-l.result ≤ length c.loop-i.owner) × (c.loop-i.k < length c.loop-i.ids) = (let s = c.loop-i in let p = c.requires in let room = p.room in let less = c.loop-i-test.true in let few = s.invariant.4.rows.few in let most = few-checks _ _ _ _ p.table in let own = s.invariant.2 in let lead = c.eliminate-l.ensures.most in let long = front_length s.invariant.4.front (omega arith) in (omega arith, omega arith, omega arith)) in omega (arith, c.if-l-gt0.true)
 
 pub overflow_cast-ids : goal.overflow_cast-ids
 overflow_cast-ids c = let f = few-checks _ _ _ _ c.requires.table in omega (arith, c.loop-i-test.true)
 
 pub offset_bounds-ids-k : goal.offset_bounds-ids-k
-offset_bounds-ids-k c = let b = in-range c in omega arith
+offset_bounds-ids-k c = let b : (c.loop-i.k < 512) × (c.eliminate-l.result ≤ length c.loop-i.owner) × (c.loop-i.k < length c.loop-i.ids) = (let s = c.loop-i in let p = c.requires in let room = p.room in let less = c.loop-i-test.true in let few = s.invariant.4.rows.few in let most = few-checks _ _ _ _ p.table in let own = s.invariant.2 in let lead = c.eliminate-l.ensures.most in let long = front_length s.invariant.4.front (omega arith) in (omega arith, omega arith, omega arith)) in omega arith
 
 pub bounds-ids-k : goal.bounds-ids-k
-bounds-ids-k c = let b = in-range c in omega arith
+bounds-ids-k c = let b : (c.loop-i.k < 512) × (c.eliminate-l.result ≤ length c.loop-i.owner) × (c.loop-i.k < length c.loop-i.ids) = (let s = c.loop-i in let p = c.requires in let room = p.room in let less = c.loop-i-test.true in let few = s.invariant.4.rows.few in let most = few-checks _ _ _ _ p.table in let own = s.invariant.2 in let lead = c.eliminate-l.ensures.most in let long = front_length s.invariant.4.front (omega arith) in (omega arith, omega arith, omega arith)) in omega arith
 
 pub overflow_add-k : goal.overflow_add-k
-overflow_add-k c = let b = in-range c in omega arith
+overflow_add-k c = let b : (c.loop-i.k < 512) × (c.eliminate-l.result ≤ length c.loop-i.owner) × (c.loop-i.k < length c.loop-i.ids) = (let s = c.loop-i in let p = c.requires in let room = p.room in let less = c.loop-i-test.true in let few = s.invariant.4.rows.few in let most = few-checks _ _ _ _ p.table in let own = s.invariant.2 in let lead = c.eliminate-l.ensures.most in let long = front_length s.invariant.4.front (omega arith) in (omega arith, omega arith, omega arith)) in omega arith
 
 pub overflow_add-at-in-loop-i : goal.overflow_add-at-in-loop-i
 overflow_add-at-in-loop-i c =
@@ -110,22 +96,22 @@ loop-i-preserved c =
     let room = p.room in
     let mo = d.most in
     let noted = c.noted-in-loop-i-1.given in
-    ⊎_elim
-    (λ u. (
-      omega arith,
-      long,
-      ap length u.1 ∙ simp length-set own,
-      noted,
-      rw (u.1, u.2, u.3, wd) (turn-hit _ s.invariant.4 (omega arith) less d u.0.taken (omega arith) (omega arith)),
-    ))
-    (λ u. (
-      omega arith,
-      long,
-      ap length u.1 ∙ own,
-      noted,
-      rw (u.1, u.2, u.3, wd) (turn-miss _ s.invariant.4 (omega arith) less d (λ z. omega (arith, u.0.left, z))),
-    ))
-    c.if-l-gt0.branch
+    elim c.if-l-gt0.branch [
+      | then-l-gt0 u ↦ (
+        omega arith,
+        long,
+        ap length u.owner-is ∙ simp length-set own,
+        noted,
+        rw (u.owner-is, u.ids-is, u.k-is, wd) (turn-hit _ s.invariant.4 (omega arith) less d u.if-l-gt0.true (omega arith) (omega arith)),
+      )
+      | else-l-gt0 u ↦ (
+        omega arith,
+        long,
+        ap length u.owner-is ∙ own,
+        noted,
+        rw (u.owner-is, u.ids-is, u.k-is, wd) (turn-miss _ s.invariant.4 (omega arith) less d (λ z. omega (arith, u.if-l-gt0.false, z))),
+      )
+    ]
 
 pub shape_of-w : goal.shape_of-w
 shape_of-w c = c.loop-i.invariant.1

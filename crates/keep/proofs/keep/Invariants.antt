@@ -1,12 +1,8 @@
 -- `keep::keep` meets its contract: `Keeps` holds at each turn.
-use Prim.Native.Nat.{◌-◌, ◌<◌, ◌≤◌}
-use mathlib.Core.Path.{◌≡◌, refl, sym, ap, ◌∙◌}
-use mathlib.Core.Logic.{⊎_elim}
-use native.Mathlib.Omega.{arith}
-use lib.ListN.{length, length-set}
-use Rattle.table.specs.Accepted.{few-places, few-checks, has-weights, places-at, check-fits}
-use Rattle.bits.specs.Front.{front_length}
-use Rattle.keep.proofs.Keeping.{Keeps, start, owners, turn-hit, turn-miss, stop, told}
+use Prim.Native.Nat.{◌-◌, ◌≤◌}
+use mathlib.Core.Path.{◌≡◌}
+use lib.ListN.{length}
+use Rattle.keep.proofs.Keeping.{Keeps}
 use Rattle.keep.proofs.keep.Given as goal
 
 abbrev pub invariant-loop-i : goal.invariant-loop-i

@@ -2,7 +2,6 @@
 use Prim.Native.Nat.{ℕ}
 use mathlib.Core.Path.{ap, ◌∙◌}
 use lib.ListN.{replicate}
-use borrow.Author.Rules.{rules}
 use Rattle.lists.specs.ListLaws.{get_d-zeros}
 use Rattle.table.specs.Accepted.{few-places}
 use Rattle.keep.proofs.keep_checks.Goals as goal

@@ -1,9 +1,8 @@
 -- `peel::first_tally` meets its contract: the kept checks from i on are live.
-use Rattle.peel.proofs.KeptLive.{Noting, noting-start, noting-turn, noting-stop, number_at, number-low, numbers-room, counts-few}
-use Prim.Native.Nat.{◌-◌, ◌≤◌}
+use Rattle.peel.proofs.KeptLive.{noting-start, noting-turn, noting-stop, number_at, number-low, numbers-room, counts-few}
+use Prim.Native.Nat.{◌-◌}
 use mathlib.Core.Path.{◌≡◌, refl, sym, ◌∙◌}
 use native.Mathlib.Omega.{arith}
-use lib.ListN.{length}
 use Rattle.peel.proofs.first_tally.Goals as goal
 
 pub loop-i-init : goal.loop-i-init

@@ -1,8 +1,7 @@
 -- `peel::first_tally` meets its contract: the kept checks from i on are live.
-use Rattle.peel.proofs.KeptLive.{Noting, noting-start, noting-turn, noting-stop, number_at, number-low, numbers-room, counts-few}
-use Prim.Native.Nat.{◌-◌, ◌≤◌}
-use mathlib.Core.Path.{◌≡◌, refl, sym, ◌∙◌}
-use native.Mathlib.Omega.{arith}
+use Rattle.peel.proofs.KeptLive.{Noting}
+use Prim.Native.Nat.{◌≤◌}
+use mathlib.Core.Path.{◌≡◌}
 use lib.ListN.{length}
 use Rattle.peel.proofs.first_tally.Given as goal
 

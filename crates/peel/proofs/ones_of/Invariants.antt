@@ -1,13 +1,10 @@
 -- `peel::ones_of` meets its contract: the sum is that of the kept checks from i on.
-use Rattle.table.specs.Accepted.{few-checks, has-weights}
 use Rattle.table.specs.Table.{total}
 use Rattle.keep.specs.Kept.{kept_of}
 use Rattle.peel.specs.Choice.{weight}
-use Rattle.peel.proofs.KeptLive.{ones-start, ones-turn, number_at, number-low, numbers-room}
-use Prim.Native.Nat.{◌+◌, ◌-◌, ◌*◌, ◌≤◌}
-use mathlib.Core.Path.{◌≡◌, ◌∙◌}
+use Prim.Native.Nat.{◌+◌, ◌*◌, ◌≤◌}
+use mathlib.Core.Path.{◌≡◌}
 use mathlib.Core.List.{map}
-use native.Mathlib.Omega.{arith}
 use lib.ListN.{drop}
 use Rattle.peel.proofs.ones_of.Given as goal
 

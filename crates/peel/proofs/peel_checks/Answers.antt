@@ -1,16 +1,14 @@
 -- `peel::peel_checks` meets its contract: `Going` holds at each turn.
 use Prim.Native.Nat.{◌<◌}
-use mathlib.Core.Path.{◌≡◌, refl, ap, ◌∙◌}
-use mathlib.Core.Logic.{⊎_elim}
+use mathlib.Core.Path.{◌≡◌, refl, ◌∙◌}
 use native.Mathlib.Omega.{arith}
-use lib.ListN.{length, length-set}
-use borrow.Author.Rules.{rules}
+use lib.ListN.{length}
 use Rattle.table.specs.Accepted.{few-places, few-checks}
-use Rattle.live.specs.Live.{Calm}
-use Rattle.peel.proofs.Events.{SameLengths, Going, go-start, go-took, go-aside, go-stop, place-says, choice-says, place-low, remove-ready}
+use Rattle.peel.proofs.Events.{go-start, go-took, go-aside, go-stop, place-says, choice-says, place-low, remove-ready}
 use Rattle.peel.proofs.ScanBound.{calm-all, calm-place, calm-none}
 use Rattle.peel.proofs.Turns.{in-flag}
 use Rattle.peel.proofs.peel_checks.Goals as goal
+use Rattle.peel.proofs.peel_checks.Goals.{in-Took, in-Aside}
 
 pub loop-left-init : goal.loop-left-init
 loop-left-init c =
@@ -27,48 +25,29 @@ pick-event-requires c =
     let z = s.1.size in
     record { located = c.requires.located; ready = s.1.ready; live = omega arith; calm = s.2 }
 
--- ---- an own place: numbers and room
-took-range : (c : tie.After-known-told invariant-loop decreases-loop)
-    → (c.in-Took.j < 512) × (c.in-Took.p < 1024) × (c.loop-left.taken < length c.loop-left.order) × (c.loop-left.taken < length c.loop-left.owns)
-took-range c =
-    let y = place-says _ _ c.pick-event.ensures c.in-Took.is in
-    let f = (in-flag _ _ _ y.pick.member).0 in
-    let low = place-low y in
-    let s = c.loop-left.invariant in
-    let sum = s.1.sum in
-    let order = s.0.order in
-    let owns = s.0.owns in
-    let p = c.requires in
-    let few = few-checks _ _ _ _ p.located.table in
-    let narrow = few-places _ _ _ _ p.located.table in
-    let total = p.total.1 in
-    let room = p.room in
-    let less = c.loop-left-test.true in
-    (omega arith, omega arith, omega arith, omega arith)
-
 pub overflow_cast-order : goal.overflow_cast-order
-overflow_cast-order c = let r = took-range c in omega arith
+overflow_cast-order c = let r : (c.in-Took.j < 512) × (c.in-Took.p < 1024) × (c.loop-left.taken < length c.loop-left.order) × (c.loop-left.taken < length c.loop-left.owns) = (let y = place-says _ _ c.pick-event.ensures c.in-Took.is in let f = (in-flag _ _ _ y.pick.member).0 in let low = place-low y in let s = c.loop-left.invariant in let sum = s.1.sum in let order = s.0.order in let owns = s.0.owns in let p = c.requires in let few = few-checks _ _ _ _ p.located.table in let narrow = few-places _ _ _ _ p.located.table in let total = p.total.1 in let room = p.room in let less = c.loop-left-test.true in (omega arith, omega arith, omega arith, omega arith)) in omega arith
 
 pub offset_bounds-order-taken : goal.offset_bounds-order-taken
-offset_bounds-order-taken c = let r = took-range c in omega arith
+offset_bounds-order-taken c = let r : (c.in-Took.j < 512) × (c.in-Took.p < 1024) × (c.loop-left.taken < length c.loop-left.order) × (c.loop-left.taken < length c.loop-left.owns) = (let y = place-says _ _ c.pick-event.ensures c.in-Took.is in let f = (in-flag _ _ _ y.pick.member).0 in let low = place-low y in let s = c.loop-left.invariant in let sum = s.1.sum in let order = s.0.order in let owns = s.0.owns in let p = c.requires in let few = few-checks _ _ _ _ p.located.table in let narrow = few-places _ _ _ _ p.located.table in let total = p.total.1 in let room = p.room in let less = c.loop-left-test.true in (omega arith, omega arith, omega arith, omega arith)) in omega arith
 
 pub bounds-order-taken : goal.bounds-order-taken
-bounds-order-taken c = let r = took-range c in omega arith
+bounds-order-taken c = let r : (c.in-Took.j < 512) × (c.in-Took.p < 1024) × (c.loop-left.taken < length c.loop-left.order) × (c.loop-left.taken < length c.loop-left.owns) = (let y = place-says _ _ c.pick-event.ensures c.in-Took.is in let f = (in-flag _ _ _ y.pick.member).0 in let low = place-low y in let s = c.loop-left.invariant in let sum = s.1.sum in let order = s.0.order in let owns = s.0.owns in let p = c.requires in let few = few-checks _ _ _ _ p.located.table in let narrow = few-places _ _ _ _ p.located.table in let total = p.total.1 in let room = p.room in let less = c.loop-left-test.true in (omega arith, omega arith, omega arith, omega arith)) in omega arith
 
 pub overflow_cast-owns : goal.overflow_cast-owns
-overflow_cast-owns c = let r = took-range c in omega arith
+overflow_cast-owns c = let r : (c.in-Took.j < 512) × (c.in-Took.p < 1024) × (c.loop-left.taken < length c.loop-left.order) × (c.loop-left.taken < length c.loop-left.owns) = (let y = place-says _ _ c.pick-event.ensures c.in-Took.is in let f = (in-flag _ _ _ y.pick.member).0 in let low = place-low y in let s = c.loop-left.invariant in let sum = s.1.sum in let order = s.0.order in let owns = s.0.owns in let p = c.requires in let few = few-checks _ _ _ _ p.located.table in let narrow = few-places _ _ _ _ p.located.table in let total = p.total.1 in let room = p.room in let less = c.loop-left-test.true in (omega arith, omega arith, omega arith, omega arith)) in omega arith
 
 pub offset_bounds-owns-taken : goal.offset_bounds-owns-taken
-offset_bounds-owns-taken c = let r = took-range c in omega arith
+offset_bounds-owns-taken c = let r : (c.in-Took.j < 512) × (c.in-Took.p < 1024) × (c.loop-left.taken < length c.loop-left.order) × (c.loop-left.taken < length c.loop-left.owns) = (let y = place-says _ _ c.pick-event.ensures c.in-Took.is in let f = (in-flag _ _ _ y.pick.member).0 in let low = place-low y in let s = c.loop-left.invariant in let sum = s.1.sum in let order = s.0.order in let owns = s.0.owns in let p = c.requires in let few = few-checks _ _ _ _ p.located.table in let narrow = few-places _ _ _ _ p.located.table in let total = p.total.1 in let room = p.room in let less = c.loop-left-test.true in (omega arith, omega arith, omega arith, omega arith)) in omega arith
 
 pub bounds-owns-taken : goal.bounds-owns-taken
-bounds-owns-taken c = let r = took-range c in omega arith
+bounds-owns-taken c = let r : (c.in-Took.j < 512) × (c.in-Took.p < 1024) × (c.loop-left.taken < length c.loop-left.order) × (c.loop-left.taken < length c.loop-left.owns) = (let y = place-says _ _ c.pick-event.ensures c.in-Took.is in let f = (in-flag _ _ _ y.pick.member).0 in let low = place-low y in let s = c.loop-left.invariant in let sum = s.1.sum in let order = s.0.order in let owns = s.0.owns in let p = c.requires in let few = few-checks _ _ _ _ p.located.table in let narrow = few-places _ _ _ _ p.located.table in let total = p.total.1 in let room = p.room in let less = c.loop-left-test.true in (omega arith, omega arith, omega arith, omega arith)) in omega arith
 
 pub overflow_add-taken : goal.overflow_add-taken
-overflow_add-taken c = let r = took-range c in omega arith
+overflow_add-taken c = let r : (c.in-Took.j < 512) × (c.in-Took.p < 1024) × (c.loop-left.taken < length c.loop-left.order) × (c.loop-left.taken < length c.loop-left.owns) = (let y = place-says _ _ c.pick-event.ensures c.in-Took.is in let f = (in-flag _ _ _ y.pick.member).0 in let low = place-low y in let s = c.loop-left.invariant in let sum = s.1.sum in let order = s.0.order in let owns = s.0.owns in let p = c.requires in let few = few-checks _ _ _ _ p.located.table in let narrow = few-places _ _ _ _ p.located.table in let total = p.total.1 in let room = p.room in let less = c.loop-left-test.true in (omega arith, omega arith, omega arith, omega arith)) in omega arith
 
 pub overflow_add-p : goal.overflow_add-p
-overflow_add-p c = let r = took-range c in omega arith
+overflow_add-p c = let r : (c.in-Took.j < 512) × (c.in-Took.p < 1024) × (c.loop-left.taken < length c.loop-left.order) × (c.loop-left.taken < length c.loop-left.owns) = (let y = place-says _ _ c.pick-event.ensures c.in-Took.is in let f = (in-flag _ _ _ y.pick.member).0 in let low = place-low y in let s = c.loop-left.invariant in let sum = s.1.sum in let order = s.0.order in let owns = s.0.owns in let p = c.requires in let few = few-checks _ _ _ _ p.located.table in let narrow = few-places _ _ _ _ p.located.table in let total = p.total.1 in let room = p.room in let less = c.loop-left-test.true in (omega arith, omega arith, omega arith, omega arith)) in omega arith
 
 pub remove-top-requires : goal.remove-top-requires
 remove-top-requires c =
@@ -78,32 +57,17 @@ remove-top-requires c =
     let d = remove-ready p.located ready in
     record { located = d.0; ready = d.1; live = y.pick.member; calm = calm-place _ _ ready.counts ready.tally (place-low y) y.top }
 
--- ---- a check set aside: its number, and room
-put-range : (c : tie.After-known-told2 invariant-loop decreases-loop) → (c.in-Aside.j < 512) × (c.loop-left.put < length c.loop-left.aside)
-put-range c =
-    let y = choice-says _ c.pick-event.ensures c.in-Aside.is in
-    let f = (in-flag _ _ _ y.pick.member).0 in
-    let s = c.loop-left.invariant in
-    let sum = s.1.sum in
-    let aside = s.0.aside in
-    let p = c.requires in
-    let few = few-checks _ _ _ _ p.located.table in
-    let total = p.total.1 in
-    let room = p.room in
-    let less = c.loop-left-test.true in
-    (omega arith, omega arith)
-
 pub overflow_cast-aside : goal.overflow_cast-aside
-overflow_cast-aside c = let r = put-range c in omega arith
+overflow_cast-aside c = let r : (c.in-Aside.j < 512) × (c.loop-left.put < length c.loop-left.aside) = (let y = choice-says _ c.pick-event.ensures c.in-Aside.is in let f = (in-flag _ _ _ y.pick.member).0 in let s = c.loop-left.invariant in let sum = s.1.sum in let aside = s.0.aside in let p = c.requires in let few = few-checks _ _ _ _ p.located.table in let total = p.total.1 in let room = p.room in let less = c.loop-left-test.true in (omega arith, omega arith)) in omega arith
 
 pub offset_bounds-aside-put : goal.offset_bounds-aside-put
-offset_bounds-aside-put c = let r = put-range c in omega arith
+offset_bounds-aside-put c = let r : (c.in-Aside.j < 512) × (c.loop-left.put < length c.loop-left.aside) = (let y = choice-says _ c.pick-event.ensures c.in-Aside.is in let f = (in-flag _ _ _ y.pick.member).0 in let s = c.loop-left.invariant in let sum = s.1.sum in let aside = s.0.aside in let p = c.requires in let few = few-checks _ _ _ _ p.located.table in let total = p.total.1 in let room = p.room in let less = c.loop-left-test.true in (omega arith, omega arith)) in omega arith
 
 pub bounds-aside-put : goal.bounds-aside-put
-bounds-aside-put c = let r = put-range c in omega arith
+bounds-aside-put c = let r : (c.in-Aside.j < 512) × (c.loop-left.put < length c.loop-left.aside) = (let y = choice-says _ c.pick-event.ensures c.in-Aside.is in let f = (in-flag _ _ _ y.pick.member).0 in let s = c.loop-left.invariant in let sum = s.1.sum in let aside = s.0.aside in let p = c.requires in let few = few-checks _ _ _ _ p.located.table in let total = p.total.1 in let room = p.room in let less = c.loop-left-test.true in (omega arith, omega arith)) in omega arith
 
 pub overflow_add-put : goal.overflow_add-put
-overflow_add-put c = let r = put-range c in omega arith
+overflow_add-put c = let r : (c.in-Aside.j < 512) × (c.loop-left.put < length c.loop-left.aside) = (let y = choice-says _ c.pick-event.ensures c.in-Aside.is in let f = (in-flag _ _ _ y.pick.member).0 in let s = c.loop-left.invariant in let sum = s.1.sum in let aside = s.0.aside in let p = c.requires in let few = few-checks _ _ _ _ p.located.table in let total = p.total.1 in let room = p.room in let less = c.loop-left-test.true in (omega arith, omega arith)) in omega arith
 
 pub remove-top-requires-in-Aside : goal.remove-top-requires-in-Aside
 remove-top-requires-in-Aside c =
@@ -121,35 +85,37 @@ loop-left-preserved c =
     let total = p.total.1 in
     let room = p.room in
     let less = c.loop-left-test.true in
-    ⊎_elim
-    (λ u. let y = place-says _ _ c.pick-event.ensures u.1.given.1 in
-    let order = s.0.order in
-    let owns = s.0.owns in (
-      record {
-        live = ap length u.13 ∙ u.7.given ∙ s.0.live;
-        count = ap length u.14 ∙ u.9.given ∙ s.0.count;
-        names = ap length u.15 ∙ u.11.given ∙ s.0.names;
-        order = ap length u.16 ∙ simp length-set order;
-        owns = ap length u.17 ∙ simp length-set owns;
-        aside = ap length u.18 ∙ s.0.aside;
-      },
-      rw (u.13, u.14, u.15, u.16, u.17, u.18, u.19, u.20) (go-took s.1 less _ _ y u.6.ensures.0 (omega arith) (omega arith)),
-      rw (u.14, u.21) u.6.ensures.1,
-    ))
-    (λ u. let y = choice-says _ c.pick-event.ensures u.1.given.1 in
-    let aside = s.0.aside in (
-      record {
-        live = ap length u.13 ∙ u.7.given ∙ s.0.live;
-        count = ap length u.14 ∙ u.9.given ∙ s.0.count;
-        names = ap length u.15 ∙ u.11.given ∙ s.0.names;
-        order = ap length u.16 ∙ s.0.order;
-        owns = ap length u.17 ∙ s.0.owns;
-        aside = ap length u.18 ∙ simp length-set aside;
-      },
-      rw (u.13, u.14, u.15, u.16, u.17, u.18, u.19, u.20) (go-aside s.1 less _ y u.6.ensures.0 (omega arith)),
-      rw (u.14, u.21) u.6.ensures.1,
-    ))
-    c.match-event.branch
+    elim c.match-event.branch [
+      | in-Took u ↦ (
+          let y = place-says _ _ c.pick-event.ensures u.in-Took.is in
+          let order = s.0.order in
+          let owns = s.0.owns in (
+            record {
+              live = c.match-event.auto.live ∙ s.0.live;
+              count = c.match-event.auto.count ∙ s.0.count;
+              names = c.match-event.auto.names ∙ s.0.names;
+              order = c.match-event.auto.order ∙ s.0.order;
+              owns = c.match-event.auto.owns ∙ s.0.owns;
+              aside = c.match-event.auto.aside ∙ s.0.aside;
+            },
+            rw (u.live-is, u.count-is, u.names-is, u.order-is, u.owns-is, u.aside-is, u.taken-is, u.put-is) (go-took s.1 less _ _ y u.remove-top.ensures.removed (omega arith) (omega arith)),
+            rw (u.count-is, u.top-is) u.remove-top.ensures.calm,
+          ))
+      | in-Aside u ↦ (
+          let y = choice-says _ c.pick-event.ensures u.in-Aside.is in
+          let aside = s.0.aside in (
+            record {
+              live = c.match-event.auto.live ∙ s.0.live;
+              count = c.match-event.auto.count ∙ s.0.count;
+              names = c.match-event.auto.names ∙ s.0.names;
+              order = c.match-event.auto.order ∙ s.0.order;
+              owns = c.match-event.auto.owns ∙ s.0.owns;
+              aside = c.match-event.auto.aside ∙ s.0.aside;
+            },
+            rw (u.live-is, u.count-is, u.names-is, u.order-is, u.owns-is, u.aside-is, u.taken-is, u.put-is) (go-aside s.1 less _ y u.remove-top-in-Aside.ensures.removed (omega arith)),
+            rw (u.count-is, u.top-is) u.remove-top-in-Aside.ensures.calm,
+          ))
+    ]
 
 pub shape_of-live : goal.shape_of-live
 shape_of-live c = c.loop-left.invariant.0.live

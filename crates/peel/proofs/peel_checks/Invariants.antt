@@ -1,15 +1,6 @@
 -- `peel::peel_checks` meets its contract: `Going` holds at each turn.
-use Prim.Native.Nat.{◌<◌}
-use mathlib.Core.Path.{◌≡◌, refl, ap, ◌∙◌}
-use mathlib.Core.Logic.{⊎_elim}
-use native.Mathlib.Omega.{arith}
-use lib.ListN.{length, length-set}
-use borrow.Author.Rules.{rules}
-use Rattle.table.specs.Accepted.{few-places, few-checks}
 use Rattle.live.specs.Live.{Calm}
-use Rattle.peel.proofs.Events.{SameLengths, Going, go-start, go-took, go-aside, go-stop, place-says, choice-says, place-low, remove-ready}
-use Rattle.peel.proofs.ScanBound.{calm-all, calm-place, calm-none}
-use Rattle.peel.proofs.Turns.{in-flag}
+use Rattle.peel.proofs.Events.{SameLengths, Going}
 use Rattle.peel.proofs.peel_checks.Given as goal
 
 abbrev pub invariant-loop-left : goal.invariant-loop-left

@@ -4,7 +4,6 @@ use Rattle.peel.proofs.KeptLive.{numbers-room, first-ready, first-peeled}
 use Prim.Native.Nat.{ℕ}
 use mathlib.Core.Path.{sym, ap, ◌∙◌, subst}
 use lib.ListN.{length}
-use borrow.Author.Rules.{rules}
 use Rattle.peel.specs.Turn.{Fresh}
 use Rattle.peel.proofs.peel_live.Goals as goal
 

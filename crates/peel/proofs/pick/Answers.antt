@@ -5,7 +5,6 @@ use Rattle.lists.specs.ListLaws.{highest-lt}
 use Rattle.peel.proofs.ScanBound.{calm-scan}
 use mathlib.Core.Path.{sym, ◌∙◌}
 use native.Mathlib.Omega.{arith}
-use borrow.Author.Rules.{rules}
 use Rattle.peel.proofs.pick.Goals as goal
 
 pub offset_bounds-names-p : goal.offset_bounds-names-p

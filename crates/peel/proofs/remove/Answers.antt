@@ -7,40 +7,28 @@ use Prim.Native.Nat.{◌+◌, ◌<◌, ◌≤◌}
 use mathlib.Core.Path.{◌≡◌, ◌∙◌}
 use native.Mathlib.Omega.{arith}
 use lib.ListN.{length, get_or}
-use borrow.Author.Rules.{rules}
 use Rattle.peel.proofs.remove.Goals as goal
 
--- the check's number
-in-range : (c : tie.Start) → let a = c.args in (a.j < 512) × (a.j < length a.starts.now) × (5 + a.j ≤ length a.t.now) × (a.j < length a.live.now)
-in-range c =
-    let p = c.requires in
-    let f = (in-flag _ _ _ p.live).0 in
-    let few = few-checks _ _ _ _ p.located.table in
-    let weights = has-weights _ _ _ _ p.located.table in
-    let flags = p.ready.flags in
-    let room = p.located.starts-at.room in
-    (omega arith, omega arith, omega arith, omega arith)
-
 pub offset_bounds-starts-j : goal.offset_bounds-starts-j
-offset_bounds-starts-j c = let r = in-range c in omega arith
+offset_bounds-starts-j c = let r : (let a = c.args in (a.j < 512) × (a.j < length a.starts.now) × (5 + a.j ≤ length a.t.now) × (a.j < length a.live.now)) = (let p = c.requires in let f = (in-flag _ _ _ p.live).0 in let few = few-checks _ _ _ _ p.located.table in let weights = has-weights _ _ _ _ p.located.table in let flags = p.ready.flags in let room = p.located.starts-at.room in (omega arith, omega arith, omega arith, omega arith)) in omega arith
 
 pub bounds-starts-j : goal.bounds-starts-j
-bounds-starts-j c = let r = in-range c in omega arith
+bounds-starts-j c = let r : (let a = c.args in (a.j < 512) × (a.j < length a.starts.now) × (5 + a.j ≤ length a.t.now) × (a.j < length a.live.now)) = (let p = c.requires in let f = (in-flag _ _ _ p.live).0 in let few = few-checks _ _ _ _ p.located.table in let weights = has-weights _ _ _ _ p.located.table in let flags = p.ready.flags in let room = p.located.starts-at.room in (omega arith, omega arith, omega arith, omega arith)) in omega arith
 
 pub overflow_add-j : goal.overflow_add-j
-overflow_add-j c = let r = in-range c in omega arith
+overflow_add-j c = let r : (let a = c.args in (a.j < 512) × (a.j < length a.starts.now) × (5 + a.j ≤ length a.t.now) × (a.j < length a.live.now)) = (let p = c.requires in let f = (in-flag _ _ _ p.live).0 in let few = few-checks _ _ _ _ p.located.table in let weights = has-weights _ _ _ _ p.located.table in let flags = p.ready.flags in let room = p.located.starts-at.room in (omega arith, omega arith, omega arith, omega arith)) in omega arith
 
 pub offset_bounds-t-j : goal.offset_bounds-t-j
-offset_bounds-t-j c = let r = in-range c in omega arith
+offset_bounds-t-j c = let r : (let a = c.args in (a.j < 512) × (a.j < length a.starts.now) × (5 + a.j ≤ length a.t.now) × (a.j < length a.live.now)) = (let p = c.requires in let f = (in-flag _ _ _ p.live).0 in let few = few-checks _ _ _ _ p.located.table in let weights = has-weights _ _ _ _ p.located.table in let flags = p.ready.flags in let room = p.located.starts-at.room in (omega arith, omega arith, omega arith, omega arith)) in omega arith
 
 pub bounds-t-j : goal.bounds-t-j
-bounds-t-j c = let r = in-range c in omega arith
+bounds-t-j c = let r : (let a = c.args in (a.j < 512) × (a.j < length a.starts.now) × (5 + a.j ≤ length a.t.now) × (a.j < length a.live.now)) = (let p = c.requires in let f = (in-flag _ _ _ p.live).0 in let few = few-checks _ _ _ _ p.located.table in let weights = has-weights _ _ _ _ p.located.table in let flags = p.ready.flags in let room = p.located.starts-at.room in (omega arith, omega arith, omega arith, omega arith)) in omega arith
 
 pub bounds-live-j : goal.bounds-live-j
-bounds-live-j c = let r = in-range c in omega arith
+bounds-live-j c = let r : (let a = c.args in (a.j < 512) × (a.j < length a.starts.now) × (5 + a.j ≤ length a.t.now) × (a.j < length a.live.now)) = (let p = c.requires in let f = (in-flag _ _ _ p.live).0 in let few = few-checks _ _ _ _ p.located.table in let weights = has-weights _ _ _ _ p.located.table in let flags = p.ready.flags in let room = p.located.starts-at.room in (omega arith, omega arith, omega arith, omega arith)) in omega arith
 
 pub overflow_cast-j : goal.overflow_cast-j
-overflow_cast-j c = let r = in-range c in omega arith
+overflow_cast-j c = let r : (let a = c.args in (a.j < 512) × (a.j < length a.starts.now) × (5 + a.j ≤ length a.t.now) × (a.j < length a.live.now)) = (let p = c.requires in let f = (in-flag _ _ _ p.live).0 in let few = few-checks _ _ _ _ p.located.table in let weights = has-weights _ _ _ _ p.located.table in let flags = p.ready.flags in let room = p.located.starts-at.room in (omega arith, omega arith, omega arith, omega arith)) in omega arith
 
 pub forget-requires : goal.forget-requires
 forget-requires c =
@@ -49,7 +37,7 @@ forget-requires c =
     let f = (in-flag _ _ _ p.live).0 in
     let e1 : c.wide-at.result ≡ 5 + a.m + offset a.t.now a.j = c.wide-at.ensures ∙ p.located.starts-at.each a.j f in
     let e2 : c.wide-weight.result ≡ get_or a.t.now (4 + a.j) 0 = c.wide-weight.ensures in
-    rw (e1, e2) (each-places _ _ _ _ p.located.table a.j f, (p.ready.named, λ i h. counted _ _ _ a.j i p.located.table p.ready.tally p.live f h))
+    rw (e1, e2) (record { places = each-places _ _ _ _ p.located.table a.j f; names = p.ready.named; live = λ i h. counted _ _ _ a.j i p.located.table p.ready.tally p.live f h })
 
 pub raise-requires : goal.raise-requires
 raise-requires c =
@@ -60,7 +48,7 @@ raise-requires c =
     let top = p.calm.most in
     let e1 : c.wide-at.result ≡ 5 + a.m + offset a.t.now a.j = c.wide-at.ensures ∙ p.located.starts-at.each a.j f in
     let e2 : c.wide-weight.result ≡ get_or a.t.now (4 + a.j) 0 = c.wide-weight.ensures in
-    rw (e1, e2, l) (each-places _ _ _ _ p.located.table a.j f, omega arith)
+    rw (e1, e2, l) (record { places = each-places _ _ _ _ p.located.table a.j f; top = omega arith })
 
 pub returns : goal.returns
 returns c =
