@@ -1,5 +1,5 @@
 -- The steps of the solved checks, of the checks set aside and of the fitted places, one after the other.
-use mathlib.Core.Path.{◌≡◌, refl, sym, ap, ap₂, ◌∙◌}
+use mathlib.Core.Path.{◌≡◌, refl, sym, ap, ap₂, ◌∙◌, subst}
 use mathlib.Core.List.{List, [], ◌∷◌, ◌++◌, map}
 use Prim.Native.Nat.{ℕ, zero, suc, ◌+◌, ◌-◌, ◌<◌, ◌≤◌}
 use native.Mathlib.Numerals.{add-one}
@@ -69,7 +69,7 @@ unfolding solved
 solves-next skip t order owns zero h = absurd (omega arith)
 solves-next skip t order owns (suc i) h =
     let e : suc i - 1 ≡ i = omega arith in
-    rw e (ap (λ l. map pack (solving_steps (marked skip) l)) (rev-snoc (solved_in t order owns i) _) ∙ packed-append (clear_and_add (get_or owns i 0) (minus (check t (number t) (get_or order i 0)) (get_or owns i 0 ∷ marked skip))) _)
+    subst (λ k. solves skip t order owns (suc i) ≡ one skip t (get_or order k 0) (get_or owns k 0) ++ solves skip t order owns k) (sym e) (ap (λ l. map pack (solving_steps (marked skip) l)) (rev-snoc (solved_in t order owns i) _) ∙ packed-append (clear_and_add (get_or owns i 0) (minus (check t (number t) (get_or order i 0)) (get_or owns i 0 ∷ marked skip))) _)
 
 -- ---- the checks set aside
 abbrev pub scratches : List ℕ → List ℕ → List ℕ → ℕ → ℕ → List ℕ

@@ -1,5 +1,6 @@
 // The sections of a plan's steps as numbers: one check, a pass over the solved checks, the checks set aside, the fitted places.
 #![tactic(auto)]
+
 ghost use Rattle.std.specs.Prelude.{◌≡◌, ◌≤◌, ◌<◌, length, take, drop};
 ghost use Rattle.table.specs.Accepted.{Located};
 ghost use Rattle.table.specs.Checks.{Places};

@@ -1,5 +1,6 @@
 // The live check with the most places in exactly two live checks.
 #![tactic(auto)]
+
 ghost use Rattle.std.specs.Prelude.{◌≡◌, ◌≤◌, length, take, drop};
 ghost use Rattle.table.specs.Accepted.{Located};
 ghost use Rattle.table.specs.Checks.{Places, check};

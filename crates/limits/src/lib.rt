@@ -1,5 +1,6 @@
 // The limits of a plan, and its counts and length looked at.
 #![tactic(auto)]
+
 ghost use Rattle.std.specs.Prelude.{◌≡◌, ◌≤◌, length};
 ghost use Rattle.plan.specs.Layout.{least_numbers, plan_places, plan_kept, bad_lengths, bad_limits, bad_counts};
 

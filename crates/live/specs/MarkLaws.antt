@@ -1,5 +1,5 @@
 -- A loop over the places of a check that does something at each: one turn.
-use Rattle.std.specs.Prelude.{◌≡◌, refl, Bool, true, false, ◌||◌, List, [], ◌∷◌, ◌++◌, ℕ, suc, ◌+◌, ◌<◌, ◌≤◌, eqb, length, get_or, set, take, drop}
+use Rattle.std.specs.Prelude.{◌≡◌, refl, Bool, true, false, ◌||◌, List, [], ◌∷◌, ℕ, suc, ◌+◌, ◌<◌, ◌≤◌, eqb, length, get_or, set, take, drop}
 use Rattle.std.proofs.Common.{sym, ap, ◌∙◌, add-one, arith, length-set, length-drop, length-take, take-suc, get_or-drop, get_or-take, get_or-set_same, get_or-set_other}
 use Rattle.std.specs.Int.Bits.{bit_xor}
 use Rattle.lists.specs.Tests.{eqb-true, eqb-false, eqb-self, by_bool}

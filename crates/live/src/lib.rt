@@ -1,5 +1,6 @@
 // Live checks: how many hold each place, and the place in exactly one of them.
 #![tactic(auto)]
+
 ghost use Rattle.std.specs.Prelude.{◌≡◌, ℕ, ◌+◌, ◌≤◌, ◌<◌, eqb, length, get_or, take, drop};
 ghost use Rattle.lists.specs.Lists.{highest};
 ghost use Rattle.table.specs.Checks.{Places};

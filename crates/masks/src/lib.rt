@@ -1,5 +1,6 @@
 // The scan of masks over columns: fitted places and inverse at once.
 #![tactic(auto)]
+
 ghost use Rattle.std.specs.Prelude.{◌≡◌, List, ℕ, ◌+◌, ◌≤◌, ◌<◌, length, get_or};
 ghost use Rattle.masks.specs.Dot.{dot};
 ghost use Rattle.masks.specs.Scan.{Units, Lowest, mended, Mended, Tied, Scan};

@@ -1,5 +1,6 @@
 // A step of a plan, and the plan's layout.
 #![tactic(auto)]
+
 ghost use Rattle.std.specs.Prelude.{◌≡◌, ◌+◌, ◌*◌, ◌<◌, ◌≤◌, length, get_or};
 ghost use Rattle.lists.specs.Lists.{written};
 ghost use Rattle.plan.specs.Head.{HeadFits};

@@ -1,5 +1,5 @@
 -- The planner's call (document 01, "The plan" and "Buffers"): table t, plan and work buffers of any length and content.
-use Rattle.std.specs.Prelude.{Bool, true, false, ◌||◌, List, [], ◌∷◌, ◌++◌, ℕ, zero, suc, ◌+◌, eqb, ltb, length, replicate}
+use Rattle.std.specs.Prelude.{Bool, true, false, ◌||◌, List, [], ◌∷◌, ◌++◌, ℕ, zero, suc, eqb, ltb, length, replicate}
 use Rattle.table.specs.FirstCause.{first_cause, wrong_length}
 use Rattle.table.specs.Table.{table_causes}
 pub use Rattle.table.specs.Table.{work_words}

@@ -1,5 +1,6 @@
 // Elimination by highest places: a row of the work buffer is reduced by the rows that an owner list names.
 #![tactic(auto)]
+
 ghost use Rattle.std.specs.Prelude.{◌≤◌, length};
 ghost use Rattle.bits.specs.Front.{Front};
 ghost use Rattle.bits.specs.Row.{row};

@@ -91,7 +91,7 @@ module _ (worth : List ℕ → ℕ) where
       ))
 
   -- the greatest worth is that of such a check
-  greatest-there : {before : List (List ℕ)} (c : List ℕ) {after : List (List ℕ)} → All (λ d. worth d < worth c) before → All (λ d. worth d ≤ worth c) after
+  greatest-there : (c : List ℕ) {before after : List (List ℕ)} → All (λ d. worth d < worth c) before → All (λ d. worth d ≤ worth c) after
       → greatest worth (before ++ (c ∷ after)) ≡ worth c
   greatest-there c nil a = let h = greatest-most worth (worth c) a in omega arith
   greatest-there c (cons l b) a = let h = greatest-there c b a in omega arith

@@ -12,7 +12,7 @@ use Rattle.lists.specs.Lists.{bxor, Distinct, Distinct.dnil, Distinct.dnew, has,
 use Rattle.gf2.specs.Group.{eq-zero}
 use Rattle.gf2.specs.Independent.{Indep, Indep.empty, Indep.free}
 use Rattle.gf2.specs.Linear.{Lin, lin-comb, carry}
-use Rattle.gf2.specs.RowValue.{at, val_on, val_on-lin, sum-ext-in}
+use Rattle.gf2.specs.RowValue.{val_on, val_on-lin, sum-ext-in}
 use Rattle.gf2.specs.Span.{comb-nil, Span, span-zero, span-add, span_head, span_tail, span-within, Within, Within.none, Within.more, madd, comb-add, is_sum-sound, is_sum-complete}
 use Rattle.lists.specs.ListLaws.{all_map}
 use Rattle.gf2.specs.Rank.{Tells, width}

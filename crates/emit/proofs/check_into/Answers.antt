@@ -9,7 +9,6 @@ use Rattle.rule.specs.Rule.{clear_and_add}
 use Rattle.emit.specs.Emit.{marked}
 use Rattle.lists.specs.WroteLaws.{wrote-is}
 use Rattle.emit.proofs.Passes.{check-read}
-use borrow.Author.Rules.{rules}
 use Rattle.emit.proofs.check_into.Goals as goal
 
 pub offset_bounds-starts-j : goal.offset_bounds-starts-j

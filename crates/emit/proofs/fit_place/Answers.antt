@@ -1,17 +1,17 @@
 -- `emit::fit_place` meets its contract: the slots that are left, bit by bit.
 use mathlib.Core.Path.{◌≡◌, sym, ap, ◌∙◌}
 use mathlib.Core.List.{map, [], ◌∷◌}
-use mathlib.Core.Logic.{⊎_elim}
-use Prim.Native.Nat.{◌+◌, ◌-◌, ◌≤◌, ◌<◌}
+use Prim.Native.Nat.{◌+◌, ◌≤◌}
 use native.Mathlib.Omega.{arith}
 use lib.ListN.{length-map, length, set, length-set}
 use Rattle.plan.specs.declared.Step.TheVariants.{Clear, Add}
 use Rattle.plan.specs.Step.{pack}
 use Rattle.rule.specs.Buffers.{mask_bits}
 use Rattle.rule.specs.Rule.{slots_named}
-use Rattle.lists.specs.WroteLaws.{Left, left-all, left_is, left_one, left-room, left-length, left-done, wrote_one, wrote-append, wrote-is}
+use Rattle.lists.specs.WroteLaws.{left-all, left_is, left_one, left-room, left-length, left-done, wrote_one, wrote-append, wrote-is}
 use Rattle.emit.proofs.Slots.{named, named-all, named_none, named_in, named-out}
 use Rattle.emit.proofs.fit_place.Goals as goal
+use Rattle.emit.proofs.fit_place.Goals.{then-row-i-eq1, else-row-i-eq1}
 
 pub loop-i-init : goal.loop-i-init
 loop-i-init c = (omega arith, left-all _ _ _)
@@ -34,7 +34,7 @@ offset_bounds-plan-k c =
     let all = ap length (named-all a.to a.n a.g a.row) in
     let long = length-map (map (Add a.to) (slots_named a.n (mask_bits a.g a.row))) pack in
     let room : a.at + 1 + length (named a.to a.n a.g a.row 0) ≤ length (set a.plan.now a.at c.pack.result) = simp length-set (omega arith) in
-    let r : s.k < length s.plan = slice-write-plan-2 c in
+    let r = left-room room (left_is _ s.invariant.1 (named_in a.to a.n a.g a.row s.i c.loop-i-test.true c.if-row-i-eq1.true)) in
     let l : length s.plan ≡ length a.plan.now = left-length room s.invariant.1 ∙ simp length-set in
     omega arith
 
@@ -45,7 +45,7 @@ overflow_add-k-then-row-i-eq1 c =
     let all = ap length (named-all a.to a.n a.g a.row) in
     let long = length-map (map (Add a.to) (slots_named a.n (mask_bits a.g a.row))) pack in
     let room : a.at + 1 + length (named a.to a.n a.g a.row 0) ≤ length (set a.plan.now a.at c.pack.result) = simp length-set (omega arith) in
-    let r : s.k < length s.plan = slice-write-plan-2 c in
+    let r = left-room room (left_is _ s.invariant.1 (named_in a.to a.n a.g a.row s.i c.loop-i-test.true c.if-row-i-eq1.true)) in
     let l : length s.plan ≡ length a.plan.now = left-length room s.invariant.1 ∙ simp length-set in
     omega arith
 
@@ -59,10 +59,10 @@ loop-i-preserved c =
     let l = s.invariant.1 in
     let h = c.loop-i-test.true in (
       omega arith,
-      ⊎_elim
-          (λ u. rw (u.2, u.3, u.1.ensures) (left_one room (left_is _ l (named_in a.to a.n a.g a.row s.i h u.0.taken))))
-          (λ u. rw (u.1, u.2) (left_is _ l (named-out a.to a.n a.g a.row s.i h u.0.left)))
-          c.if-row-i-eq1.branch,
+      elim c.if-row-i-eq1.branch [
+        | then-row-i-eq1 u ↦ (rw (u.plan-is, u.k-is, u.pack-then-row-i-eq1.ensures) (left_one room (left_is _ l (named_in a.to a.n a.g a.row s.i h u.if-row-i-eq1.true))))
+        | else-row-i-eq1 u ↦ (rw (u.plan-is, u.k-is) (left_is _ l (named-out a.to a.n a.g a.row s.i h u.if-row-i-eq1.false)))
+      ],
     )
 
 pub shape_of-plan : goal.shape_of-plan

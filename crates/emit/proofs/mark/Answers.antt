@@ -1,10 +1,8 @@
 -- `emit::mark` meets its contract: the places, one after the other.
 use mathlib.Core.Path.{◌≡◌, refl, sym, ◌∙◌}
-use Prim.Native.Nat.{◌-◌, ◌≤◌}
 use native.Mathlib.Omega.{arith}
-use lib.ListN.{length, get_or, take, drop, length-set}
+use lib.ListN.{length, get_or, take, length-set}
 use lib.Seq.{get_or-take, length-take-le}
-use Rattle.emit.specs.Emit.{marking}
 use Rattle.emit.proofs.Marking.{marking-next, marking-done}
 use Rattle.emit.proofs.mark.Goals as goal
 

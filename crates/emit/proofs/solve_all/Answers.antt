@@ -10,7 +10,7 @@ use Rattle.table.specs.Checks.{check}
 use Rattle.table.specs.Table.{number}
 use Rattle.rule.specs.Rule.{clear_and_add, solving_steps}
 use Rattle.emit.specs.Emit.{marked, solved_in}
-use Rattle.lists.specs.WroteLaws.{Left, left-all, left_is, left-more, left-length, left-done}
+use Rattle.lists.specs.WroteLaws.{left-all, left_is, left-more, left-length, left-done}
 use Rattle.emit.specs.PackedLaws.{packed-length, left-steps}
 use Rattle.emit.proofs.Passes.{solves, one, solves-none, solves-next}
 use Rattle.emit.proofs.solve_all.Goals as goal

@@ -10,14 +10,13 @@ use Rattle.plan.specs.Step.{pack}
 use Rattle.emit.specs.Emit.{solved_in}
 use Rattle.lists.specs.WroteLaws.{wrote-is}
 use Rattle.emit.proofs.Passes.{whole_is}
-use borrow.Author.Rules.{rules}
 use Rattle.emit.proofs.solve_whole.Goals as goal
 
 pub solve_all-requires : goal.solve_all-requires
 solve_all-requires c =
     let a = c.args in
     let w = whole_is (rev (solved_in a.t.now a.order.now a.owns.now a.taken)) in
-    (rw w c.requires.room, (record { located = c.requires.table; all = omega (arith, length-replicate {A = ℕ} most_places 0) }, c.requires.1.1))
+    record { room = rw w c.requires.room; table = record { located = c.requires.table; all = omega (arith, length-replicate {A = ℕ} most_places 0) }; checks = c.requires.checks; own = c.requires.own }
 
 pub returns : goal.returns
 returns c =

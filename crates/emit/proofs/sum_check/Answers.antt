@@ -1,15 +1,14 @@
 -- `emit::sum_check` meets its contract: the places that are left, one after the other.
 use mathlib.Core.Path.{◌≡◌, sym, ap, ◌∙◌}
 use mathlib.Core.List.{[]}
-use mathlib.Core.Logic.{⊎_elim}
-use Prim.Native.Nat.{◌+◌, ◌-◌, ◌≤◌, ◌<◌}
+use Prim.Native.Nat.{◌+◌, ◌≤◌, ◌<◌}
 use native.Mathlib.Omega.{arith}
 use lib.ListN.{length, get_or, set, take, drop, length-set}
 use lib.Seq.{drop-length}
-use Rattle.plan.specs.Step.{pack}
-use Rattle.lists.specs.WroteLaws.{Left, left-all, left_is, left_one, left-room, left-length, left-done, wrote_one, wrote-append}
+use Rattle.lists.specs.WroteLaws.{left-all, left_is, left_one, left-room, left-length, left-done, wrote_one, wrote-append}
 use Rattle.emit.proofs.Sums.{adds, adds-length, adds-own, adds-marked, adds-next, part_length, part_at}
 use Rattle.emit.proofs.sum_check.Goals as goal
+use Rattle.emit.proofs.sum_check.Goals.{then-p-to+then-skip-p-ne1, then-p-to+else-skip-p-ne1, else-p-to}
 
 pub loop-i-init : goal.loop-i-init
 loop-i-init c = (omega arith, left-all _ _ _)
@@ -46,12 +45,11 @@ loop-i-preserved c =
     let rest = adds to sk (drop (s.i + 1) C) in
     let l = s.invariant.1 in (
       omega arith,
-      ⊎_elim
-          (λ u. rw (u.4, u.5, u.3.ensures) (left_one room (left_is _ l (adds-next to sk C s.i p h q u.0.taken u.2.taken))))
-          (⊎_elim
-          (λ u. rw (u.3, u.4) (left_is _ l (adds-marked to sk C s.i p h q u.0.taken u.2.left)))
-          (λ u. rw (u.1, u.2) (left_is _ l (adds-own to sk C s.i p h q u.0.left))))
-          c.if-p-to.branch,
+      elim c.if-p-to.branch [
+        | then-p-to+then-skip-p-ne1 u ↦ (rw (u.plan-is, u.k-is, u.pack-then-skip-p-ne1.ensures) (left_one room (left_is _ l (adds-next to sk C s.i p h q u.if-p-to.true u.if-skip-p-ne1.true))))
+        | then-p-to+else-skip-p-ne1 u ↦ (rw (u.plan-is, u.k-is) (left_is _ l (adds-marked to sk C s.i p h q u.if-p-to.true u.if-skip-p-ne1.false)))
+        | else-p-to u ↦ (rw (u.plan-is, u.k-is) (left_is _ l (adds-own to sk C s.i p h q u.if-p-to.false)))
+      ],
     )
 
 pub bounds-plan-k : goal.bounds-plan-k
@@ -73,7 +71,10 @@ offset_bounds-plan-k c =
     let s = c.loop-i in
     let C = take a.weight (drop a.start a.t.now) in
     let room : a.at + 1 + length (adds a.to a.skip.now C) ≤ length (set a.plan.now a.at c.pack.result) = simp length-set (omega (arith, adds-length a.to a.skip.now C)) in
-    let r : s.k < length s.plan = slice-write-plan-2 c in
+    let h : s.i < length C = rw (part_length a.t.now a.start a.weight c.requires.check.room) (omega arith) in
+    let q : c.wide-p.result ≡ get_or C s.i 0 = c.wide-p.ensures ∙ part_at a.t.now a.start a.weight s.i (omega arith) in
+    let next = adds-next a.to a.skip.now C s.i c.wide-p.result h q c.if-p-to.true c.if-skip-p-ne1.true in
+    let r = left-room room (left_is _ s.invariant.1 next) in
     let l : length s.plan ≡ length a.plan.now = left-length room s.invariant.1 ∙ simp length-set in
     omega arith
 
@@ -83,7 +84,10 @@ overflow_add-k-then-skip-p-ne1 c =
     let s = c.loop-i in
     let C = take a.weight (drop a.start a.t.now) in
     let room : a.at + 1 + length (adds a.to a.skip.now C) ≤ length (set a.plan.now a.at c.pack.result) = simp length-set (omega (arith, adds-length a.to a.skip.now C)) in
-    let r : s.k < length s.plan = slice-write-plan-2 c in
+    let h : s.i < length C = rw (part_length a.t.now a.start a.weight c.requires.check.room) (omega arith) in
+    let q : c.wide-p.result ≡ get_or C s.i 0 = c.wide-p.ensures ∙ part_at a.t.now a.start a.weight s.i (omega arith) in
+    let next = adds-next a.to a.skip.now C s.i c.wide-p.result h q c.if-p-to.true c.if-skip-p-ne1.true in
+    let r = left-room room (left_is _ s.invariant.1 next) in
     let l : length s.plan ≡ length a.plan.now = left-length room s.invariant.1 ∙ simp length-set in
     omega arith
 

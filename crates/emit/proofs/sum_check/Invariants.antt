@@ -1,14 +1,8 @@
 -- `emit::sum_check` meets its contract: the places that are left, one after the other.
-use mathlib.Core.Path.{◌≡◌, sym, ap, ◌∙◌}
-use mathlib.Core.List.{[]}
-use mathlib.Core.Logic.{⊎_elim}
-use Prim.Native.Nat.{◌+◌, ◌-◌, ◌≤◌, ◌<◌}
-use native.Mathlib.Omega.{arith}
-use lib.ListN.{length, get_or, set, take, drop, length-set}
-use lib.Seq.{drop-length}
-use Rattle.plan.specs.Step.{pack}
-use Rattle.lists.specs.WroteLaws.{Left, left-all, left_is, left_one, left-room, left-length, left-done, wrote_one, wrote-append}
-use Rattle.emit.proofs.Sums.{adds, adds-length, adds-own, adds-marked, adds-next, part_length, part_at}
+use Prim.Native.Nat.{◌+◌, ◌-◌, ◌≤◌}
+use lib.ListN.{take, drop}
+use Rattle.lists.specs.WroteLaws.{Left}
+use Rattle.emit.proofs.Sums.{adds}
 use Rattle.emit.proofs.sum_check.Given as goal
 
 abbrev pub invariant-loop-i : goal.invariant-loop-i

@@ -3,7 +3,6 @@ use mathlib.Core.Path.{sym, ◌∙◌}
 use Rattle.plan.specs.LookOver.{is_marked}
 use Rattle.plan.specs.Step.{unpack}
 use Rattle.formed.proofs.Passing.{good-decoded, good-invalid}
-use borrow.Author.Rules.{rules}
 use Rattle.formed.proofs.good_number.Goals as goal
 
 pub returns-in-Valid : goal.returns-in-Valid

@@ -1,15 +1,10 @@
 -- `formed::good_steps` meets its contract: what is left of the numbers decides.
-use mathlib.Core.Path.{◌≡◌, refl, sym, ap, ◌∙◌}
-use mathlib.Core.Bool.{Bool}
-use Prim.Native.Nat.{ℕ, ◌-◌, ◌≤◌}
-use native.Mathlib.Omega.{arith}
-use borrow.Author.Tests.{not-true, not-false}
+use mathlib.Core.Path.{◌≡◌}
+use Prim.Native.Nat.{◌-◌, ◌≤◌}
 use lib.ListN.{length, drop}
-use lib.Seq.{drop-length}
 use Rattle.lists.specs.Lists.{all_pass}
 use Rattle.plan.specs.LookOver.{is_marked, good_step_by}
 use Rattle.plan.specs.Step.{unpack}
-use Rattle.formed.proofs.Passing.{pass-stops, pass_on}
 use Rattle.formed.proofs.good_steps.Given as goal
 
 abbrev pub invariant-loop-i : goal.invariant-loop-i

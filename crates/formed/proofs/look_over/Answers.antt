@@ -11,7 +11,6 @@ use Rattle.plan.specs.LayoutLaws.{counted}
 use Rattle.plan.specs.LookOver.{most_slots}
 use Rattle.formed.proofs.Marking.{marks-none}
 use Rattle.formed.proofs.Passing.{refuse-counts, refuse-places, refuse-steps, refuse-none, same-steps}
-use borrow.Author.Rules.{rules}
 use Rattle.formed.proofs.look_over.Goals as goal
 
 pub returns-then-bad_counts : goal.returns-then-bad_counts

@@ -1,16 +1,10 @@
 -- `formed::mark_places` meets its contract: what is left of the places decides, and those passed are marked.
-use mathlib.Core.Path.{◌≡◌, refl, sym, ap, ◌∙◌, subst}
-use mathlib.Core.Bool.{false≢true}
-use mathlib.Core.List.{List}
-use Prim.Native.Nat.{ℕ, ◌-◌, ◌≤◌, ◌<◌}
-use native.Mathlib.Omega.{arith}
-use lib.ListN.{length, take, drop, length-set}
-use lib.Seq.{take-length, drop-length}
+use mathlib.Core.Path.{◌≡◌}
+use Prim.Native.Nat.{◌-◌, ◌≤◌}
+use lib.ListN.{length, take, drop}
 use Rattle.table.specs.Table.{rising}
-use Rattle.plan.specs.Layout.{info_count, info_in}
-use Rattle.plan.specs.LayoutLaws.{info-long}
+use Rattle.plan.specs.Layout.{info_in}
 use Rattle.plan.specs.LookOver.{Marks}
-use Rattle.formed.proofs.Marking.{place-below, place-above, place-on, mark-more}
 use Rattle.formed.proofs.mark_places.Given as goal
 
 abbrev pub invariant-loop-i : goal.invariant-loop-i

@@ -1,7 +1,6 @@
 -- `formed::may_write` meets its contract: a slot outside, or its mark.
 use Rattle.plan.specs.LookOver.{is_marked}
 use Rattle.formed.proofs.Passing.{writable-outside, writable-inside}
-use borrow.Author.Rules.{rules}
 use Rattle.formed.proofs.may_write.Goals as goal
 
 pub returns-then-k-to : goal.returns-then-k-to

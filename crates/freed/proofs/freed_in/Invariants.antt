@@ -1,10 +1,7 @@
 -- `freed::freed_in` meets its contract: so many of i places.
 use Rattle.freed.specs.Most.{twos}
-use Rattle.freed.proofs.Freed.{twos-none, twos-more, twos-same}
-use Prim.Native.Nat.{ℕ, ◌+◌, ◌-◌, ◌≤◌}
-use mathlib.Core.Path.{◌≡◌, sym, ap, ◌∙◌}
-use mathlib.Core.Logic.{⊎_elim}
-use native.Mathlib.Omega.{arith}
+use Prim.Native.Nat.{◌-◌, ◌≤◌}
+use mathlib.Core.Path.{◌≡◌}
 use lib.ListN.{take, drop}
 use Rattle.freed.proofs.freed_in.Given as goal
 

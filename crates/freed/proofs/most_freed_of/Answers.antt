@@ -1,14 +1,13 @@
 -- `freed::most_freed_of` meets its contract: the rest of the scan decides.
 use Rattle.table.specs.Accepted.{has-weights, few-checks, light, places-at}
-use Rattle.table.specs.Checks.{check}
-use Rattle.freed.specs.Most.{lives, most_from, twos}
+use Rattle.freed.specs.Most.{most_from}
 use Rattle.freed.proofs.Freed.{freed-check}
 use Rattle.freed.proofs.Most.{lives-hit, lives-miss, lives-end, most-up, most-keep}
-use Prim.Native.Nat.{◌-◌, ◌≤◌}
+use Prim.Native.Nat.{◌-◌}
 use mathlib.Core.Path.{◌≡◌, refl, sym, ap, ◌∙◌}
-use mathlib.Core.Logic.{⊎_elim}
 use native.Mathlib.Omega.{arith}
 use Rattle.freed.proofs.most_freed_of.Goals as goal
+use Rattle.freed.proofs.most_freed_of.Goals.{then-live-i-eq1+then-w-k, then-live-i-eq1+else-w-k, else-live-i-eq1}
 
 pub loop-i-init : goal.loop-i-init
 loop-i-init c = let e : c.args.m - 0 ≡ c.args.m = omega arith in (omega arith, rw e)
@@ -32,7 +31,7 @@ pub freed_in-k-requires : goal.freed_in-k-requires
 freed_in-k-requires c =
     let l = c.requires.located in
     let h = c.loop-i-test.true in
-    places-at _ _ _ _ l.table _ h _ _ (c.wide.ensures ∙ l.starts-at.each _ h) c.wide-then-live-i-eq1.ensures _ refl
+    record { places = places-at _ _ _ _ l.table _ h _ _ (c.wide.ensures ∙ l.starts-at.each _ h) c.wide-then-live-i-eq1.ensures _ refl }
 
 pub overflow_add-w : goal.overflow_add-w
 overflow_add-w c =
@@ -44,14 +43,13 @@ loop-i-preserved c =
     let s = c.loop-i in
     let l = c.requires.located in
     let h = c.loop-i-test.true in
-    ⊎_elim
-    (λ u. let k = u.5.ensures.0 ∙ freed-check _ _ _ _ l h u.2.ensures u.4.ensures in
-    (omega arith, s.invariant.1 ∙ ap (most_from _ _ _) (lives-hit _ s.i _ h u.0.taken) ∙ rw (u.7, u.8, k) (most-up _ _ s.w s.i _ (omega (arith, u.6.taken, k)))))
-    (⊎_elim
-    (λ u. let k = u.5.ensures.0 ∙ freed-check _ _ _ _ l h u.2.ensures u.4.ensures in
-    (omega arith, s.invariant.1 ∙ ap (most_from _ _ _) (lives-hit _ s.i _ h u.0.taken) ∙ rw (u.7, u.8) (most-keep _ _ s.w s.i _ (omega (arith, u.6.left, k)))))
-    (λ u. (omega arith, s.invariant.1 ∙ ap (most_from _ _ _) (lives-miss _ s.i _ h u.0.left) ∙ rw (u.1, u.2))))
-    c.if-live-i-eq1.branch
+    elim c.if-live-i-eq1.branch [
+      | then-live-i-eq1+then-w-k u ↦ (let k = u.freed_in-k.ensures.freed ∙ freed-check _ _ _ _ l h u.wide.ensures u.wide-then-live-i-eq1.ensures in
+          (omega arith, s.invariant.1 ∙ ap (most_from _ _ _) (lives-hit _ s.i _ h u.if-live-i-eq1.true) ∙ rw (u.best-is, u.w-is, k) (most-up _ _ s.w s.i _ (omega (arith, u.if-w-k.true, k)))))
+      | then-live-i-eq1+else-w-k u ↦ (let k = u.freed_in-k.ensures.freed ∙ freed-check _ _ _ _ l h u.wide.ensures u.wide-then-live-i-eq1.ensures in
+          (omega arith, s.invariant.1 ∙ ap (most_from _ _ _) (lives-hit _ s.i _ h u.if-live-i-eq1.true) ∙ rw (u.best-is, u.w-is) (most-keep _ _ s.w s.i _ (omega (arith, u.if-w-k.false, k)))))
+      | else-live-i-eq1 u ↦ (omega arith, s.invariant.1 ∙ ap (most_from _ _ _) (lives-miss _ s.i _ h u.if-live-i-eq1.false) ∙ rw (u.best-is, u.w-is))
+    ]
 
 pub returns : goal.returns
 returns c =

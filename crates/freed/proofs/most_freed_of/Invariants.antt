@@ -1,13 +1,8 @@
 -- `freed::most_freed_of` meets its contract: the rest of the scan decides.
-use Rattle.table.specs.Accepted.{has-weights, few-checks, light, places-at}
 use Rattle.table.specs.Checks.{check}
 use Rattle.freed.specs.Most.{lives, most_from, twos}
-use Rattle.freed.proofs.Freed.{freed-check}
-use Rattle.freed.proofs.Most.{lives-hit, lives-miss, lives-end, most-up, most-keep}
 use Prim.Native.Nat.{◌-◌, ◌≤◌}
-use mathlib.Core.Path.{◌≡◌, refl, sym, ap, ◌∙◌}
-use mathlib.Core.Logic.{⊎_elim}
-use native.Mathlib.Omega.{arith}
+use mathlib.Core.Path.{◌≡◌}
 use Rattle.freed.proofs.most_freed_of.Given as goal
 
 abbrev pub invariant-loop-i : goal.invariant-loop-i

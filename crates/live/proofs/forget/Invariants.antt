@@ -1,10 +1,7 @@
 -- `live::forget` meets its contract: i places are marked.
-use Prim.Native.Nat.{◌-◌, ◌+◌, ◌≤◌, ◌<◌}
-use mathlib.Core.Path.{◌≡◌, refl, ◌∙◌}
-use native.Mathlib.Omega.{arith}
-use lib.ListN.{length, get_or, take, drop}
+use Prim.Native.Nat.{◌-◌, ◌≤◌}
+use lib.ListN.{take, drop}
 use Rattle.live.specs.Live.{Marked}
-use Rattle.live.specs.MarkLaws.{marked-none, marked-room, marked_turn, not_yet}
 use Rattle.live.proofs.forget.Given as goal
 
 abbrev pub invariant-loop-i : goal.invariant-loop-i

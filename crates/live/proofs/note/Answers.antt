@@ -1,9 +1,8 @@
 -- `live::note` meets its contract: i places are marked.
-use Prim.Native.Nat.{◌-◌, ◌+◌, ◌≤◌, ◌<◌}
+use Prim.Native.Nat.{◌+◌, ◌<◌}
 use mathlib.Core.Path.{◌≡◌, refl, ◌∙◌}
 use native.Mathlib.Omega.{arith}
-use lib.ListN.{length, get_or, take, drop}
-use Rattle.live.specs.Live.{Marked}
+use lib.ListN.{length, get_or}
 use Rattle.live.specs.MarkLaws.{marked-none, marked-room, marked_turn, not_yet}
 use Rattle.live.proofs.note.Goals as goal
 
@@ -19,15 +18,11 @@ offset_bounds-t-at c = let r = c.requires.places.room in omega arith
 pub bounds-t-at : goal.bounds-t-at
 bounds-t-at c = let r = c.requires.places.room in omega arith
 
--- the place lies in both lists
-in-range : (c : tie.After-wide invariant-loop decreases-loop) → (c.wide-p.result < length c.loop-i.count) × (c.wide-p.result < length c.loop-i.names)
-in-range c = let p = c.requires in marked-room p.places c.loop-i-test.true c.wide-p.result c.wide-p.ensures c.loop-i.invariant.1 (omega arith) p.names
-
 pub offset_bounds-count-p : goal.offset_bounds-count-p
-offset_bounds-count-p c = let r = in-range c in omega arith
+offset_bounds-count-p c = let r : (c.wide-p.result < length c.loop-i.count) × (c.wide-p.result < length c.loop-i.names) = (let p = c.requires in marked-room p.places c.loop-i-test.true c.wide-p.result c.wide-p.ensures c.loop-i.invariant.1 (omega arith) p.names) in omega arith
 
 pub bounds-count-p : goal.bounds-count-p
-bounds-count-p c = let r = in-range c in omega arith
+bounds-count-p c = let r : (c.wide-p.result < length c.loop-i.count) × (c.wide-p.result < length c.loop-i.names) = (let p = c.requires in marked-room p.places c.loop-i-test.true c.wide-p.result c.wide-p.ensures c.loop-i.invariant.1 (omega arith) p.names) in omega arith
 
 pub overflow_add-count : goal.overflow_add-count
 overflow_add-count c =
@@ -41,22 +36,22 @@ overflow_add-count c =
     omega arith
 
 pub offset_bounds-count-p-in-loop-i : goal.offset_bounds-count-p-in-loop-i
-offset_bounds-count-p-in-loop-i c = let r = in-range c in omega arith
+offset_bounds-count-p-in-loop-i c = let r : (c.wide-p.result < length c.loop-i.count) × (c.wide-p.result < length c.loop-i.names) = (let p = c.requires in marked-room p.places c.loop-i-test.true c.wide-p.result c.wide-p.ensures c.loop-i.invariant.1 (omega arith) p.names) in omega arith
 
 pub bounds-count-p-in-loop-i : goal.bounds-count-p-in-loop-i
-bounds-count-p-in-loop-i c = let r = in-range c in omega arith
+bounds-count-p-in-loop-i c = let r : (c.wide-p.result < length c.loop-i.count) × (c.wide-p.result < length c.loop-i.names) = (let p = c.requires in marked-room p.places c.loop-i-test.true c.wide-p.result c.wide-p.ensures c.loop-i.invariant.1 (omega arith) p.names) in omega arith
 
 pub offset_bounds-names-p : goal.offset_bounds-names-p
-offset_bounds-names-p c = let r = in-range c in omega arith
+offset_bounds-names-p c = let r : (c.wide-p.result < length c.loop-i.count) × (c.wide-p.result < length c.loop-i.names) = (let p = c.requires in marked-room p.places c.loop-i-test.true c.wide-p.result c.wide-p.ensures c.loop-i.invariant.1 (omega arith) p.names) in omega arith
 
 pub bounds-names-p : goal.bounds-names-p
-bounds-names-p c = let r = in-range c in omega arith
+bounds-names-p c = let r : (c.wide-p.result < length c.loop-i.count) × (c.wide-p.result < length c.loop-i.names) = (let p = c.requires in marked-room p.places c.loop-i-test.true c.wide-p.result c.wide-p.ensures c.loop-i.invariant.1 (omega arith) p.names) in omega arith
 
 pub offset_bounds-names-p-in-loop-i : goal.offset_bounds-names-p-in-loop-i
-offset_bounds-names-p-in-loop-i c = let r = in-range c in omega arith
+offset_bounds-names-p-in-loop-i c = let r : (c.wide-p.result < length c.loop-i.count) × (c.wide-p.result < length c.loop-i.names) = (let p = c.requires in marked-room p.places c.loop-i-test.true c.wide-p.result c.wide-p.ensures c.loop-i.invariant.1 (omega arith) p.names) in omega arith
 
 pub bounds-names-p-in-loop-i : goal.bounds-names-p-in-loop-i
-bounds-names-p-in-loop-i c = let r = in-range c in omega arith
+bounds-names-p-in-loop-i c = let r : (c.wide-p.result < length c.loop-i.count) × (c.wide-p.result < length c.loop-i.names) = (let p = c.requires in marked-room p.places c.loop-i-test.true c.wide-p.result c.wide-p.ensures c.loop-i.invariant.1 (omega arith) p.names) in omega arith
 
 pub loop-i-preserved : goal.loop-i-preserved
 loop-i-preserved c =

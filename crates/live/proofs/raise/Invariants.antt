@@ -1,10 +1,6 @@
 -- `live::raise` meets its contract: the bound lies above i places.
 use Rattle.live.specs.Live.{Raised}
-use Rattle.live.proofs.Raising.{raised-none, raised-turn}
 use Prim.Native.Nat.{◌-◌, ◌≤◌}
-use mathlib.Core.Path.{◌≡◌}
-use mathlib.Core.Logic.{⊎_elim}
-use native.Mathlib.Omega.{arith}
 use Rattle.live.proofs.raise.Given as goal
 
 abbrev pub invariant-loop-i : goal.invariant-loop-i

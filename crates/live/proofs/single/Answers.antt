@@ -1,13 +1,9 @@
 -- `live::single` meets its contract: the rest of the scan decides.
-use lib.Dec.{eqb}
 use borrow.Author.Tests.{eq-eqb, ne_eqb}
-use Rattle.lists.specs.Lists.{highest}
 use Rattle.live.specs.Live.{found}
 use Rattle.live.proofs.Scanning.{scan-hit, scan-miss, scan-none}
-use Prim.Native.Nat.{◌≤◌}
 use mathlib.Core.Path.{◌≡◌, refl, sym, ap, ◌∙◌}
 use native.Mathlib.Omega.{arith}
-use lib.ListN.{get_or}
 use Rattle.live.proofs.single.Goals as goal
 
 pub loop-p-init : goal.loop-p-init

@@ -1,10 +1,8 @@
 -- `masks::find` meets its contract: no mask below i sees the column.
 use Rattle.masks.specs.Dot.{dot}
-use Rattle.masks.proofs.Masks.{blind-more}
 use Prim.Native.Nat.{ℕ, ◌-◌, ◌≤◌, ◌<◌}
-use mathlib.Core.Path.{◌≡◌, sym, ◌∙◌}
+use mathlib.Core.Path.{◌≡◌}
 use mathlib.Core.Bool.{false}
-use native.Mathlib.Omega.{arith}
 use lib.ListN.{get_or}
 use Rattle.masks.proofs.find.Given as goal
 

@@ -1,10 +1,7 @@
 -- `masks::fit` meets its contract: `Scan` holds at each turn.
-use Rattle.masks.specs.Scan.{Scan}
-use Prim.Native.Nat.{ℕ, ◌+◌, ◌-◌, ◌≤◌, ◌<◌}
+use Prim.Native.Nat.{◌+◌, ◌-◌}
 use mathlib.Core.Path.{◌≡◌, refl, ◌∙◌}
-use mathlib.Core.List.{List}
 use native.Mathlib.Omega.{arith}
-use lib.ListN.{length, get_or}
 use Rattle.masks.proofs.fit.Goals as goal
 
 pub loop-k-init : goal.loop-k-init

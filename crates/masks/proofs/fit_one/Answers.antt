@@ -1,7 +1,6 @@
 -- `masks::fit_one` meets its contract.
 use Rattle.masks.proofs.Scanning.{one-skipped, one-taken}
 use native.Mathlib.Omega.{arith}
-use borrow.Author.Rules.{rules}
 use Rattle.masks.proofs.fit_one.Goals as goal
 
 pub returns-then-i-free : goal.returns-then-i-free

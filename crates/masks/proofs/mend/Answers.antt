@@ -1,6 +1,5 @@
 -- `masks::mend` meets its contract: i masks are mended.
-use Rattle.masks.proofs.Masks.{Part, part_none, part-turn, part-all}
-use Prim.Native.Nat.{◌-◌, ◌≤◌}
+use Rattle.masks.proofs.Masks.{part_none, part-turn, part-all}
 use mathlib.Core.Path.{◌≡◌}
 use native.Mathlib.Omega.{arith}
 use Rattle.masks.proofs.mend.Goals as goal

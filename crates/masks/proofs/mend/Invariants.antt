@@ -1,8 +1,6 @@
 -- `masks::mend` meets its contract: i masks are mended.
-use Rattle.masks.proofs.Masks.{Part, part_none, part-turn, part-all}
+use Rattle.masks.proofs.Masks.{Part}
 use Prim.Native.Nat.{◌-◌, ◌≤◌}
-use mathlib.Core.Path.{◌≡◌}
-use native.Mathlib.Omega.{arith}
 use Rattle.masks.proofs.mend.Given as goal
 
 abbrev pub invariant-loop-i : goal.invariant-loop-i

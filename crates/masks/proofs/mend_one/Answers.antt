@@ -1,7 +1,6 @@
 -- `masks::mend_one` meets its contract.
 use Rattle.masks.proofs.Masks.{mended-on, mended-off}
 use mathlib.Core.Path.{sym, ◌∙◌}
-use borrow.Author.Rules.{rules}
 use Rattle.masks.proofs.mend_one.Goals as goal
 
 pub returns-then-sees : goal.returns-then-sees

@@ -2,7 +2,6 @@
 use Rattle.masks.proofs.Masks.{tied}
 use native.Mathlib.Omega.{arith}
 use lib.ListN.{length-set}
-use borrow.Author.Rules.{rules}
 use Rattle.masks.proofs.tie.Goals as goal
 
 pub bounds-masks-k-2 : goal.bounds-masks-k-2

@@ -1,10 +1,9 @@
 -- `masks::units` meets its contract: i masks are units.
 use Rattle.masks.proofs.Masks.{units-more}
 use Rattle.masks.specs.DotLaws.{unit-word}
-use Prim.Native.Nat.{ℕ, ◌-◌, ◌^◌, ◌≤◌, ◌<◌}
 use mathlib.Core.Path.{◌≡◌, refl}
 use native.Mathlib.Omega.{arith}
-use lib.ListN.{length, get_or, length-set}
+use lib.ListN.{length-set}
 use Rattle.masks.proofs.units.Goals as goal
 
 pub loop-i-init : goal.loop-i-init

@@ -1,10 +1,7 @@
 -- `masks::units` meets its contract: i masks are units.
-use Rattle.masks.proofs.Masks.{units-more}
-use Rattle.masks.specs.DotLaws.{unit-word}
 use Prim.Native.Nat.{ℕ, ◌-◌, ◌^◌, ◌≤◌, ◌<◌}
-use mathlib.Core.Path.{◌≡◌, refl}
-use native.Mathlib.Omega.{arith}
-use lib.ListN.{length, get_or, length-set}
+use mathlib.Core.Path.{◌≡◌}
+use lib.ListN.{length, get_or}
 use Rattle.masks.proofs.units.Given as goal
 
 abbrev pub invariant-loop-i : goal.invariant-loop-i

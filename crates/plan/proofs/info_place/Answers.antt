@@ -4,7 +4,6 @@ use native.Mathlib.Omega.{arith}
 use lib.ListN.{drop}
 use lib.Seq.{get_or-take, get_or-drop}
 use Rattle.plan.specs.Layout.{info_at, info_count}
-use borrow.Author.Rules.{rules}
 use Rattle.plan.proofs.info_place.Goals as goal
 
 pub returns : goal.returns

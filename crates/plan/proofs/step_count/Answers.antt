@@ -3,7 +3,6 @@ use mathlib.Core.Path.{ap, ◌∙◌}
 use Prim.Native.Nat.{ℕ, ◌+◌}
 use lib.ListN.{get_or}
 use Rattle.plan.specs.Layout.{info_at}
-use borrow.Author.Rules.{rules}
 use Rattle.plan.proofs.step_count.Goals as goal
 
 pub returns : goal.returns

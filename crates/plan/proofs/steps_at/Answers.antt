@@ -1,7 +1,6 @@
 -- `plan::steps_at` meets its contract: right behind the count of steps.
 use native.Mathlib.Omega.{arith}
 use Rattle.plan.specs.Layout.{info_count_at}
-use borrow.Author.Rules.{rules}
 use Rattle.plan.proofs.steps_at.Goals as goal
 
 pub overflow_add-result : goal.overflow_add-result

@@ -3,7 +3,6 @@ use native.Mathlib.Omega.{arith}
 use lib.ListN.{length-set}
 use Rattle.plan.specs.Layout.{head_count}
 use Rattle.plan.proofs.HeadWritten.{set-four}
-use borrow.Author.Rules.{rules}
 use Rattle.plan.proofs.write_head.Goals as goal
 
 pub bounds-w-1 : goal.bounds-w-1

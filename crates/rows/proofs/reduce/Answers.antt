@@ -1,12 +1,12 @@
 -- `rows::reduce` meets its contract: `Lowering` holds at each turn.
-use Prim.Native.Nat.{◌-◌, ◌<◌}
+use Prim.Native.Nat.{◌-◌}
 use mathlib.Core.Path.{◌≡◌}
 use native.Mathlib.Nat.{pos_of_ne-zero}
 use native.Mathlib.Omega.{arith}
-use lib.ListN.{length, get_or}
+use lib.ListN.{get_or}
 use Rattle.gf2.specs.EchelonLaws.{ended-zero}
 use Rattle.bits.specs.Front.{front_length}
-use Rattle.rows.proofs.Lowering.{Lowering, lower-start, own_bits, next-short, next-less, lower-turn, stopped, lowered, told}
+use Rattle.rows.proofs.Lowering.{lower-start, own_bits, next-short, next-less, lower-turn, stopped, lowered, told}
 use Rattle.rows.proofs.reduce.Goals as goal
 
 pub bits_of-l-requires : goal.bits_of-l-requires
@@ -43,23 +43,29 @@ overflow_sub-noted c = let m = c.loop-l.invariant.most in omega (arith, c.loop-l
 pub overflow_cast-noted : goal.overflow_cast-noted
 overflow_cast-noted c = let m = c.loop-l.invariant.most in let few = c.requires.rows.most in omega (arith, c.loop-l-test.true)
 
--- the note has room
-noted-room : (c : tie.After-slice-known3 invariant-loop decreases-loop) → c.loop-l.count < length c.loop-l.noted
-noted-room c =
+pub offset_bounds-noted-count : goal.offset_bounds-noted-count
+offset_bounds-noted-count c =
     let m = c.loop-l.invariant.most in
     let r = c.requires.room in
     let h = c.loop-l-test.true in
     let l = front_length c.loop-l.invariant.front (omega arith) in
     omega arith
 
-pub offset_bounds-noted-count : goal.offset_bounds-noted-count
-offset_bounds-noted-count c = omega (arith, noted-room c)
-
 pub bounds-noted-count : goal.bounds-noted-count
-bounds-noted-count c = omega (arith, noted-room c)
+bounds-noted-count c =
+    let m = c.loop-l.invariant.most in
+    let r = c.requires.room in
+    let h = c.loop-l-test.true in
+    let l = front_length c.loop-l.invariant.front (omega arith) in
+    omega arith
 
 pub overflow_add-count : goal.overflow_add-count
-overflow_add-count c = omega (arith, noted-room c)
+overflow_add-count c =
+    let m = c.loop-l.invariant.most in
+    let r = c.requires.room in
+    let h = c.loop-l-test.true in
+    let l = front_length c.loop-l.invariant.front (omega arith) in
+    omega arith
 
 pub overflow_sub-l-in-loop-l : goal.overflow_sub-l-in-loop-l
 overflow_sub-l-in-loop-l c = omega (arith, c.loop-l-test.true)
@@ -99,9 +105,8 @@ shape_of-noted-after-loop-l c = let m = c.loop-l.invariant.most in let r = c.req
 pub returns-after-loop-l : goal.returns-after-loop-l
 returns-after-loop-l c =
     let e : c.loop-l.l ≡ 0 = omega arith in
-    let s = rw e at c.loop-l.invariant in 
-    let q = rw e (lowered s (ended-zero _ _) (λ h. absurd (omega arith)), told s (ended-zero _ _)) in
-    record { row = q.0; path = q.1 }
+    let s = rw e at c.loop-l.invariant in
+    record { row = rw e (lowered s (ended-zero _ _) (λ h. absurd (omega arith))); path = told s (ended-zero _ _) }
 
 pub shape_of-w-then-o-eq0 : goal.shape_of-w-then-o-eq0
 shape_of-w-then-o-eq0 c = c.loop-l.invariant.put.len

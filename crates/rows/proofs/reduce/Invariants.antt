@@ -1,12 +1,5 @@
 -- `rows::reduce` meets its contract: `Lowering` holds at each turn.
-use Prim.Native.Nat.{◌-◌, ◌<◌}
-use mathlib.Core.Path.{◌≡◌}
-use native.Mathlib.Nat.{pos_of_ne-zero}
-use native.Mathlib.Omega.{arith}
-use lib.ListN.{length, get_or}
-use Rattle.gf2.specs.EchelonLaws.{ended-zero}
-use Rattle.bits.specs.Front.{front_length}
-use Rattle.rows.proofs.Lowering.{Lowering, lower-start, own_bits, next-short, next-less, lower-turn, stopped, lowered, told}
+use Rattle.rows.proofs.Lowering.{Lowering}
 use Rattle.rows.proofs.reduce.Given as goal
 
 abbrev pub invariant-loop-l : goal.invariant-loop-l

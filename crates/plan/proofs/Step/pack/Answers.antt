@@ -1,6 +1,5 @@
 -- `plan::Step::pack` meets its contract: by the kind of the step.
 use native.Mathlib.Omega.{arith}
-use borrow.Author.Rules.{rules}
 use Rattle.plan.proofs.Step.pack.Goals as goal
 
 pub overflow_cast-result : goal.overflow_cast-result
