@@ -1,6 +1,6 @@
 -- How many places of a check pass a test: none, exactly one, and no more than pass a weaker test.
 use Rattle.std.specs.Prelude.{◌≡◌, refl, Bool, true, false, cond, List, [], ◌∷◌, ℕ, suc, ◌<◌, ◌≤◌, eqb, length, get_or}
-use Rattle.std.proofs.Common.{sym, ap, ap₂, ◌∙◌, true≢false, arith}
+use Rattle.std.proofs.Common.{sym, ap, ap₂, subst, ◌∙◌, true≢false, arith}
 use Rattle.std.proofs.Math.Nat.{suc_inj}
 use Rattle.lists.specs.ListLaws.{all_map}
 use Rattle.lists.specs.Lists.{bxor, par, filter, All, All.nil, All.cons}
@@ -46,9 +46,13 @@ pub one_passes : (f : ℕ → Bool) (c : List ℕ) → length (filter f c) ≡ 1
 one_passes f [] l = absurd (omega arith)
 one_passes f (x ∷ c) l = by_bool (f x)
     (λ t. let a = none_passes f c (suc_inj (rw (t, filter) at l)) in
-    rw (t, filter) (ap₂ bxor (eqb-self x) (apart f x t a), cons (λ e. absurd (true≢false (sym (eqb-self x) ∙ e))) (all_map (λ p h e. h) a)))
+    let k : filter f (x ∷ c) ≡ x ∷ filter f c = rw (t, filter) refl in
+    subst (λ v. (par (get_or v 0 0) (x ∷ c) ≡ true) × All (λ p. eqb p (get_or v 0 0) ≡ false → f p ≡ false) (x ∷ c)) (sym k)
+    (ap₂ bxor (eqb-self x) (apart f x t a), cons (λ e. absurd (true≢false (sym (eqb-self x) ∙ e))) (all_map (λ p h e. h) a)))
     (λ t. let l' : length (filter f c) ≡ 1 = rw (t, filter) at l in
     let r = one_passes f c l' in
     let q = get_or (filter f c) 0 0 in
     let ne : eqb q x ≡ false = by_bool (eqb q x) (λ e. absurd (true≢false (sym (first_passes f c (omega arith)) ∙ ap f (eqb-true q x e) ∙ t))) (λ e. e) in
-    rw (t, filter) (ap₂ bxor ne r.0, cons (λ e. t) r.1))
+    let k : filter f (x ∷ c) ≡ filter f c = rw (t, filter) refl in
+    subst (λ v. (par (get_or v 0 0) (x ∷ c) ≡ true) × All (λ p. eqb p (get_or v 0 0) ≡ false → f p ≡ false) (x ∷ c)) (sym k)
+    (ap₂ bxor ne r.0, cons (λ e. t) r.1))

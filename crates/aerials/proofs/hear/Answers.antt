@@ -14,32 +14,37 @@ returns-then-mark2-ne0 c =
     let a = c.args in
     let x = take a.s (drop a.at a.block1.now) in
     let y = take a.s (drop a.at a.block2.now) in
-    told kind_of (packet_of a.s) a.at 1 a.block3.now _ (heard a.mark1 a.mark2 x y) (single x) (heard-first a.mark1 a.mark2 x y c.if-mark1-eq0.true c.if-mark2-ne0.true) refl c.copy.ensures
+    let q = told kind_of (packet_of a.s) a.at 1 a.block3.now _ (heard a.mark1 a.mark2 x y) (single x) (heard-first a.mark1 a.mark2 x y c.if-mark1-eq0.true c.if-mark2-ne0.true) refl c.copy.ensures in
+    record { kind = q.0; packet = q.1 }
 
 pub returns-then-same : goal.returns-then-same
 returns-then-same c =
     let a = c.args in
     let x = take a.s (drop a.at a.block1.now) in
     let y = take a.s (drop a.at a.block2.now) in
-    told kind_of (packet_of a.s) a.at 0 a.block3.now _ (heard a.mark1 a.mark2 x y) (agreed x) (heard-agreed a.mark1 a.mark2 x y c.if-mark1-eq0.true c.if-mark2-ne0.false (parts_same a.block1.now a.block2.now a.at a.s ∙ sym c.same.ensures ∙ c.if-same.true)) refl c.copy-then-same.ensures
+    let q = told kind_of (packet_of a.s) a.at 0 a.block3.now _ (heard a.mark1 a.mark2 x y) (agreed x) (heard-agreed a.mark1 a.mark2 x y c.if-mark1-eq0.true c.if-mark2-ne0.false (parts_same a.block1.now a.block2.now a.at a.s ∙ sym c.same.ensures ∙ c.if-same.true)) refl c.copy-then-same.ensures in
+    record { kind = q.0; packet = q.1 }
 
 pub returns-then-mark1-eq0 : goal.returns-then-mark1-eq0
 returns-then-mark1-eq0 c =
     let a = c.args in
     let x = take a.s (drop a.at a.block1.now) in
     let y = take a.s (drop a.at a.block2.now) in
-    told kind_of (packet_of a.s) a.at 3 a.block3.now _ (heard a.mark1 a.mark2 x y) clash (heard-clash a.mark1 a.mark2 x y c.if-mark1-eq0.true c.if-mark2-ne0.false (parts_same a.block1.now a.block2.now a.at a.s ∙ sym c.same.ensures ∙ c.if-same.false)) refl c.clear.ensures
+    let q = told kind_of (packet_of a.s) a.at 3 a.block3.now _ (heard a.mark1 a.mark2 x y) clash (heard-clash a.mark1 a.mark2 x y c.if-mark1-eq0.true c.if-mark2-ne0.false (parts_same a.block1.now a.block2.now a.at a.s ∙ sym c.same.ensures ∙ c.if-same.false)) refl c.clear.ensures in
+    record { kind = q.0; packet = q.1 }
 
 pub returns-then-mark2-eq0 : goal.returns-then-mark2-eq0
 returns-then-mark2-eq0 c =
     let a = c.args in
     let x = take a.s (drop a.at a.block1.now) in
     let y = take a.s (drop a.at a.block2.now) in
-    told kind_of (packet_of a.s) a.at 1 a.block3.now _ (heard a.mark1 a.mark2 x y) (single y) (heard-second a.mark1 a.mark2 x y c.if-mark1-eq0.false c.if-mark2-eq0.true) refl c.copy-then-mark2-eq0.ensures
+    let q = told kind_of (packet_of a.s) a.at 1 a.block3.now _ (heard a.mark1 a.mark2 x y) (single y) (heard-second a.mark1 a.mark2 x y c.if-mark1-eq0.false c.if-mark2-eq0.true) refl c.copy-then-mark2-eq0.ensures in
+    record { kind = q.0; packet = q.1 }
 
 pub returns : goal.returns
 returns c =
     let a = c.args in
     let x = take a.s (drop a.at a.block1.now) in
     let y = take a.s (drop a.at a.block2.now) in
-    told kind_of (packet_of a.s) a.at 2 a.block3.now _ (heard a.mark1 a.mark2 x y) silent (heard-silent a.mark1 a.mark2 x y c.if-mark1-eq0.false c.if-mark2-eq0.false) refl c.clear-2.ensures
+    let q = told kind_of (packet_of a.s) a.at 2 a.block3.now _ (heard a.mark1 a.mark2 x y) silent (heard-silent a.mark1 a.mark2 x y c.if-mark1-eq0.false c.if-mark2-eq0.false) refl c.clear-2.ensures in
+    record { kind = q.0; packet = q.1 }

@@ -24,7 +24,7 @@ bounds-map2-p c = let e = c.requires.1.marks in omega arith
 pub overflow_mul-p : goal.overflow_mul-p
 overflow_mul-p c =
     let a = c.args in
-    omega (arith, place-fits c.loop-p.p a.n a.s c.loop-p-test.true, c.requires.0.bytes, c.well-formed)
+    omega (arith, place-fits c.loop-p.p a.n a.s c.loop-p-test.true, c.requires.0.bytes, c.well_formed)
 
 pub hear-requires : goal.hear-requires
 hear-requires c =

@@ -14,12 +14,12 @@ loop-p-init c = (omega arith, c.requires.1, λ k h. absurd (omega arith))
 pub overflow_mul-column : goal.overflow_mul-column
 overflow_mul-column c =
     let a = c.args in
-    omega (arith, place-fits c.loop-p.p a.n a.s c.loop-p-test.true, c.requires.0, c.well-formed.0.0)
+    omega (arith, place-fits c.loop-p.p a.n a.s c.loop-p-test.true, c.requires.0, c.well_formed.0.0)
 
 pub overflow_add-column : goal.overflow_add-column
 overflow_add-column c =
     let a = c.args in
-    omega (arith, place-fits c.loop-p.p a.n a.s c.loop-p-test.true, c.requires.0, c.requires.2, c.well-formed.0.0)
+    omega (arith, place-fits c.loop-p.p a.n a.s c.loop-p-test.true, c.requires.0, c.requires.2, c.well_formed.0.0)
 
 pub bounds-block-p : goal.bounds-block-p
 bounds-block-p c =

@@ -3,10 +3,10 @@ use Rattle.erasure.specs.Restoring.{lost_places}
 use Rattle.erasure.specs.LostLaws.{place-below, lost-hit, lost-miss, lost-end}
 use Prim.Native.Nat.{◌+◌, ◌-◌, ◌≤◌}
 use mathlib.Core.Path.{◌≡◌, ap}
-use mathlib.Core.Logic.{⊎_elim}
 use native.Mathlib.Omega.{arith}
 use lib.ListN.{length, take, drop}
 use Rattle.chains.proofs.lost_in.Goals as goal
+use Rattle.chains.proofs.lost_in.Goals.{then-map-wide-eq1, else-map-wide-eq1}
 
 pub overflow_add-end : goal.overflow_add-end
 overflow_add-end c = omega (arith, c.requires.room)
@@ -31,10 +31,9 @@ loop-i-preserved c =
     let r : a.at + a.weight ≤ length a.t.now = c.requires.room in
     let p = c.wide.ensures in
     let more = c.loop-i-test.true in
-    ⊎_elim
-    (λ w. let e = ap length (lost-hit a.map.now a.t.now s.i (a.at + a.weight) more r (rw p at w.0.taken)) in (omega arith, omega arith, omega (arith, w.1), omega (arith, w.1)))
-    (λ w. let e = ap length (lost-miss a.map.now a.t.now s.i (a.at + a.weight) more r (rw p at w.0.left)) in (omega arith, omega arith, omega (arith, w.1), omega (arith, w.1)))
-    c.if-map-wide-eq1.branch
+    elim c.if-map-wide-eq1.branch [
+    | then-map-wide-eq1 w ↦ let e = ap length (lost-hit a.map.now a.t.now s.i (a.at + a.weight) more r (rw p at w.if-map-wide-eq1.true)) in (omega arith, omega arith, omega (arith, w.k-is), omega (arith, w.k-is))
+    | else-map-wide-eq1 w ↦ let e = ap length (lost-miss a.map.now a.t.now s.i (a.at + a.weight) more r (rw p at w.if-map-wide-eq1.false)) in (omega arith, omega arith, omega (arith, w.k-is), omega (arith, w.k-is)) ]
 
 pub returns : goal.returns
 returns c =

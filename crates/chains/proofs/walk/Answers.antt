@@ -2,10 +2,10 @@
 use Rattle.chains.proofs.Walking.{Walking, walk_start, walk_end, walk-in, walk-in-owner, walk-falls, walk-check, walk-some, walk_turn}
 use Prim.Native.Nat.{◌-◌, ◌≤◌}
 use mathlib.Core.Path.{◌≡◌, refl}
-use mathlib.Core.Logic.{⊎_elim}
 use native.Mathlib.Omega.{arith}
 use lib.ListN.{get_or}
 use Rattle.chains.proofs.walk.Goals as goal
+use Rattle.chains.proofs.walk.Goals.{then-left-eq1+then-j-low, then-left-eq1+else-j-low, else-left-eq1}
 
 pub loop-i-init : goal.loop-i-init
 loop-i-init c = walk_start _ _ _ _ _ c.requires
@@ -45,12 +45,10 @@ loop-i-preserved c =
     let s = c.loop-i in
     let j = c.wide-j.result in
     let l : (get_or s.count j 0 - 1 ≡ 1 → c.if-left-eq1.low ≤ j) × (c.if-left-eq1.low ≤ s.low) =
-    ⊎_elim
-    (λ u. ((λ e. omega (arith, u.2)), omega (arith, u.2, u.1.taken)))
-    (⊎_elim
-    (λ u. ((λ e. omega (arith, u.2, u.1.left)), omega (arith, u.2)))
-    (λ u. ((λ e. absurd (u.0.left e)), omega (arith, u.1))))
-    c.if-left-eq1.branch in
+    elim c.if-left-eq1.branch [
+    | then-left-eq1+then-j-low u ↦ ((λ e. omega (arith, u.low-is)), omega (arith, u.low-is, u.if-j-low.true))
+    | then-left-eq1+else-j-low u ↦ ((λ e. omega (arith, u.low-is, u.if-j-low.false)), omega (arith, u.low-is))
+    | else-left-eq1 u ↦ ((λ e. absurd (u.if-left-eq1.false e)), omega (arith, u.low-is)) ] in
     walk_turn _ _ _ _ _ _ _ _ s.invariant c.loop-i-test.true _ c.wide-j.ensures _ _ _ refl l.0 l.1 c.wide-i.ensures
 
 pub shape_of-count : goal.shape_of-count

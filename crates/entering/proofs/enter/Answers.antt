@@ -13,14 +13,16 @@ returns-then-arrived-eq-RECEIVED c =
     let a = c.args in
     let x = take a.s (drop a.at a.block.now) in
     let y = take a.s (drop a.at a.arrivals.now) in
-    told mark_of (packet_of a.s) a.at 0 a.block.now _ (entry a.carried a.arrived x y) (arrived y) (entry-arrived a.carried a.arrived x y c.if-carried-eq-LOST.true c.if-arrived-eq-RECEIVED.true) refl c.copy.ensures
+    let q = told mark_of (packet_of a.s) a.at 0 a.block.now _ (entry a.carried a.arrived x y) (arrived y) (entry-arrived a.carried a.arrived x y c.if-carried-eq-LOST.true c.if-arrived-eq-RECEIVED.true) refl c.copy.ensures in
+    record { mark = q.0; packet = q.1 }
 
 pub returns-then-carried-eq-LOST : goal.returns-then-carried-eq-LOST
 returns-then-carried-eq-LOST c =
     let a = c.args in
     let x = take a.s (drop a.at a.block.now) in
     let y = take a.s (drop a.at a.arrivals.now) in
-    told mark_of (packet_of a.s) a.at 1 a.block.now _ (entry a.carried a.arrived x y) missing (entry-missing a.carried a.arrived x y c.if-carried-eq-LOST.true c.if-arrived-eq-RECEIVED.false) refl c.clear.ensures
+    let q = told mark_of (packet_of a.s) a.at 1 a.block.now _ (entry a.carried a.arrived x y) missing (entry-missing a.carried a.arrived x y c.if-carried-eq-LOST.true c.if-arrived-eq-RECEIVED.false) refl c.clear.ensures in
+    record { mark = q.0; packet = q.1 }
 
 pub returns : goal.returns
 returns c =

@@ -17,7 +17,7 @@ pub bounds-arrived-p : goal.bounds-arrived-p
 bounds-arrived-p c = omega (arith, c.requires.1.marks)
 
 pub overflow_mul-p : goal.overflow_mul-p
-overflow_mul-p c = let a = c.args in omega (arith, place-fits c.loop-p.p a.k a.s c.loop-p-test.true, c.requires.0.bytes, c.well-formed)
+overflow_mul-p c = let a = c.args in omega (arith, place-fits c.loop-p.p a.k a.s c.loop-p-test.true, c.requires.0.bytes, c.well_formed)
 
 pub enter-requires : goal.enter-requires
 enter-requires c =

@@ -11,7 +11,7 @@ pub overflow_add-at : goal.overflow_add-at
 overflow_add-at c = omega (arith, has-weights _ _ _ _ c.requires.0, few_words _ _ _ _ c.requires.0, has-weights _ _ _ _ c.requires.1, few_words _ _ _ _ c.requires.1)
 
 pub returns-then-not-same : goal.returns-then-not-same
-returns-then-not-same c = other-weights _ _ _ _ c.requires.0 c.requires.1 c.requires.2 (sym c.same.ensures ∙ not-true _ c.if-not-same.true-raw)
+returns-then-not-same c = other-weights _ _ _ _ c.requires.0 c.requires.1 c.requires.2 (sym c.same.ensures ∙ c.if-not-same.true)
 
 pub overflow_add-first : goal.overflow_add-first
 overflow_add-first c = omega (arith, has-weights _ _ _ _ c.requires.0, few_words _ _ _ _ c.requires.0, has-weights _ _ _ _ c.requires.1, few_words _ _ _ _ c.requires.1)
@@ -34,5 +34,8 @@ slice_bounds-same-count-3 c = omega (arith, has-weights _ _ _ _ c.requires.0, fe
 pub offset_bounds-new-start : goal.offset_bounds-new-start
 offset_bounds-new-start c = omega (arith, has-weights _ _ _ _ c.requires.0, few_words _ _ _ _ c.requires.0, has-weights _ _ _ _ c.requires.1, few_words _ _ _ _ c.requires.1)
 
+pub slice_bounds-same-end-4 : goal.slice_bounds-same-end-4
+slice_bounds-same-end-4 c = omega (arith, room _ _ _ _ c.requires.0 c.requires.1 c.requires.2 (sym c.same.ensures ∙ c.if-not-same.false))
+
 pub returns : goal.returns
-returns c = places-tell _ _ _ _ c.requires.0 c.requires.1 c.requires.2 _ (sym c.same.ensures ∙ not-false _ c.if-not-same.false-raw) c.same-2.ensures
+returns c = places-tell _ _ _ _ c.requires.0 c.requires.1 c.requires.2 _ (sym c.same.ensures ∙ c.if-not-same.false) c.same-2.ensures

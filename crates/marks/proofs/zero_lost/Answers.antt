@@ -5,10 +5,10 @@ use Rattle.erasure.specs.Restoring.{zero_lost}
 use Rattle.marks.proofs.BlockLaws.{zero_from, cleared-hit, cleared-miss, cleared-end}
 use Prim.Native.Nat.{◌-◌, ◌*◌, ◌≤◌}
 use mathlib.Core.Path.{◌≡◌, refl, sym, ap, ◌∙◌}
-use mathlib.Core.Logic.{⊎_elim}
 use native.Mathlib.Omega.{arith}
 use lib.ListN.{length}
 use Rattle.marks.proofs.zero_lost.Goals as goal
+use Rattle.marks.proofs.zero_lost.Goals.{then-map-p-eq1, else-map-p-eq1}
 
 pub loop-p-init : goal.loop-p-init
 loop-p-init c = (omega arith, c.requires.0, refl)
@@ -17,7 +17,7 @@ pub overflow_mul-p : goal.overflow_mul-p
 overflow_mul-p c =
     let a = c.args in
     let s = c.loop-p in
-    omega (arith, place-fits s.p a.n a.s c.loop-p-test.true, c.requires.0, c.well-formed.0.0)
+    omega (arith, place-fits s.p a.n a.s c.loop-p-test.true, c.requires.0, c.well_formed.0.0)
 
 pub clear-requires : goal.clear-requires
 clear-requires c =
@@ -31,11 +31,10 @@ loop-p-preserved c =
     let a = c.args in
     let s = c.loop-p in
     let more = c.loop-p-test.true in
-    ⊎_elim
-    (λ w. let z = cleared-hit a.s a.n a.map.now s.block s.invariant.1 c.requires.1 s.p more c.if-map-p-eq1.block (w.5 ∙ w.2.ensures) w.0.taken in
-    (omega arith, z.0, s.invariant.2 ∙ z.1))
-    (λ w. let e = w.1 in (omega arith, rw e s.invariant.1, s.invariant.2 ∙ rw e (cleared-miss a.s a.n a.map.now s.block s.invariant.1 c.requires.1 s.p more w.0.left)))
-    c.if-map-p-eq1.branch
+    elim c.if-map-p-eq1.branch [
+    | then-map-p-eq1 w ↦ let z = cleared-hit a.s a.n a.map.now s.block s.invariant.1 c.requires.1 s.p more c.if-map-p-eq1.block (w.block-is ∙ w.clear.ensures) w.if-map-p-eq1.true in
+    (omega arith, z.0, s.invariant.2 ∙ z.1)
+    | else-map-p-eq1 w ↦ let e = w.block-is in (omega arith, rw e s.invariant.1, s.invariant.2 ∙ rw e (cleared-miss a.s a.n a.map.now s.block s.invariant.1 c.requires.1 s.p more w.if-map-p-eq1.false)) ]
 
 pub shape_of-block : goal.shape_of-block
 shape_of-block c = c.loop-p.invariant.1 ∙ sym c.requires.0

@@ -33,7 +33,8 @@ repair_without-requires c =
     let done = c.restore_packets-done.ensures in
     let o = c.only_suspect.ensures in
     let is = ap place_of (sym c.in-Place.is) ∙ o.only in
-    (p.0, without-asks a.t.now a.block.now a.map.now p.1 _ _ _ done c.if-done.false a.m a.n a.s p.0 c.block-1.given _ is _ _ o.block o.map)
+    let w = without-asks a.t.now a.block.now a.map.now p.1 _ _ _ done c.if-done.false a.m a.n a.s p.0 c.block-1.given _ is _ _ o.block o.map in
+    record { table = p.0; fits = w.0; place = w.1.0; agrees = w.1.1 }
 
 pub returns-in-Nobody : goal.returns-in-Nobody
 returns-in-Nobody c =

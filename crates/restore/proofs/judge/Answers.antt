@@ -13,11 +13,11 @@ use Rattle.table.specs.ChecksLaws.{offset-none}
 use Rattle.table.specs.CodewordLaws.{sum-byte, sum-zero, sum-nonzero}
 use Prim.Native.Nat.{◌+◌, ◌-◌, ◌≤◌, ◌<◌}
 use mathlib.Core.Path.{◌≡◌, refl, sym, ap, ◌∙◌}
-use mathlib.Core.Logic.{⊎_elim}
 use native.Mathlib.Omega.{arith}
 use lib.Dec.{eqb}
 use lib.ListN.{length, drop}
 use Rattle.restore.proofs.judge.Goals as goal
+use Rattle.restore.proofs.judge.Goals.{then-to_sum+else-low-s, else-to_sum}
 
 pub overflow_add-at : goal.overflow_add-at
 overflow_add-at c = omega (arith, has-weights _ _ _ _ c.requires.0)
@@ -83,7 +83,7 @@ overflow_add-at-in-loop-j c =
     let p = c.requires in
     let s = c.loop-j in
     let f = check-fits c.args.t.now _ _ _ p.0 s.j c.loop-j-test.true _ _ s.invariant.1 c.wide-w.ensures in
-    omega (arith, f, c.well-formed)
+    omega (arith, f, c.well_formed)
 
 pub loop-j-preserved : goal.loop-j-preserved
 loop-j-preserved c =
@@ -98,11 +98,10 @@ loop-j-preserved c =
     let in_list : s.j < length (checks a.t.now) = rw (check-count a.t.now _ _ _ p.0) more in (
       omega arith,
       offset-more _ _ _ _ _ s.invariant.1 c.wide-w.ensures,
-      s.invariant.2 ∙ ⊎_elim
-          (λ u. fault-zero (none_lost a.map.now) a.s (packets a.s a.n a.block.now) (checks a.t.now) s.j in_list (ap (λ k. eqb k 0) (sym l ∙ c.to_sum.ensures.0 u.0.taken))
-          (sum-zero a.t.now a.block.now a.n a.s _ _ inside _ is _ u.1.ensures u.2.left))
-          (λ u. passed a.t.now a.m a.n a.s a.block.now a.map.now a.count.now a.used.now (checks a.t.now) s.j more in_list at p.3 p.4 (c.to_sum.ensures.1 u.left))
-          c.if-to_sum.branch,
+      s.invariant.2 ∙ elim c.if-to_sum.branch [
+          | then-to_sum+else-low-s u ↦ fault-zero (none_lost a.map.now) a.s (packets a.s a.n a.block.now) (checks a.t.now) s.j in_list (ap (λ k. eqb k 0) (sym l ∙ c.to_sum.ensures.0 u.if-to_sum.true))
+          (sum-zero a.t.now a.block.now a.n a.s _ _ inside _ is _ u.sum_of_check-low.ensures u.if-low-s.false)
+          | else-to_sum u ↦ passed a.t.now a.m a.n a.s a.block.now a.map.now a.count.now a.used.now (checks a.t.now) s.j more in_list at p.3 p.4 (c.to_sum.ensures.1 u.if-to_sum.false) ],
     )
 
 pub returns : goal.returns

@@ -41,8 +41,8 @@ returns-then-or_of-eq0 c =
     λ e.
     let z = c.or_of.ensures c.if-or_of-eq0.true ∙ l.invariant.1.0 in
     let r = l.invariant.1.1 z in
-    let q = eqb-true c.lowest-in-default.result (c.args.s - l.i) e in
-    omega (arith, r, q, c.lowest-in-default.ensures)
+    let q = eqb-true c.lowest_in_rest.result (c.args.s - l.i) e in
+    omega (arith, r, q, c.lowest_in_rest.ensures)
 
 pub returns : goal.returns
 returns c = λ e. absurd (false≢true e)

@@ -54,7 +54,7 @@ overflow_add-at-in-loop-j c =
     let p = c.requires in
     let s = c.loop-j in
     let f = check-fits c.args.t.now _ _ _ p.0 s.j c.loop-j-test.true _ _ s.invariant.1 c.wide-w.ensures in
-    omega (arith, f, c.well-formed)
+    omega (arith, f, c.well_formed)
 
 pub loop-j-preserved : goal.loop-j-preserved
 loop-j-preserved c =
