@@ -1,5 +1,6 @@
 // Whether the rows of an alist text agree with its columns, tile by tile.
 #![tactic(auto)]
+
 ghost use Rattle.std.specs.Prelude.{◌≡◌, min, ◌≤◌, ◌<◌, length};
 ghost use Rattle.tiles.specs.Board.{Blank, Decides};
 ghost use Rattle.tiles.specs.Tiles.{Agrees};

@@ -1,5 +1,6 @@
 // Reading alist text (document 02, C-15).
 #![tactic(auto)]
+
 ghost use Rattle.std.specs.Prelude.{◌≡◌, false, ◌<◌, length};
 ghost use Rattle.making.specs.Making.{make_answer_of};
 ghost use Rattle.alist.specs.Alist.{alist_read_answer, alist_read_table_after};

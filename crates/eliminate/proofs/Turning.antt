@@ -279,8 +279,8 @@ module _ {t : List ℕ} {m n s : ℕ} {b₀ lost w owner b : List ℕ} {k i at :
       others : {S R : List (ℕ × (ℕ → ℕ))} {r : ℕ × (ℕ → ℕ)} → Within (pair_group xor_group byte_group) S (r ∷ R) → Within (pair_group xor_group byte_group) S R
       others (more p w) = w
 
-      is_lost : is_lost lost (l - 1) ≡ true
-      is_lost = sum-lost lost (checks t) (down f n x) (l - 1) (span-row (lost_row lost) (λ c j. get_or (received_sum s (packets s n b₀) lost c) j 0) (checks t) (reduced-in byte_group f v n x acc z.within checks-in)) (d.bits.last hit)
+      lead-lost : is_lost lost (l - 1) ≡ true
+      lead-lost = sum-lost lost (checks t) (down f n x) (l - 1) (span-row (lost_row lost) (λ c j. get_or (received_sum s (packets s n b₀) lost c) j 0) (checks t) (reduced-in byte_group f v n x acc z.within checks-in)) (d.bits.last hit)
 
       -- a row more
       pub turn-hit : (at' : ℕ) → at' ≡ 5 + m + offset t (i + 1) → Takes t m n s b₀ lost e own b' (k + 1) (i + 1) at'
@@ -292,7 +292,7 @@ module _ {t : List ℕ} {m n s : ℕ} {b₀ lost w owner b : List ℕ} {k i at :
             owned = own-most o d hit lo (k + 1) (omega arith) (λ p. let h = z.owned p in omega arith);
             lead = lead_bits o d hit lo;
             lost-led = λ p h. by_bool (eqb p (l - 1))
-                (λ u. ap (is_lost lost) (eqb-true p (l - 1) u) ∙ is_lost)
+                (λ u. ap (is_lost lost) (eqb-true p (l - 1) u) ∙ lead-lost)
                 (λ u. z.lost-led p (subst (λ r. 0 < r) (own-other o d hit lo p (eqb-false p (l - 1) u)) h));
             bytes = ap length put ∙ bytes-set s n b z.bytes (l - 1) (row_sum s n lost c f b) inside sum-long;
             kept = λ p h u. by_bool (eqb p (l - 1))

@@ -1,6 +1,7 @@
 // Elimination over the lost places of a block, the checks: every check's lost places as a row, reduced by the rows taken before it, with the sum of its
 // packets. A row's sum stands in the block at the row's highest place, which is lost.
 #![tactic(auto)]
+
 ghost use Rattle.std.specs.Prelude.{◌≡◌, [], ℕ, ◌+◌, ◌*◌, ◌≤◌, length, get_or, take, drop, replicate};
 ghost use Rattle.table.specs.Accepted.{Accepted};
 ghost use Rattle.table.specs.Checks.{Places};

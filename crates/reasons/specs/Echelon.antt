@@ -104,12 +104,12 @@ module _ {f : ℕ → ℕ} (l : Lead f) (n x : ℕ) (sh : Short n x) where
 leads-lead : (n : ℕ) {f : ℕ → ℕ} → Lead f → {R : List ℕ} → All (Short n) R → Lead (leads_of n f R)
 unfolding leads_of
 leads-lead n l nil = l
-leads-lead n l (cons {x = r} s a) = leads-lead n (insert-lead l n r s) a
+leads-lead n {f = f} l (cons {x = r} s a) = leads-lead n {f = insert n f r} (insert-lead l n r s) a
 
 leads-out : (n : ℕ) {f : ℕ → ℕ} → Lead f → {R : List ℕ} → All (Short n) R → Within xor_group (rows_of (leads_of n f R) n) (rows_of f n) × Within xor_group (rows_of (leads_of n f R) n) R
 unfolding leads_of
 leads-out n {f} l nil = (within-self xor_group (rows_of f n), wnil)
-leads-out n {f} l (cons {x = r} {l = R} s a) = let ih = leads-out n (insert-lead l n r s) a in two (within-trans xor_group ih.0 (insert-out l n r s)) ih.1
+leads-out n {f = f} l (cons {x = r} {l = R} s a) = let ih = leads-out n {f = insert n f r} (insert-lead l n r s) a in two (within-trans xor_group ih.0 (insert-out l n r s)) ih.1
   where
     two : {S : List ℕ} → Within xor_group S (r ∷ rows_of f n) → Within xor_group S R → Within xor_group S (rows_of f n) × Within xor_group S (r ∷ R)
     two (more p w) v = (w, more p v)
@@ -117,7 +117,7 @@ leads-out n {f} l (cons {x = r} {l = R} s a) = let ih = leads-out n (insert-lead
 leads-in : (n : ℕ) {f : ℕ → ℕ} → Lead f → {R : List ℕ} → All (Short n) R → (S : List ℕ) → Within xor_group S (rows_of f n) → Within xor_group S R → Within xor_group S (rows_of (leads_of n f R) n)
 unfolding leads_of
 leads-in n l nil S w v = w
-leads-in n l (cons {x = r} s a) S w (more p v) = leads-in n (insert-lead l n r s) a S (insert-in l n r s S p w) v
+leads-in n {f = f} l (cons {x = r} s a) S w (more p v) = leads-in n {f = insert n f r} (insert-lead l n r s) a S (insert-in l n r s S p w) v
 
 -- from no rows
 none-lead : Lead (λ q. 0)

@@ -1,5 +1,6 @@
 // The tables' library for C: both ends make the same table from the same parameters, or from alist text, and write it as text again.
 #![tactic(auto)]
+
 ghost use Rattle.std.specs.Prelude.{◌≡◌};
 ghost use Rattle.staircase.specs.Staircase.{staircase_answer, staircase_table_after};
 ghost use Rattle.alist.specs.Alist.{alist_read_answer, alist_read_table_after};

@@ -1,10 +1,8 @@
 -- `band_agrees` meets its contract.
-use mathlib.Core.Path.{◌≡◌, refl, sym, ◌∙◌, subst}
+use mathlib.Core.Path.{refl, sym, ◌∙◌, subst}
 use mathlib.Core.Bool.{false≢true, true≢false}
-use mathlib.Core.List.{List}
-use Prim.Native.Nat.{ℕ, ◌-◌, ◌≤◌}
 use native.Mathlib.Omega.{arith}
-use lib.ListN.{length, drop}
+use lib.ListN.{drop}
 use lib.Seq.{drop-drop}
 use borrow.Author.Tests.{not-true, not-false}
 use lib.Seq.{drop-drop}
@@ -12,9 +10,8 @@ use borrow.Author.Tests.{not-true, not-false}
 use lib.Seq.{drop-drop}
 use borrow.Author.Tests.{not-true, not-false}
 use Rattle.numbers.specs.Cursor.{Ahead}
-use Rattle.walks.specs.Walks.{after, list_at, ListsAhead}
+use Rattle.walks.specs.Walks.{after, list_at}
 use Rattle.walks.specs.WalksLaws.{after_more, lists-from, list-from}
-use Rattle.tiles.specs.Board.{Blank, BandAgrees}
 use Rattle.agreeing.proofs.Tile.{tile-blank, blank-tile, band-tile, tile-band}
 use Rattle.agreeing.proofs.band_agrees.Goals as goal
 
@@ -37,7 +34,9 @@ pub shape_of-board-then-not-is_blank : goal.shape_of-board-then-not-is_blank
 shape_of-board-then-not-is_blank c = let s = c.loop-c in c.flip_lists.ensures.len ∙ c.flip_lists-ends.ensures.len ∙ s.invariant.1
 
 pub returns-then-not-is_blank : goal.returns-then-not-is_blank
-returns-then-not-is_blank c = let s = c.loop-c in let a = c.args in record { len = c.flip_lists.ensures.len ∙ c.flip_lists-ends.ensures.len ∙ s.invariant.1; agrees = λ z ws l vs q g h.
+returns-then-not-is_blank c = let s = c.loop-c in let a = c.args in record {
+  len = c.flip_lists.ensures.len ∙ c.flip_lists-ends.ensures.len ∙ s.invariant.1;
+  agrees = λ z ws l vs q g h.
       let y = s.invariant.3 z ws l vs q g h in
       let e = c.lesser-span.ensures in
       let sub = lists-from g s.c c.lesser-span.result (omega arith) y.0 y.1 in
@@ -49,7 +48,8 @@ returns-then-not-is_blank c = let s = c.loop-c in let a = c.args in record { len
               (band-tile a.r a.k s.c c.lesser-span.result (list_at a.a ws l) (list_at a.a (drop s.c ws) (after s.c a.a l)) (list_at a.b vs q) (λ j. list-from s.c j a.a ws l) a.n (omega arith) p))) ∙ not-true _ c.if-not-is_blank.true-raw));
         },
         λ t. absurd (false≢true t),
-      ) }
+      );
+}
 
 pub overflow_add-c : goal.overflow_add-c
 overflow_add-c c = let e = c.lesser-span.ensures in omega arith

@@ -1,21 +1,11 @@
 -- `band_agrees` meets its contract.
-use mathlib.Core.Path.{◌≡◌, refl, sym, ◌∙◌, subst}
-use mathlib.Core.Bool.{false≢true, true≢false}
+use mathlib.Core.Path.{◌≡◌}
 use mathlib.Core.List.{List}
 use Prim.Native.Nat.{ℕ, ◌-◌, ◌≤◌}
-use native.Mathlib.Omega.{arith}
 use lib.ListN.{length, drop}
-use lib.Seq.{drop-drop}
-use borrow.Author.Tests.{not-true, not-false}
-use lib.Seq.{drop-drop}
-use borrow.Author.Tests.{not-true, not-false}
-use lib.Seq.{drop-drop}
-use borrow.Author.Tests.{not-true, not-false}
 use Rattle.numbers.specs.Cursor.{Ahead}
 use Rattle.walks.specs.Walks.{after, list_at, ListsAhead}
-use Rattle.walks.specs.WalksLaws.{after_more, lists-from, list-from}
 use Rattle.tiles.specs.Board.{Blank, BandAgrees}
-use Rattle.agreeing.proofs.Tile.{tile-blank, blank-tile, band-tile, tile-band}
 use Rattle.agreeing.proofs.band_agrees.Given as goal
 
 abbrev pub invariant-loop-c : goal.invariant-loop-c

@@ -1,11 +1,10 @@
 -- `lists_agree` meets its contract.
-use mathlib.Core.Path.{◌≡◌, refl, sym, ◌∙◌, subst}
+use mathlib.Core.Path.{refl, sym, ◌∙◌, subst}
 use mathlib.Core.Bool.{false≢true, true≢false}
-use mathlib.Core.List.{List}
-use Prim.Native.Nat.{ℕ, ◌-◌, ◌*◌, ◌≤◌}
+use Prim.Native.Nat.{◌*◌, ◌≤◌}
 use native.Mathlib.Nat.{mul-le-mul}
 use native.Mathlib.Omega.{arith}
-use lib.ListN.{length, drop}
+use lib.ListN.{drop}
 use lib.Seq.{drop-drop}
 use borrow.Author.Tests.{not-true, not-false}
 use lib.Seq.{drop-drop}
@@ -13,9 +12,8 @@ use borrow.Author.Tests.{not-true, not-false}
 use lib.Seq.{drop-drop}
 use borrow.Author.Tests.{not-true, not-false}
 use Rattle.numbers.specs.Cursor.{Ahead}
-use Rattle.walks.specs.Walks.{after, list_at, ListsAhead}
+use Rattle.walks.specs.Walks.{after, list_at}
 use Rattle.walks.specs.WalksLaws.{after_more, after_is, room-all, lists-from, list-from}
-use Rattle.tiles.specs.Board.{Blank, BandAgrees}
 use Rattle.agreeing.proofs.Tile.{rows-band, band-rows}
 use Rattle.agreeing.proofs.lists_agree.Goals as goal
 
@@ -32,7 +30,9 @@ pub shape_of-board-then-not-band_agrees : goal.shape_of-board-then-not-band_agre
 shape_of-board-then-not-band_agrees c = c.band_agrees.ensures.len ∙ c.loop-r.invariant.1
 
 pub returns-then-not-band_agrees : goal.returns-then-not-band_agrees
-returns-then-not-band_agrees c = let s = c.loop-r in let a = c.args in record { len = c.band_agrees.ensures.len ∙ s.invariant.1; agrees = λ z ws l vs q g h.
+returns-then-not-band_agrees c = let s = c.loop-r in let a = c.args in record {
+  len = c.band_agrees.ensures.len ∙ s.invariant.1;
+  agrees = λ z ws l vs q g h.
       let y = s.invariant.2 z ws l vs q g h in
       let e = c.lesser-k.ensures in
       let sub = lists-from h s.r c.lesser-k.result (omega arith) y.1 y.2 in
@@ -42,7 +42,8 @@ returns-then-not-band_agrees c = let s = c.loop-r in let a = c.args in record { 
           no = λ p. absurd (true≢false (sym (d.0.no (rows-band a.n s.r c.lesser-k.result a.m (list_at a.a ws l) (list_at a.b vs q) (list_at a.b (drop s.r vs) (after s.r a.b q)) (λ i. list-from s.r i a.b vs q) (omega arith) p)) ∙ not-true _ c.if-not-band_agrees.true-raw));
         },
         λ t. absurd (false≢true t),
-      ) }
+      );
+}
 
 pub skip_numbers-weight-requires : goal.skip_numbers-weight-requires
 skip_numbers-weight-requires c = tt

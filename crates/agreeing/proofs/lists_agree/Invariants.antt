@@ -1,22 +1,11 @@
 -- `lists_agree` meets its contract.
-use mathlib.Core.Path.{◌≡◌, refl, sym, ◌∙◌, subst}
-use mathlib.Core.Bool.{false≢true, true≢false}
+use mathlib.Core.Path.{◌≡◌}
 use mathlib.Core.List.{List}
-use Prim.Native.Nat.{ℕ, ◌-◌, ◌*◌, ◌≤◌}
-use native.Mathlib.Nat.{mul-le-mul}
-use native.Mathlib.Omega.{arith}
+use Prim.Native.Nat.{ℕ, ◌-◌, ◌≤◌}
 use lib.ListN.{length, drop}
-use lib.Seq.{drop-drop}
-use borrow.Author.Tests.{not-true, not-false}
-use lib.Seq.{drop-drop}
-use borrow.Author.Tests.{not-true, not-false}
-use lib.Seq.{drop-drop}
-use borrow.Author.Tests.{not-true, not-false}
 use Rattle.numbers.specs.Cursor.{Ahead}
 use Rattle.walks.specs.Walks.{after, list_at, ListsAhead}
-use Rattle.walks.specs.WalksLaws.{after_more, after_is, room-all, lists-from, list-from}
 use Rattle.tiles.specs.Board.{Blank, BandAgrees}
-use Rattle.agreeing.proofs.Tile.{rows-band, band-rows}
 use Rattle.agreeing.proofs.lists_agree.Given as goal
 
 abbrev pub invariant-loop-r : goal.invariant-loop-r

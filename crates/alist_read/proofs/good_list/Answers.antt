@@ -11,7 +11,6 @@ use Rattle.lists.specs.Lists.{all_pass}
 use Rattle.numbers.specs.Cursor.{Ahead}
 use Rattle.tiles.specs.BoardLaws.{blank-again}
 use Rattle.alist_read.proofs.Lists.{good-is}
-use borrow.Author.Rules.{rules}
 use Rattle.alist_read.proofs.good_list.Goals as goal
 
 pub returns-then-width-weight : goal.returns-then-width-weight
@@ -21,16 +20,21 @@ pub shape_of-board-then-not-mark : goal.shape_of-board-then-not-mark
 shape_of-board-then-not-mark c = c.mark.ensures.len
 
 pub returns-then-not-mark : goal.returns-then-not-mark
-returns-then-not-mark c = let a = c.args in let f = c.bad-then-not-mark.ensures in record { len = c.mark.ensures.len; good = λ z l e h k. let m = c.mark.ensures.marks z l e (omega arith) in (
+returns-then-not-mark c = let a = c.args in let f = c.bad-then-not-mark.ensures in record {
+  len = c.mark.ensures.len;
+  good = λ z l e h k. let m = c.mark.ensures.marks z l e (omega arith) in (
     f ∙ sym (good-is a.most a.weight a.width l k ∙ ap (λ t. t && all_pass (λ x. eqb x 0) (take (a.width - a.weight) (drop a.weight l))) (sym m.0 ∙ not-true _ c.if-not-mark.true-raw)),
     λ t. absurd (false≢true (sym f ∙ t)),
-  ) }
+  );
+}
 
 pub shape_of-board : goal.shape_of-board
 shape_of-board c = c.unmark-padding.ensures.len ∙ c.mark.ensures.len
 
 pub returns : goal.returns
-returns c = let a = c.args in record { len = c.unmark-padding.ensures.len ∙ c.mark.ensures.len; good = λ z l e h k. let m = c.mark.ensures.marks z l e (omega arith) in let u = c.unmark-padding.ensures.flips l e (omega arith) in let d = length-drop a.weight l in
+returns c = let a = c.args in record {
+  len = c.unmark-padding.ensures.len ∙ c.mark.ensures.len;
+  good = λ z l e h k. let m = c.mark.ensures.marks z l e (omega arith) in let u = c.unmark-padding.ensures.flips l e (omega arith) in let d = length-drop a.weight l in
       let y = c.all_zero.ensures (drop a.weight l) u.0 (omega arith) in
       let t = not-false _ c.if-not-mark.false-raw in
       let q : a.weight + (a.width - a.weight) ≡ a.width = omega arith in (
@@ -39,4 +43,5 @@ returns c = let a = c.args in record { len = c.unmark-padding.ensures.len ∙ c.
           subst (λ x. Ahead a.text.now c.skip_numbers.result x) (drop-drop (a.width - a.weight) a.weight l ∙ ap (λ x. drop x l) q) (c.skip_numbers.ensures (drop a.weight l) u.0 (omega arith)),
           blank-again z (m.1 t) u.1,
         ),
-      ) }
+      );
+}

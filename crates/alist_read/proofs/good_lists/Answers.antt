@@ -1,19 +1,16 @@
 -- `good_lists` meets its contract.
 use mathlib.Core.Path.{◌≡◌, refl, sym, ap, ◌∙◌, subst}
-use mathlib.Core.Bool.{true, false≢true, true≢false}
-use mathlib.Core.List.{List}
-use Prim.Native.Nat.{ℕ, ◌-◌, ◌≤◌, ◌<◌}
+use mathlib.Core.Bool.{false≢true, true≢false}
 use native.Mathlib.Numerals.{add-one}
 use native.Mathlib.Omega.{arith}
 use borrow.Author.Tests.{not-true, not-false, ltb-true, ltb-false}
 use lib.Dec.{ltb}
-use lib.ListN.{length, get_or, take, drop}
+use lib.ListN.{get_or, take}
 use Rattle.lists.specs.Tests.{by_bool}
 use Rattle.numbers.specs.Cursor.{Ahead}
 use Rattle.alist.specs.Alist.{good_list, good_lists, chunks}
-use Rattle.walks.specs.Walks.{after, ListsAhead}
+use Rattle.walks.specs.Walks.{after}
 use Rattle.walks.specs.WalksLaws.{weight_is, weight-next, weight-within}
-use Rattle.tiles.specs.Board.{Blank}
 use Rattle.alist_read.proofs.Lists.{good-all, good-each}
 use Rattle.alist_read.proofs.good_lists.Goals as goal
 
@@ -30,7 +27,9 @@ pub shape_of-board-then-not-list : goal.shape_of-board-then-not-list
 shape_of-board-then-not-list c = c.good_list-list.ensures.len ∙ c.loop-i.invariant.1
 
 pub returns-then-not-list : goal.returns-then-not-list
-returns-then-not-list c = let s = c.loop-i in let a = c.args in record { len = c.good_list-list.ensures.len ∙ s.invariant.1; good = λ z ws l g.
+returns-then-not-list c = let s = c.loop-i in let a = c.args in record {
+  len = c.good_list-list.ensures.len ∙ s.invariant.1;
+  good = λ z ws l g.
       let y = s.invariant.2 z ws l g in
       let x = weight_is g s.i (omega arith) c.read-spot.ensures y.1 in
       let w = weight-within g s.i _ (omega arith) x in
@@ -40,7 +39,8 @@ returns-then-not-list c = let s = c.loop-i in let a = c.args in record { len = c
             (λ t. absurd (true≢false (sym (good-each a.most a.count a.width ws l g.enough t s.i (omega arith)) ∙ sym f ∙ sym d.0 ∙ not-true _ c.if-not-list.true)))
             (λ t. sym t),
         λ t. absurd (false≢true t),
-      ) }
+      );
+}
 
 pub loop-i-preserved : goal.loop-i-preserved
 loop-i-preserved c = let s = c.loop-i in let a = c.args in (

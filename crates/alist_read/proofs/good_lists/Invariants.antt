@@ -1,20 +1,13 @@
 -- `good_lists` meets its contract.
-use mathlib.Core.Path.{◌≡◌, refl, sym, ap, ◌∙◌, subst}
-use mathlib.Core.Bool.{true, false≢true, true≢false}
+use mathlib.Core.Path.{◌≡◌}
+use mathlib.Core.Bool.{true}
 use mathlib.Core.List.{List}
 use Prim.Native.Nat.{ℕ, ◌-◌, ◌≤◌, ◌<◌}
-use native.Mathlib.Numerals.{add-one}
-use native.Mathlib.Omega.{arith}
-use borrow.Author.Tests.{not-true, not-false, ltb-true, ltb-false}
-use lib.Dec.{ltb}
 use lib.ListN.{length, get_or, take, drop}
-use Rattle.lists.specs.Tests.{by_bool}
 use Rattle.numbers.specs.Cursor.{Ahead}
-use Rattle.alist.specs.Alist.{good_list, good_lists, chunks}
+use Rattle.alist.specs.Alist.{good_list}
 use Rattle.walks.specs.Walks.{after, ListsAhead}
-use Rattle.walks.specs.WalksLaws.{weight_is, weight-next, weight-within}
 use Rattle.tiles.specs.Board.{Blank}
-use Rattle.alist_read.proofs.Lists.{good-all, good-each}
 use Rattle.alist_read.proofs.good_lists.Given as goal
 
 abbrev pub invariant-loop-i : goal.invariant-loop-i

@@ -1,6 +1,6 @@
 -- `make` meets its contract.
 use mathlib.Core.Path.{sym, ap, ◌∙◌, subst}
-use Prim.Native.Nat.{◌-◌, ◌*◌, ◌≤◌, ◌<◌}
+use Prim.Native.Nat.{◌*◌, ◌≤◌, ◌<◌}
 use native.Mathlib.Omega.{arith}
 use lib.ListN.{drop}
 use Rattle.making.specs.FitsLaws.{inside}
@@ -11,7 +11,6 @@ use Rattle.bits.specs.Row.{rows_in}
 use Rattle.alist_read.specs.Reading.{whole}
 use Rattle.alist_read.proofs.Answering.{answer-as, answer-2, answer-3, answer-5, answer-made, wrote_as}
 use Rattle.alist_read.proofs.Lists.{checks-loaded}
-use borrow.Author.Rules.{rules}
 use Rattle.alist_read.proofs.make.Goals as goal
 
 pub returns-then-beyond : goal.returns-then-beyond

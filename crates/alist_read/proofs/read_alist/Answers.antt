@@ -1,9 +1,7 @@
 -- `read_alist` meets its contract.
 use mathlib.Core.Path.{refl}
-use Prim.Native.Nat.{◌-◌}
 use Rattle.lists.specs.ListLaws.{get_d-zeros}
 use Rattle.tiles.specs.BoardLaws.{words-blank}
-use borrow.Author.Rules.{rules}
 use Rattle.alist_read.proofs.read_alist.Goals as goal
 
 pub read_in-requires : goal.read_in-requires

@@ -1,9 +1,7 @@
 -- `read_in` meets its contract.
-use Prim.Native.Nat.{◌-◌}
 use borrow.Author.Tests.{not-true, not-false}
 use Rattle.numbers.specs.Numbers.{numbers_in}
 use Rattle.alist_read.proofs.Answering.{answer-as, answer-12, none_read, few-read, four-read}
-use borrow.Author.Rules.{rules}
 use Rattle.alist_read.proofs.read_in.Goals as goal
 
 pub returns-then-not-all : goal.returns-then-not-all

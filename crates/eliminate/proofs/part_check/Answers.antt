@@ -1,18 +1,15 @@
 -- `eliminate::part_check` meets its contract: the first i places are parted.
-use Prim.Native.Nat.{◌+◌, ◌-◌, ◌<◌, ◌≤◌}
+use Prim.Native.Nat.{◌+◌, ◌<◌}
 use mathlib.Core.Path.{◌≡◌, refl, sym, ap, ◌∙◌}
-use mathlib.Core.Logic.{⊎_elim}
 use native.Mathlib.Omega.{arith}
-use lib.ListN.{length, take, drop}
+use lib.ListN.{length}
 use borrow.Author.Tests.{eq-eqb, ne_eqb}
-use Rattle.bits.specs.Front.{Front, front-none, front_length}
-use Rattle.bits.specs.Row.{RowPut}
+use Rattle.bits.specs.Front.{front-none, front_length}
 use Rattle.bits.specs.RowLaws.{put-put, put_is, put_self}
 use Rattle.erasure.specs.Restoring.{is_lost}
-use Rattle.decided.specs.Decided.{lost_row}
-use Rattle.eliminate.specs.Eliminating.{received_places}
 use Rattle.eliminate.proofs.Parting.{flipped, not_noted, noted as noted_more, not-flipped}
 use Rattle.eliminate.proofs.part_check.Goals as goal
+use Rattle.eliminate.proofs.part_check.Goals.{then-map-q-eq1, else-map-q-eq1}
 
 pub loop-i-init : goal.loop-i-init
 loop-i-init c = (omega arith, omega arith, put_is (put_self _ _) c.clear.ensures.here, front-none _)
@@ -44,22 +41,22 @@ loop-i-preserved c =
     let q = c.wide-q in
     let inside : c.args.at + l.i < length c.args.t.now = let r = c.requires.1.room in omega arith in
     let room = c.requires.3 in
-    ⊎_elim
-    (λ u.
-    let lost = eq-eqb _ 1 u.0.taken in (
-      omega arith,
-      rw u.7 (omega arith),
-      rw u.5 (flipped c.args.map.now c.args.t.now c.args.at l.i q.result inside q.ensures lost l.invariant.2 u.2.ensures),
-      rw (u.6, u.7) (not_noted c.args.map.now c.args.t.now c.args.at l.i q.result inside q.ensures lost l.invariant.3),
-    ))
-    (λ u.
-    let known = ap (is_lost c.args.map.now) (sym q.ensures) ∙ ne_eqb _ 1 u.0.left in (
-      omega arith,
-      rw u.3 (omega arith),
-      rw u.1 (not-flipped c.args.map.now c.args.t.now c.args.at l.i _ inside refl known l.invariant.2),
-      rw (u.2, u.3) (noted_more c.args.map.now c.args.t.now c.args.at l.i _ inside refl known l.invariant.3 (omega arith)),
-    ))
-    c.if-map-q-eq1.branch
+    elim c.if-map-q-eq1.branch [
+      | then-map-q-eq1 u ↦
+          let lost = eq-eqb _ 1 u.if-map-q-eq1.true in (
+            omega arith,
+            rw u.k-is (omega arith),
+            rw u.w-is (flipped c.args.map.now c.args.t.now c.args.at l.i q.result inside q.ensures lost l.invariant.2 u.flip.ensures),
+            rw (u.noted-is, u.k-is) (not_noted c.args.map.now c.args.t.now c.args.at l.i q.result inside q.ensures lost l.invariant.3),
+          )
+      | else-map-q-eq1 u ↦
+          let known = ap (is_lost c.args.map.now) (sym q.ensures) ∙ ne_eqb _ 1 u.if-map-q-eq1.false in (
+            omega arith,
+            rw u.k-is (omega arith),
+            rw u.w-is (not-flipped c.args.map.now c.args.t.now c.args.at l.i _ inside refl known l.invariant.2),
+            rw (u.noted-is, u.k-is) (noted_more c.args.map.now c.args.t.now c.args.at l.i _ inside refl known l.invariant.3 (omega arith)),
+          )
+    ]
 
 pub shape_of-w : goal.shape_of-w
 shape_of-w c = c.loop-i.invariant.2.len ∙ c.clear.ensures.len

@@ -1,16 +1,16 @@
 -- `eliminate::take_all` meets its contract: `Takes` holds at each turn.
-use Prim.Native.Nat.{◌*◌, ◌-◌, ◌<◌, ◌≤◌}
+use Prim.Native.Nat.{ℕ, ◌*◌, ◌<◌, ◌≤◌}
 use mathlib.Core.Path.{◌≡◌, refl, sym, ap, subst, ◌∙◌}
 use mathlib.Core.Bool.{true, false, false≢true}
-use mathlib.Core.Logic.{⊎_elim}
 use native.Mathlib.Omega.{arith}
 use lib.ListN.{length, length-set}
 use Rattle.table.specs.Accepted.{few-places, few-checks, has-weights, light, check-count, places-at, check-is, check-fits, offset-more}
 use Rattle.table.specs.Table.{checks}
 use Rattle.eliminate.specs.Eliminating.{Eliminated}
 use Rattle.eliminate.specs.EliminatingLaws.{checks-low}
-use Rattle.eliminate.proofs.Turning.{Takes, start, owners, still-known, turn-clash, turn-same, turn-miss, turn-hit, same_block, done}
+use Rattle.eliminate.proofs.Turning.{start, owners, still-known, turn-clash, turn-same, turn-miss, turn-hit, same_block, done}
 use Rattle.eliminate.proofs.take_all.Goals as goal
+use Rattle.eliminate.proofs.take_all.Goals.{then-l-gt0, else-l-gt0}
 
 pub overflow_add-at : goal.overflow_add-at
 overflow_add-at c =
@@ -94,36 +94,26 @@ returns-then-r c =
     (λ h. turn-clash l.invariant.4 rows p.room.0 low checks-more d hit.0 hit.1))
 
 -- a row more: its number and its lead are in range
-in-range : (c : tie.Then2 invariant-loop decreases-loop) → (c.loop-i.k < 512) × (0 < c.take_check-r.result.lead) × (c.take_check-r.result.lead ≤ length c.loop-i.owner)
-in-range c =
-    let l = c.loop-i in
-    let p = c.requires in
-    let less = c.loop-i-test.true in
-    let few = l.invariant.4.few in
-    let most = few-checks _ _ _ _ p.table in
-    let own = l.invariant.2 in
-    let room = p.room.3 in
-    let lead = c.take_check-r.ensures.row.most in
-    let hit = c.if-l-gt0.true in
-    (omega arith, omega arith, omega arith)
+in-range : {k i m lead n own own' : ℕ} → k ≤ i → i < m → m ≤ 512 → own ≡ own' → n ≤ own' → lead ≤ n → 0 < lead → (k < 512) × (0 < lead) × (lead ≤ own)
+in-range a b c d e f g = (omega arith, omega arith, omega arith)
 
 pub overflow_add-owner : goal.overflow_add-owner
-overflow_add-owner c = let b = in-range c in omega arith
+overflow_add-owner c = let b = in-range c.loop-i.invariant.4.few c.loop-i-test.true (few-checks _ _ _ _ c.requires.table) c.loop-i.invariant.2 c.requires.room.3 c.take_check-r.ensures.row.most c.if-l-gt0.true in omega arith
 
 pub overflow_cast-owner : goal.overflow_cast-owner
-overflow_cast-owner c = let b = in-range c in omega arith
+overflow_cast-owner c = let b = in-range c.loop-i.invariant.4.few c.loop-i-test.true (few-checks _ _ _ _ c.requires.table) c.loop-i.invariant.2 c.requires.room.3 c.take_check-r.ensures.row.most c.if-l-gt0.true in omega arith
 
 pub overflow_sub-owner : goal.overflow_sub-owner
-overflow_sub-owner c = let b = in-range c in omega arith
+overflow_sub-owner c = let b = in-range c.loop-i.invariant.4.few c.loop-i-test.true (few-checks _ _ _ _ c.requires.table) c.loop-i.invariant.2 c.requires.room.3 c.take_check-r.ensures.row.most c.if-l-gt0.true in omega arith
 
 pub offset_bounds-owner-l : goal.offset_bounds-owner-l
-offset_bounds-owner-l c = let b = in-range c in omega arith
+offset_bounds-owner-l c = let b = in-range c.loop-i.invariant.4.few c.loop-i-test.true (few-checks _ _ _ _ c.requires.table) c.loop-i.invariant.2 c.requires.room.3 c.take_check-r.ensures.row.most c.if-l-gt0.true in omega arith
 
 pub bounds-owner-l : goal.bounds-owner-l
-bounds-owner-l c = let b = in-range c in omega arith
+bounds-owner-l c = let b = in-range c.loop-i.invariant.4.few c.loop-i-test.true (few-checks _ _ _ _ c.requires.table) c.loop-i.invariant.2 c.requires.room.3 c.take_check-r.ensures.row.most c.if-l-gt0.true in omega arith
 
 pub overflow_add-k : goal.overflow_add-k
-overflow_add-k c = let b = in-range c in omega arith
+overflow_add-k c = let b = in-range c.loop-i.invariant.4.few c.loop-i-test.true (few-checks _ _ _ _ c.requires.table) c.loop-i.invariant.2 c.requires.room.3 c.take_check-r.ensures.row.most c.if-l-gt0.true in omega arith
 
 pub overflow_add-at-in-loop-i : goal.overflow_add-at-in-loop-i
 overflow_add-at-in-loop-i c =
@@ -161,23 +151,23 @@ loop-i-preserved c =
     let next = offset-more _ _ l.i _ _ l.invariant.4.here wd in
     let long = d.put.len ∙ l1 in
     let noted = c.noted-in-loop-i-1.given in
-    ⊎_elim
-    (λ u. (
-      omega arith,
-      long,
-      ap length u.1 ∙ simp length-set own,
-      noted,
-      rw (u.1, u.2) (turn-hit l.invariant.4 rows p.room.0 low checks-more d u.0.taken (omega arith) (sm.stored u.0.taken) _ next),
-    ))
-    (λ u.
-    let zero : r.result.lead ≡ 0 = omega (arith, u.0.left) in (
-      omega arith,
-      long,
-      ap length u.1 ∙ own,
-      noted,
-      rw (u.1, u.2) (same_block (sm.kept zero) (turn-miss l.invariant.4 rows p.room.0 low checks-more d zero (sm.calm c.if-r.false zero) _ next)),
-    ))
-    c.if-l-gt0.branch
+    elim c.if-l-gt0.branch [
+      | then-l-gt0 u ↦ (
+        omega arith,
+        long,
+        ap length u.owner-is ∙ simp length-set own,
+        noted,
+        rw (u.owner-is, u.k-is) (turn-hit l.invariant.4 rows p.room.0 low checks-more d u.if-l-gt0.true (omega arith) (sm.stored u.if-l-gt0.true) _ next),
+      )
+      | else-l-gt0 u ↦
+          let zero : r.result.lead ≡ 0 = omega (arith, u.if-l-gt0.false) in (
+            omega arith,
+            long,
+            ap length u.owner-is ∙ own,
+            noted,
+            rw (u.owner-is, u.k-is) (same_block (sm.kept zero) (turn-miss l.invariant.4 rows p.room.0 low checks-more d zero (sm.calm c.if-r.false zero) _ next)),
+          )
+    ]
 
 pub shape_of-block : goal.shape_of-block
 shape_of-block c = c.loop-i.invariant.4.bytes ∙ sym c.requires.room.0

@@ -1,15 +1,8 @@
 -- `eliminate::take_all` meets its contract: `Takes` holds at each turn.
-use Prim.Native.Nat.{◌*◌, ◌-◌, ◌<◌, ◌≤◌}
-use mathlib.Core.Path.{◌≡◌, refl, sym, ap, subst, ◌∙◌}
-use mathlib.Core.Bool.{true, false, false≢true}
-use mathlib.Core.Logic.{⊎_elim}
-use native.Mathlib.Omega.{arith}
-use lib.ListN.{length, length-set}
-use Rattle.table.specs.Accepted.{few-places, few-checks, has-weights, light, check-count, places-at, check-is, check-fits, offset-more}
-use Rattle.table.specs.Table.{checks}
-use Rattle.eliminate.specs.Eliminating.{Eliminated}
-use Rattle.eliminate.specs.EliminatingLaws.{checks-low}
-use Rattle.eliminate.proofs.Turning.{Takes, start, owners, still-known, turn-clash, turn-same, turn-miss, turn-hit, same_block, done}
+use Prim.Native.Nat.{◌-◌, ◌≤◌}
+use mathlib.Core.Path.{◌≡◌}
+use lib.ListN.{length}
+use Rattle.eliminate.proofs.Turning.{Takes}
 use Rattle.eliminate.proofs.take_all.Given as goal
 
 abbrev pub invariant-loop-i : goal.invariant-loop-i

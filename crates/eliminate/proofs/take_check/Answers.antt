@@ -11,7 +11,6 @@ use Rattle.rows.specs.LeadsLaws.{lowered-as}
 use Rattle.table.specs.SumLaws.{places-low}
 use Rattle.eliminate.specs.EliminatingLaws.{noted_in}
 use Rattle.eliminate.proofs.Taking.{received-few, noted-few, reducible, path-as, noted-part, summed-low, whole, skipped, zero-lowered, judged, kept-sum}
-use borrow.Author.Rules.{rules}
 use Rattle.eliminate.proofs.take_check.Goals as goal
 
 pub part_check-have-requires : goal.part_check-have-requires
