@@ -1,3 +1,2 @@
 pub mod Aerials
 pub mod HeardLaws
-pub mod MergedLaws

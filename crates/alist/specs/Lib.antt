@@ -1,13 +1,10 @@
-pub mod Accepted
 pub mod Alist
 pub mod AlistLaws
 pub mod AlistLength
 pub mod AlistText
 pub mod Calls
-pub mod Cases
 pub mod Columns
 pub mod Parts
-pub mod RoundTrip
 pub mod Says
 pub mod Small
 pub mod TextLaws

@@ -15,7 +15,7 @@ use Rattle.numbers.specs.Counting.{Counts}
 use Rattle.numbers.specs.Cursor.{Ahead, Reads}
 use Rattle.numbers.specs.Numbers.{numbers_in}
 use Rattle.alist.specs.Alist.{column_count, row_count, is_alist, malformed, disagree, alist_checks, alist_read_refusal_at, alist_table}
-use Rattle.alist.specs.Cases.{malformed-is-12, not-alist-is-12, disagreeing-is-13, beyond-is-2, heavy-is-3, length-is-5, accepted-is-0}
+use Rattle.alist.proofs.Cases.{malformed-is-12, not-alist-is-12, disagreeing-is-13, beyond-is-2, heavy-is-3, length-is-5, accepted-is-0}
 use Rattle.alist_read.specs.Reading.{whole, sound, Answered}
 
 module _ (text : List ℕ) (s : ℕ) (b : List ℕ) where

@@ -11,7 +11,7 @@ use Rattle.table.specs.Table.{refusal}
 use Rattle.making.specs.Making.{make_answer_of, table_words}
 use Rattle.making.specs.MakingLaws.{Stands, made-refusal, made-stands}
 use Rattle.making.specs.declared.Made.{Made}
-use Rattle.alist.specs.Accepted.{read-accepted}
+use Rattle.alist.proofs.Accepted.{read-accepted}
 use Rattle.alist.specs.Alist.{alist_read_causes_of, alist_read_refusal_at, alist_read_refusal, alist_read_answer, alist_table, alist_read_table_after}
 use Rattle.numbers.specs.Numbers.{numbers_in}
 

@@ -11,7 +11,7 @@ use Rattle.table.specs.ByteLaws.{bytes-length, each_byte, bytes-packets}
 use Rattle.table.specs.ChecksLaws.{limits}
 use Rattle.table.specs.PacketLaws.{packets-joined}
 use Rattle.table.specs.Packets.{packets, joined, bytes_at}
-use Rattle.erasure.specs.EachByte.{zeros-each}
+use Rattle.erasure.proofs.EachByte.{zeros-each}
 use Rattle.erasure.specs.Restoring.{zero_lost}
 use Rattle.suspects.specs.Blame.{suspect}
 use Rattle.suspects.specs.EachByte.{not_narrow}

@@ -26,7 +26,7 @@ use Rattle.rule.specs.Rule.{Solved, put_in_all, reduced, owns, restricted, inver
 use Rattle.rule.specs.Buffers.{solved, mask_bits, Fitted}
 use Rattle.rule.specs.Inverse.{pow, res-bit-in}
 use Rattle.rule.specs.Choices.{Chooses, by_rule}
-use Rattle.rule.specs.AllChecksZero.{ts, az, E, C, F, same, own-zero, d_f, ind, good, lens}
+use Rattle.rule.proofs.AllChecksZero.{ts, az, E, C, F, same, own-zero, d_f, ind, good, lens}
 use Rattle.gf2.specs.Linear.{lin-comb}
 use Rattle.gf2.specs.RowValue.{val_on-lin, sum-ext-in}
 use Rattle.masks.specs.Dot.{dot}

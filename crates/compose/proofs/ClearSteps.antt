@@ -7,8 +7,8 @@ use lib.ListN.{length}
 use Rattle.lists.specs.ListLaws.{length-rev}
 use Rattle.lists.specs.Lists.{rev}
 use Rattle.plan.specs.Step.{add_steps}
-use Rattle.rule.specs.WithinLimits.{length-steps}
-use Rattle.rule.specs.Bound.{count-steps}
+use Rattle.rule.proofs.WithinLimits.{length-steps}
+use Rattle.rule.proofs.Bound.{count-steps}
 use Rattle.rule.specs.Count.{solving-clears, scratch-clears, fitting-clears}
 use Rattle.rule.specs.Rule.{Solved, plan_steps, fitted_places, inverse, reduced}
 use Rattle.compose.specs.Compose.{clear_count}

@@ -14,7 +14,7 @@ use Rattle.plan.specs.Head.{HeadFits}
 use Rattle.plan.specs.Layout.{most_steps, least_plan, least_numbers, plan_head, info_numbers, step_numbers, plan_numbers, info_count_at}
 use Rattle.plan.specs.Step.{add_steps}
 use Rattle.rule.specs.Choices.{by_rule}
-use Rattle.rule.specs.WithinLimits.{steps-limit, numbers-limit, kept-length}
+use Rattle.rule.proofs.WithinLimits.{steps-limit, numbers-limit, kept-length}
 use Rattle.rule.specs.Buffers.{solved, peeling}
 use Rattle.rule.specs.PlanOf.{plan_of, numbers_of, numbers_by, plan_of_by}
 use Rattle.rule.specs.Rule.{Solved, owns, plan_steps, fitted_places, solved_of, set_aside_of}

@@ -10,7 +10,7 @@ use Rattle.decided.specs.PeelingFirst.{word-exists}
 use Rattle.decided.specs.Words.{Word, Block}
 use Rattle.erasure.specs.Restoring.{is_lost, lost_places}
 use Rattle.erasure.specs.Passing.{none_passes}
-use Rattle.erasure.specs.TurnValues.{sum-agree}
+use Rattle.erasure.proofs.TurnValues.{sum-agree}
 use Rattle.gf2.specs.Gf2.{mask_for}
 use Rattle.lists.specs.ListLaws.{all_map, all-zip, all_get_d, map-all}
 use Rattle.lists.specs.Lists.{All}

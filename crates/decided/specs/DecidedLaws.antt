@@ -8,9 +8,9 @@ use Rattle.std.proofs.Math.Pow.{pow-lt}
 use Rattle.decided.specs.Decided.{lost_row, received_sum, decided, value, clashes}
 use Rattle.decided.specs.Packed.{list_of, list_of-length, list_of-all, some-view, clash-none, clash-some, split-sum}
 use Rattle.decided.specs.Words.{Word, Block}
-use Rattle.erasure.specs.OutcomeLaws.{zero_lost-sized}
+use Rattle.erasure.proofs.OutcomeLaws.{zero_lost-sized}
 use Rattle.erasure.specs.Restoring.{is_lost, zero_lost}
-use Rattle.erasure.specs.Values.{zero_lost-kept, zero_lost-zero, zero_lost-length}
+use Rattle.erasure.proofs.Values.{zero_lost-kept, zero_lost-zero, zero_lost-length}
 use Rattle.gf2.specs.EchelonLaws.{sums-complete}
 use Rattle.gf2.specs.Gf2.{bool_group, xor_group, sum_over, mask_for}
 use Rattle.gf2.specs.Group.{eq-zero, cancel}

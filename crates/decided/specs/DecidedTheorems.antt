@@ -9,7 +9,7 @@ use Rattle.decided.specs.DecidedLaws.{clash-no-word, decided-value}
 use Rattle.decided.specs.Packed.{list_of-length}
 use Rattle.decided.specs.PeeledLaws.{given, given-block}
 use Rattle.decided.specs.Words.{Word}
-use Rattle.erasure.specs.OutcomeLaws.{part-joined, tally-lost}
+use Rattle.erasure.proofs.OutcomeLaws.{part-joined, tally-lost}
 use Rattle.erasure.specs.Restoring.{is_lost, lost_places, tally, AgreeThere}
 use Rattle.erasure.specs.LostLaws.{none-lost}
 use Rattle.lists.specs.ListLaws.{all_append, all_take, all_drop, all_map}

@@ -7,8 +7,8 @@ use Rattle.decided.specs.Peeling.{stays-received, peeling-block, peeling-same}
 use Rattle.decided.specs.PeelingFirst.{word-exists, same-clashes, same-decided, same-value, restored-decided, restored-value}
 use Rattle.decided.specs.Words.{Block, Same}
 use Rattle.erasure.specs.Restoring.{is_lost, outcome, agreeing}
-use Rattle.erasure.specs.RestoringLaws.{restoring-same, restoring-mark}
-use Rattle.erasure.specs.Values.{received-kept, left-zero, no-contradiction}
+use Rattle.erasure.proofs.RestoringLaws.{restoring-same, restoring-mark}
+use Rattle.erasure.proofs.Values.{received-kept, left-zero, no-contradiction}
 use Rattle.lists.specs.ListLaws.{all_map, map_same}
 use Rattle.lists.specs.Numbers.{from_all}
 use Rattle.lists.specs.Tests.{by_bool}

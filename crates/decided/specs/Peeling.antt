@@ -2,10 +2,10 @@
 use Rattle.std.specs.Prelude.{◌≡◌, false, List, ℕ}
 use Rattle.std.proofs.Common.{sym, ◌∙◌, true≢false}
 use Rattle.decided.specs.Words.{Block, Same}
-use Rattle.erasure.specs.OutcomeLaws.{zero_lost-sized}
+use Rattle.erasure.proofs.OutcomeLaws.{zero_lost-sized}
 use Rattle.erasure.specs.Restoring.{is_lost, repaired}
-use Rattle.erasure.specs.RestoringLaws.{restoring-length, restoring-sized, restoring-within}
-use Rattle.erasure.specs.Values.{zero_lost-length, received-kept, restored}
+use Rattle.erasure.proofs.RestoringLaws.{restoring-length, restoring-sized, restoring-within}
+use Rattle.erasure.proofs.Values.{zero_lost-length, received-kept, restored}
 use Rattle.lists.specs.Tests.{by_bool}
 
 module _ (n s : ℕ) (cs b : List (List ℕ)) (lost : List ℕ) where

@@ -27,13 +27,13 @@ use Rattle.table.specs.Packets.{packets, joined, packet_sum}
 use Rattle.table.specs.Table.{checks}
 use Rattle.packets.specs.SetLaws.{packets-set, bytes-set}
 use Rattle.erasure.specs.Restoring.{is_lost, lost_places, zero_lost}
-use Rattle.erasure.specs.Values.{zero_lost-length, zero_lost-kept, zero_lost-zero}
+use Rattle.erasure.proofs.Values.{zero_lost-length, zero_lost-kept, zero_lost-zero}
 use Rattle.bits.specs.Row.{row}
 use Rattle.rows.specs.Leads.{leads, Owners, Lowered}
 use Rattle.rows.specs.LeadsLaws.{leads-none, named, leads-kept, owners-kept, owners-below, own-here, own-other, own-most, lead-here, lead-other, lead_bits}
 use Rattle.decided.specs.Decided.{lost_row, received_sum, clashes}
 use Rattle.decided.specs.EliminatedPairs.{byte_group, comb-row, pair_of, found-clash}
-use Rattle.erasure.specs.OutcomeLaws.{zero_lost-sized}
+use Rattle.erasure.proofs.OutcomeLaws.{zero_lost-sized}
 use Rattle.decided.specs.Words.{Block}
 use Rattle.eliminate.specs.Eliminating.{received_places, row_sum, sums_at, led_pairs, Eliminated}
 use Rattle.eliminate.specs.EliminatingLaws.{none-sum, sums-led, path-sum}

@@ -9,7 +9,7 @@ use Rattle.table.specs.PacketLaws.{packets-sized, joined_length}
 use Rattle.table.specs.Packets.{Packets, packets, joined, bytes_at}
 use Rattle.plan.specs.AtStart.{put-packets}
 use Rattle.plan.specs.ByteByByte.{runs-length, runs-packets}
-use Rattle.plan.specs.Bytes.{byte-by-byte, steps-below}
+use Rattle.plan.proofs.Bytes.{byte-by-byte, steps-below}
 use Rattle.plan.specs.Layout.{plan_places, plan_gap, info_count, info_in, slots}
 use Rattle.plan.specs.LayoutLaws.{well}
 use Rattle.plan.specs.Steps.{carry_out_all, at_start}

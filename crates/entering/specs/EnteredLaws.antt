@@ -5,7 +5,7 @@ use Rattle.entering.specs.Entering.{mark_of, packet_of, carried_mark, entry_at, 
 use Rattle.entering.specs.EntryLaws.{entry-missing, packet-sized, lost-zero, lost-is}
 use Rattle.erasure.specs.LostLaws.{is_lost_lem, lost-inside}
 use Rattle.erasure.specs.Offered.{Held}
-use Rattle.erasure.specs.PlaceByPlace.{part-sized, block-length, block-part}
+use Rattle.erasure.proofs.PlaceByPlace.{part-sized, block-length, block-part}
 use Rattle.erasure.specs.Restoring.{is_lost}
 use Rattle.lists.specs.Numbers.{map-from-at, each-length}
 use Rattle.lists.specs.Tests.{eqb-true}

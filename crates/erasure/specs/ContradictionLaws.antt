@@ -2,7 +2,7 @@
 use Rattle.std.specs.Prelude.{◌≡◌, refl, true, List, ℕ, eqb, length, replicate}
 use Rattle.std.proofs.Common.{ap}
 use Rattle.std.proofs.Math.Option.{Option, none, some}
-use Rattle.faults.specs.FaultLaws.{no-fault, none-fails, fails-none}
+use Rattle.faults.proofs.FaultLaws.{no-fault, none-fails, fails-none}
 use Rattle.faults.specs.Faults.{Fault, no_fault, check_of, byte_of}
 use Rattle.lists.specs.ListLaws.{all_map}
 use Rattle.lists.specs.Lists.{All}

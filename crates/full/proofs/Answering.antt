@@ -7,7 +7,7 @@ use native.Mathlib.Omega.{arith}
 use borrow.Author.Tests.{ne_eqb}
 use lib.Dec.{eqb, ltb}
 use lib.ListN.{length, replicate}
-use Rattle.erasure.specs.OldBytes.{zero-alike}
+use Rattle.erasure.proofs.OldBytes.{zero-alike}
 use Rattle.erasure.specs.Restoring.{zero_lost}
 use Rattle.full.specs.Deciding.{Decides}
 use Rattle.full.specs.Full.{FittingAll, clashing, full_refusal, full_answer_of, full_answer_at, full_refused, Answers}

@@ -10,9 +10,9 @@ use Rattle.decided.specs.Peeling.{stays-received}
 use Rattle.decided.specs.PeeledLaws.{peeled-clashes, peeled-block, peeled-map, still-zero, contradicted-clashes}
 use Rattle.eliminate.specs.Eliminating.{NoneLost, ZeroLost, Solves}
 use Rattle.erasure.specs.ContradictionLaws.{sums-of}
-use Rattle.erasure.specs.OutcomeLaws.{start-length, start-sized, outcome-length, outcome-sized}
+use Rattle.erasure.proofs.OutcomeLaws.{start-length, start-sized, outcome-length, outcome-sized}
 use Rattle.erasure.specs.Restoring.{zero_lost, is_lost, outcome, agreeing, block_if, map_if}
-use Rattle.erasure.specs.Values.{received-kept, zero_lost-kept}
+use Rattle.erasure.proofs.Values.{received-kept, zero_lost-kept}
 use Rattle.full.specs.Deciding.{Decides}
 use Rattle.full.specs.Full.{clashing}
 use Rattle.lists.specs.ListLaws.{all_map}

@@ -4,7 +4,7 @@ use Rattle.std.proofs.Common.{ap}
 use Rattle.decided.specs.Decided.{decided, value, clashes}
 use Rattle.decided.specs.DecidedTheorems.{none-agrees, one-agrees, all_have, decided-exactly}
 use Rattle.decided.specs.PeeledLaws.{beyond-peeling}
-use Rattle.erasure.specs.OfferedLaws.{agree-there}
+use Rattle.erasure.proofs.OfferedLaws.{agree-there}
 use Rattle.erasure.specs.Offered.{Fitting, Agree}
 use Rattle.erasure.specs.Restoring.{is_lost, outcome, AgreeThere}
 use Rattle.lists.specs.Lists.{All}

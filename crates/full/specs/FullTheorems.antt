@@ -10,12 +10,12 @@ use Rattle.decided.specs.Counted.{counted}
 use Rattle.decided.specs.Decided.{lost_row, decided, some_of, clashes_at, packet_after, mark_after, solved_block, solved_map}
 use Rattle.decided.specs.DecidedTheorems.{after-sums, after-part, after-right, after-whole}
 use Rattle.decided.specs.PeeledLaws.{calm-agrees, contradicted-clashes}
-use Rattle.erasure.specs.OfferedLaws.{bytes-all, byte_at, agree-there}
+use Rattle.erasure.proofs.OfferedLaws.{bytes-all, byte_at, agree-there}
 use Rattle.erasure.specs.Offered.{wrong_lengths, byte_over, Agree}
-use Rattle.erasure.specs.OldBytes.{old-bytes-cleared}
+use Rattle.erasure.proofs.OldBytes.{old-bytes-cleared}
 use Rattle.erasure.specs.LostLaws.{not-lost, is_lost_lem, no-lost}
-use Rattle.erasure.specs.OldRepair.{part-is as old-part, cleared-kept, cleared-zero}
-use Rattle.erasure.specs.OutcomeLaws.{tally-lost}
+use Rattle.erasure.proofs.OldRepair.{part-is as old-part, cleared-kept, cleared-zero}
+use Rattle.erasure.proofs.OutcomeLaws.{tally-lost}
 use Rattle.erasure.specs.Restoring.{is_lost, lost_places, zero_lost, tally, outcome, agreeing, block_if, map_if}
 use Rattle.full.specs.AgreeLaws.{clash-word, calm-one, has_value, exactly-decided, old-decided}
 use Rattle.full.specs.Full.{clashing, full_refusal, full_answer_at, full_answer, full_block_after, full_map_after, full_work_after, FittingAll, Possible, OneThere}

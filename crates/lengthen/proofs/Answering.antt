@@ -9,7 +9,7 @@ use lib.ListN.{length}
 use Rattle.entering.specs.Entering.{entered}
 use Rattle.erasure.specs.Offered.{Held}
 use Rattle.erasure.specs.Restoring.{agreeing, block_if, map_if, Counts, counts_if}
-use Rattle.faults.specs.FaultLaws.{no-fault}
+use Rattle.faults.proofs.FaultLaws.{no-fault}
 use Rattle.lengthen.specs.Lengthen.{start, lengthen_outcome, lengthen_fault, offer_causes, lengthen_refusal, Answers, LengthenFitting}
 use Rattle.lengthen.specs.LengthenLaws.{offer-refused, not_eight, agreed-refusal, contradicted-refusal, after-accepted, after-contradicted, zeroed-already}
 use Rattle.lengthen.specs.LengthenTheorems.{refused-lengthening}

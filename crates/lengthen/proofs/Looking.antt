@@ -7,7 +7,7 @@ use native.Mathlib.Omega.{arith}
 use lib.Dec.{ltb}
 use lib.ListN.{length, take}
 use Rattle.erasure.specs.Offered.{Held, wrong_lengths, byte_over}
-use Rattle.erasure.specs.OfferedLaws.{lengths-fit}
+use Rattle.erasure.proofs.OfferedLaws.{lengths-fit}
 use Rattle.lengthen.specs.Lengthen.{wrong_either, carried_over, own_causes, offer_causes}
 use Rattle.lengthen.specs.LengthenLaws.{at_own}
 use Rattle.lists.specs.Lists.{any_of}

@@ -4,12 +4,12 @@ use Rattle.std.specs.Prelude.{◌≡◌, refl, Bool, true, false, ◌&&◌, List
 use Rattle.std.proofs.Common.{sym, ap, ap₂, ◌∙◌, subst, ⊎_elim, arith, ltb-true, lt-ltb}
 use Rattle.entering.specs.EnteredLaws.{Lacking, lost-lacks, lacks-lost}
 use Rattle.entering.specs.EntryLaws.{carried-old, carried-new}
-use Rattle.erasure.specs.Largest.{stays-lost, largest-within}
+use Rattle.erasure.proofs.Largest.{stays-lost, largest-within}
 use Rattle.erasure.specs.LostLaws.{is_lost_lem, lost-inside}
 use Rattle.erasure.specs.Offered.{Held, Fitting, Agree}
-use Rattle.erasure.specs.OfferedLaws.{bytes-all, lost-byte, agree-there}
-use Rattle.erasure.specs.OldRepair.{RestoredBy, old-repair, word-agrees, word-values}
-use Rattle.erasure.specs.OutcomeLaws.{outcome-length, outcome-sized}
+use Rattle.erasure.proofs.OfferedLaws.{bytes-all, lost-byte, agree-there}
+use Rattle.erasure.proofs.OldRepair.{RestoredBy, old-repair, word-agrees, word-values}
+use Rattle.erasure.proofs.OutcomeLaws.{outcome-length, outcome-sized}
 use Rattle.erasure.specs.Restoring.{AgreeThere, outcome, agreeing, is_lost, Stopping, Largest}
 use Rattle.lengthen.specs.Carrying.{Carried, SoFar}
 use Rattle.lengthen.specs.FirstPackets.{first_of, first_part, first-codeword, first-agrees, so-far-agrees}

@@ -2,7 +2,7 @@
 use Rattle.std.specs.Prelude.{◌≡◌, List, [], ℕ, ◌*◌, ◌<◌, ◌≤◌, length, get_or, take, replicate}
 use Rattle.std.proofs.Common.{sym, ap, ◌∙◌, subst, ⊎_elim, mul-le-mul_right, arith, length-take-le}
 use Rattle.erasure.specs.Offered.{Held, Agree}
-use Rattle.erasure.specs.TurnValues.{sum-agree}
+use Rattle.erasure.proofs.TurnValues.{sum-agree}
 use Rattle.lengthen.specs.Carrying.{SoFar}
 use Rattle.lists.specs.ListLaws.{all_map, all-zip}
 use Rattle.lists.specs.Lists.{All}

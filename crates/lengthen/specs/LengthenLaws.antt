@@ -10,9 +10,9 @@ use Rattle.entering.specs.Entering.{carried_mark}
 use Rattle.entering.specs.EntryLaws.{carried-old, carried-new, entered-word}
 use Rattle.erasure.specs.LostLaws.{is_lost_lem}
 use Rattle.erasure.specs.Offered.{Held, wrong_lengths, handed_on, Agree}
-use Rattle.erasure.specs.OfferedLaws.{lengths-right, lengths-fit}
-use Rattle.erasure.specs.OldRepair.{cleared-kept, cleared-zero}
-use Rattle.erasure.specs.OutcomeLaws.{start-length, start-sized}
+use Rattle.erasure.proofs.OfferedLaws.{lengths-right, lengths-fit}
+use Rattle.erasure.proofs.OldRepair.{cleared-kept, cleared-zero}
+use Rattle.erasure.proofs.OutcomeLaws.{start-length, start-sized}
 use Rattle.erasure.specs.Restoring.{State, AgreeThere, block_if, is_lost}
 use Rattle.faults.specs.Faults.{Fault}
 use Rattle.lengthen.specs.Lengthen.{lengthen_answer_at, start, lengthen_outcome, lengthen_fault, wrong_either, own_causes, offer_causes, lengthen_refusal, lengthen_answer, lengthen_after, calm, LengthenFitting}

@@ -7,11 +7,11 @@ use Rattle.entering.specs.Entering.{Entry, entry, mark_of, packet_of, carried_ma
 use Rattle.entering.specs.EntryLaws.{carried-old, carried-new, entry_known, entry-arrived, entry-missing, entry-alike}
 use Rattle.erasure.specs.LostLaws.{is_lost_lem}
 use Rattle.erasure.specs.Offered.{Held, Agree, handed_on, wrong_lengths, byte_over}
-use Rattle.erasure.specs.OfferedLaws.{none-handed, lengths-fit}
-use Rattle.erasure.specs.OldRepair.{RestoredBy, old-repair, word-agrees}
-use Rattle.erasure.specs.OutcomeLaws.{outcome-length, outcome-sized, tally-fewer}
+use Rattle.erasure.proofs.OfferedLaws.{none-handed, lengths-fit}
+use Rattle.erasure.proofs.OldRepair.{RestoredBy, old-repair, word-agrees}
+use Rattle.erasure.proofs.OutcomeLaws.{outcome-length, outcome-sized, tally-fewer}
 use Rattle.erasure.specs.Restoring.{State, tally, none_lost, is_lost, outcome, contradicting, agreeing}
-use Rattle.faults.specs.FaultLaws.{some-fault, first-fault}
+use Rattle.faults.proofs.FaultLaws.{some-fault, first-fault}
 use Rattle.faults.specs.Faults.{Fault, FirstFault}
 use Rattle.lengthen.specs.Lengthen.{lengthen_answer_at, start, lengthen_outcome, lengthen_fault, lengthen_refusal, lengthen_answer, lengthen_after, calm, LengthenFitting}
 use Rattle.lengthen.specs.LengthenLaws.{agreed-refusal, contradicted-refusal, accepted-fits, contradicted-fits, after-accepted, after-contradicted, after-refused, start-block, start-map, entered-there}

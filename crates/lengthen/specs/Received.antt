@@ -5,8 +5,8 @@ use Rattle.entering.specs.EnteredLaws.{marks-length, mark-at, entered-length, en
 use Rattle.entering.specs.Entering.{Entry, mark_of, packet_of, carried_mark, entry_at, entered}
 use Rattle.entering.specs.EntryLaws.{carried-old, carried-new, by_cases}
 use Rattle.erasure.specs.Offered.{Held, Fitting, Agree}
-use Rattle.erasure.specs.OfferedLaws.{bytes-all, byte_at}
-use Rattle.erasure.specs.PlaceByPlace.{part-sized}
+use Rattle.erasure.proofs.OfferedLaws.{bytes-all, byte_at}
+use Rattle.erasure.proofs.PlaceByPlace.{part-sized}
 use Rattle.lengthen.specs.Carrying.{SoFar}
 use Rattle.lists.specs.ListLaws.{all_map, any_none, map-all}
 use Rattle.lists.specs.Numbers.{from_all}

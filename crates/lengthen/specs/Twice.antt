@@ -2,8 +2,8 @@
 use Rattle.std.specs.Prelude.{◌≡◌, refl, false, List, ℕ, zero, suc, ◌*◌, ◌<◌, ◌≤◌, eqb, length, get_or}
 use Rattle.std.proofs.Common.{sym, ap, ◌∙◌, subst, ⊎_elim, arith, ext_get_or}
 use Rattle.erasure.specs.Offered.{Held, Fitting, Agree}
-use Rattle.erasure.specs.OfferedLaws.{bytes-all, byte_at, agree-there}
-use Rattle.erasure.specs.OldBytes.{old-bytes}
+use Rattle.erasure.proofs.OfferedLaws.{bytes-all, byte_at, agree-there}
+use Rattle.erasure.proofs.OldBytes.{old-bytes}
 use Rattle.erasure.specs.Restoring.{AgreeThere, outcome, is_lost, State}
 use Rattle.lengthen.specs.AsIfFresh.{AsIfFresh, as-if-fresh, carried-again}
 use Rattle.lengthen.specs.Carrying.{Carried, SoFar, Grown}

@@ -6,7 +6,7 @@ use Rattle.lists.specs.Tests.{by_bool}
 use Rattle.table.specs.Table.{places, size, checks, refusal}
 use Rattle.table.specs.TableLaws.{accepted}
 use Rattle.plan.specs.Layout.{most_aside}
-use Rattle.rule.specs.WithinLimits.{kept-weight}
+use Rattle.rule.proofs.WithinLimits.{kept-weight}
 use Rattle.planning.specs.Planning.{plan_of, numbers_of, planning_refusal_at, least_plan, work_words, numbers_by, plan_of_by}
 use Rattle.planning.specs.PlanningLaws.{accepted-planning}
 use Rattle.theorems.specs.OwnPlan.{by_rule, own-info, own-steps, own-accepted}

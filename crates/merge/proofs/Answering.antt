@@ -9,16 +9,16 @@ use borrow.Author.Tests.{ne_eqb}
 use lib.Dec.{eqb, ltb}
 use lib.ListN.{length}
 use Rattle.aerials.specs.Aerials.{kinds, merged}
-use Rattle.aerials.specs.MergedLaws.{marks-of-kinds}
+use Rattle.aerials.proofs.MergedLaws.{marks-of-kinds}
 use Rattle.packets.specs.Filling.{Sized}
 use Rattle.erasure.specs.Offered.{Held, wrong_lengths, byte_over}
-use Rattle.erasure.specs.OfferedLaws.{bytes-all, none-handed}
-use Rattle.erasure.specs.OutcomeLaws.{tally-two}
+use Rattle.erasure.proofs.OfferedLaws.{bytes-all, none-handed}
+use Rattle.erasure.proofs.OutcomeLaws.{tally-two}
 use Rattle.erasure.specs.Restoring.{Counts, tally, agreeing, counts_if, block_if, map_if}
-use Rattle.faults.specs.FaultLaws.{no-fault}
+use Rattle.faults.proofs.FaultLaws.{no-fault}
 use Rattle.lists.specs.Tests.{or_l, or_r, or-neither}
 use Rattle.merge.specs.Merge.{third, merge_outcome, merge_fault, wrong_any, over_either, merge_refusal, MergeAnswer, merged_with, refused_with, merge_answer_of, Answers, FittingThree}
-use Rattle.merge.specs.MergeLaws.{zeroed-already, table-refused, length-refused, byte-refused, agreed-refusal, contradicted-refusal, fits, after-accepted, after-contradicted, after-refused, third-fits}
+use Rattle.merge.proofs.MergeLaws.{zeroed-already, table-refused, length-refused, byte-refused, agreed-refusal, contradicted-refusal, fits, after-accepted, after-contradicted, after-refused, third-fits}
 use Rattle.merge.specs.declared.Merged.{Merged}
 use Rattle.restore.specs.Mending.{counts_of, Mends}
 use Rattle.restore.specs.MendsLaws.{agrees-told, check-told, byte-told}

@@ -9,7 +9,7 @@ use Rattle.lists.specs.Lists.{has}
 use Rattle.table.specs.FirstCauseLaws.{refused-by}
 use Rattle.erasure.specs.Offered.{Held}
 use Rattle.merge.specs.Merge.{merge_causes, merge_refusal, MergeAnswer, merge_answer_of, merge_answer}
-use Rattle.merge.specs.MergeLaws.{refusal-told}
+use Rattle.merge.proofs.MergeLaws.{refusal-told}
 use Rattle.merge.specs.declared.Merged.{Merged}
 
 -- of the table

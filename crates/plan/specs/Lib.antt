@@ -1,6 +1,5 @@
 pub mod AtStart
 pub mod ByteByByte
-pub mod Bytes
 pub mod Head
 pub mod Layout
 pub mod LayoutLaws

@@ -14,7 +14,7 @@ use Rattle.plan.specs.Layout.{most_aside, least_plan, least_numbers}
 use Rattle.plan.specs.ReadBack.{numbers-length}
 use Rattle.plan.specs.Step.{add_steps}
 use Rattle.rule.specs.Choices.{by_rule}
-use Rattle.rule.specs.WithinLimits.{numbers-limit, kept-length, kept-weight}
+use Rattle.rule.proofs.WithinLimits.{numbers-limit, kept-length, kept-weight}
 use Rattle.rule.specs.Buffers.{solved, Fitted}
 use Rattle.rule.specs.PlanOf.{plan_of, numbers_of, with_numbers, numbers_by, plan_of_by}
 use Rattle.rule.specs.Rule.{kept}

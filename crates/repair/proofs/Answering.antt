@@ -14,16 +14,16 @@ use Rattle.table.specs.Packets.{packets, joined}
 use Rattle.table.specs.Table.{places, size, checks, refusal}
 use Rattle.table.specs.TableLaws.{refusal-small}
 use Rattle.table.specs.Accepted.{Accepted}
-use Rattle.erasure.specs.OfferedLaws.{none-handed, bytes-all, sized, low}
+use Rattle.erasure.proofs.OfferedLaws.{none-handed, bytes-all, sized, low}
 use Rattle.erasure.specs.Offered.{Fitting}
-use Rattle.erasure.specs.OldBytes.{old-bytes, old-bytes-cleared}
-use Rattle.erasure.specs.OldRepair.{cleared-kept}
-use Rattle.erasure.specs.OutcomeLaws.{tally-two}
+use Rattle.erasure.proofs.OldBytes.{old-bytes, old-bytes-cleared}
+use Rattle.erasure.proofs.OldRepair.{cleared-kept}
+use Rattle.erasure.proofs.OutcomeLaws.{tally-two}
 use Rattle.erasure.specs.Restoring.{none_lost, zero_lost, tally, outcome, contradicting, agreeing, Counts, counts_if, block_if, map_if, is_lost}
 use Rattle.suspects.specs.Blame.{lost_too, only_suspect, blamed}
 use Rattle.suspects.specs.BlameLaws.{agreed-none, contradicted-only, only-is, only-alike, lost_too-known, lost_too-bytes}
 use Rattle.trials.specs.Cleared.{Cleared}
-use Rattle.faults.specs.FaultLaws.{no-fault, some-fault, first-fault}
+use Rattle.faults.proofs.FaultLaws.{no-fault, some-fault, first-fault}
 use Rattle.restore.specs.Mending.{counts_of, Mends}
 use Rattle.restore.specs.MendsLaws.{agrees-told, check-told, byte-told}
 use Rattle.restore.specs.declared.Mended.{Mended}

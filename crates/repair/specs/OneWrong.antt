@@ -5,9 +5,9 @@ use Rattle.std.proofs.Common.{sym, ap, ◌∙◌, true≢false, get_or-set_same,
 use Rattle.std.proofs.Math.Option.{some}
 use Rattle.suspects.specs.Blame.{lost_too, blamed, Suspect}
 use Rattle.suspects.specs.BlameLaws.{mark-three, blamed-is}
-use Rattle.erasure.specs.OfferedLaws.{bytes-all, lost-byte}
+use Rattle.erasure.proofs.OfferedLaws.{bytes-all, lost-byte}
 use Rattle.erasure.specs.Offered.{Fitting}
-use Rattle.erasure.specs.OldRepair.{word-agrees, word-values}
+use Rattle.erasure.proofs.OldRepair.{word-agrees, word-values}
 use Rattle.erasure.specs.Restoring.{is_lost, outcome, AgreeThere}
 use Rattle.lists.specs.Tests.{eqb-true, by_bool}
 use Rattle.repair.specs.Repair.{repair_block_after, repair_map_after}

@@ -9,7 +9,7 @@ use Rattle.std.proofs.Math.Option.{Option, none, some}
 use Rattle.std.proofs.lemmas.Bool.{not-true}
 use Rattle.suspects.specs.Blame.{blamed, nobody}
 use Rattle.erasure.specs.Offered.{wrong_lengths, byte_over, Fitting}
-use Rattle.erasure.specs.OfferedLaws.{offer-fits}
+use Rattle.erasure.proofs.OfferedLaws.{offer-fits}
 use Rattle.erasure.specs.Restoring.{zero_lost, agreeing}
 use Rattle.lists.specs.Lists.{any_of, All.nil, All.cons}
 use Rattle.lists.specs.Tests.{by_bool, by_opt, and-false, and_l, and_r, and_both}

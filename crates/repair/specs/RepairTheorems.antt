@@ -5,17 +5,17 @@ use Rattle.std.proofs.Common.{sym, ap, ap₂, ◌∙◌, subst, true≢false, in
 use Rattle.std.proofs.Math.Option.{Option, none, some}
 use Rattle.suspects.specs.Blame.{lost_too, blamed, Suspect, OnlySuspect}
 use Rattle.suspects.specs.BlameLaws.{TwoSuspects, no-only, none_only, two-only, agreed-none, contradicted-only, blamed-contradicts, blamed-is, is-blamed, lost_too-bytes, lost_too-count, lost_too-known, mark-three, three-restored, three-lost, stays-without, suspect-changes, blamed-alike}
-use Rattle.erasure.specs.OfferedLaws.{none-handed, bytes-all, byte_at, agree-there, sized, low}
+use Rattle.erasure.proofs.OfferedLaws.{none-handed, bytes-all, byte_at, agree-there, sized, low}
 use Rattle.erasure.specs.Offered.{handed_on, Fitting, Agree}
-use Rattle.erasure.specs.Largest.{stays-lost, largest-same}
+use Rattle.erasure.proofs.Largest.{stays-lost, largest-same}
 use Rattle.erasure.specs.LostLaws.{not-lost, is_lost_lem}
-use Rattle.erasure.specs.OldBytes.{old-bytes, old-bytes-cleared}
-use Rattle.erasure.specs.OldRepair.{RestoredBy, part-is, old-repair, cleared-kept, cleared-zero, word-agrees, word-values}
-use Rattle.erasure.specs.OutcomeLaws.{tally-restored, tally-two}
+use Rattle.erasure.proofs.OldBytes.{old-bytes, old-bytes-cleared}
+use Rattle.erasure.proofs.OldRepair.{RestoredBy, part-is, old-repair, cleared-kept, cleared-zero, word-agrees, word-values}
+use Rattle.erasure.proofs.OutcomeLaws.{tally-restored, tally-two}
 use Rattle.erasure.specs.Restoring.{State, Counts, Largest, AgreeThere, lost_places, none_lost, contradiction, tally, outcome, contradicting, agreeing, counts_if, block_if, map_if, is_lost}
-use Rattle.erasure.specs.RestoringLaws.{restoring-map, restoring-same, restoring-mark}
-use Rattle.erasure.specs.Tally.{none-restored}
-use Rattle.faults.specs.FaultLaws.{some-fault, first-fault, fault-first}
+use Rattle.erasure.proofs.RestoringLaws.{restoring-map, restoring-same, restoring-mark}
+use Rattle.erasure.proofs.Tally.{none-restored}
+use Rattle.faults.proofs.FaultLaws.{some-fault, first-fault, fault-first}
 use Rattle.faults.specs.Faults.{Fault, no_fault, FirstFault}
 use Rattle.lists.specs.ListLaws.{all_map, all_of, filter_same}
 use Rattle.lists.specs.Lists.{All}

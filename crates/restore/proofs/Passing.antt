@@ -17,7 +17,7 @@ use Rattle.table.specs.SumLaws.{lowest-le, sum-length}
 use Rattle.table.specs.CodewordLaws.{zero-complete}
 use Rattle.chains.specs.Linked.{Counted}
 use Rattle.erasure.specs.Restoring.{none_lost}
-use Rattle.faults.specs.FaultLaws.{fault-zero, fault_past}
+use Rattle.faults.proofs.FaultLaws.{fault-zero, fault_past}
 use Rattle.faults.specs.Faults.{Fault, no_fault, check_of, byte_of, failing}
 use Rattle.turns.specs.Spent.{Spent}
 use Rattle.restore.specs.Mending.{Tells}

@@ -9,14 +9,14 @@ use Rattle.table.specs.PacketLaws.{packets-length, packets-of}
 use Rattle.table.specs.Packets.{packets, joined}
 use Rattle.table.specs.Table.{places, size, checks}
 use Rattle.table.specs.Accepted.{Accepted}
-use Rattle.erasure.specs.OldBytes.{zero-alike}
-use Rattle.erasure.specs.OutcomeLaws.{start-length, start-sized, outcome-length, outcome-sized, tally-fewer}
+use Rattle.erasure.proofs.OldBytes.{zero-alike}
+use Rattle.erasure.proofs.OutcomeLaws.{start-length, start-sized, outcome-length, outcome-sized, tally-fewer}
 use Rattle.erasure.specs.Restoring.{zero_lost, restoring, contradiction, tally, outcome, contradicting}
 use Rattle.restore.specs.Mending.{Tells, Mends}
-use Rattle.faults.specs.FaultLaws.{no-fault, some-fault}
+use Rattle.faults.proofs.FaultLaws.{no-fault, some-fault}
 use Rattle.faults.specs.Faults.{no_fault, check_of, byte_of}
 use Rattle.erasure.specs.States.{Restored, state_of}
-use Rattle.erasure.specs.Values.{received-kept}
+use Rattle.erasure.proofs.Values.{received-kept}
 use Rattle.restore.specs.declared.Judged.{Judged}
 use Rattle.restore.specs.declared.Mended.{Mended}
 

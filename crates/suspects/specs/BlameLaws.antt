@@ -5,11 +5,11 @@ use Rattle.std.proofs.lemmas.Bool.{false≢true, not-true}
 use Rattle.std.proofs.Math.Option.{none, some, some-ne-none, some-injective}
 use Rattle.suspects.specs.Blame.{lost_too, suspect, suspects, only_one, only_suspect, blamed, Suspect, OnlySuspect}
 use Rattle.erasure.specs.ContradictionLaws.{sums-of}
-use Rattle.erasure.specs.Largest.{stays-lost}
-use Rattle.erasure.specs.OldBytes.{old-bytes}
-use Rattle.erasure.specs.OutcomeLaws.{tally-lost, outcome-length, outcome-sized}
+use Rattle.erasure.proofs.Largest.{stays-lost}
+use Rattle.erasure.proofs.OldBytes.{old-bytes}
+use Rattle.erasure.proofs.OutcomeLaws.{tally-lost, outcome-length, outcome-sized}
 use Rattle.erasure.specs.Restoring.{is_lost, tally, outcome, consistent, agreeing, AgreeThere, Largest}
-use Rattle.erasure.specs.Values.{received-kept, near-agrees}
+use Rattle.erasure.proofs.Values.{received-kept, near-agrees}
 use Rattle.erasure.specs.LostLaws.{lost_in}
 use Rattle.lists.specs.ListLaws.{all_map, all_of, filter-in, filter_same, distinct-rev, distinct_filter, distinct-below}
 use Rattle.lists.specs.Lists.{All, All.cons, Distinct, Distinct.dnew, any_of, filter, from, has}

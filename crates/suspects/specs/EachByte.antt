@@ -1,8 +1,8 @@
 -- A suspect is one at each byte position: a place that is none at one byte position is none.
 use Rattle.std.specs.Prelude.{◌≡◌, false, List, ℕ, ◌*◌, ◌<◌, length}
 use Rattle.std.proofs.Common.{sym, ap, ◌∙◌, true≢false}
-use Rattle.erasure.specs.Alike.{size-alike}
-use Rattle.erasure.specs.EachByte.{agrees-each}
+use Rattle.erasure.proofs.Alike.{size-alike}
+use Rattle.erasure.proofs.EachByte.{agrees-each}
 use Rattle.erasure.specs.Restoring.{is_lost}
 use Rattle.lists.specs.Tests.{by_bool}
 use Rattle.table.specs.AnySize.{places-at}

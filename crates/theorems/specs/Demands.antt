@@ -20,10 +20,10 @@ use Rattle.plan.specs.Layout.{steps_of, most_aside, plan_kept, plan_gap, info_in
 use Rattle.rule.specs.Choices.{Chooses, by_rule}
 use Rattle.rule.specs.Rule.{Plan}
 use Rattle.rule.specs.Encoded.{encode}
-use Rattle.rule.specs.OneBlock.{Encodes, block, block-encodes, one_block}
-use Rattle.rule.specs.Info.{info-number, kept-few}
-use Rattle.rule.specs.Bound.{adds-most, kept-ones, adds-bound, fitted-number}
-use Rattle.rule.specs.WellFormed.{info-low}
+use Rattle.rule.proofs.OneBlock.{Encodes, block, block-encodes, one_block}
+use Rattle.rule.proofs.Info.{info-number, kept-few}
+use Rattle.rule.proofs.Bound.{adds-most, kept-ones, adds-bound, fitted-number}
+use Rattle.rule.proofs.WellFormed.{info-low}
 use Rattle.planning.specs.Planning.{plan_of, numbers_of, planning_refusal, planning_answer, planning_plan_after, planning_answer_at, numbers_by, plan_of_by}
 use Rattle.planning.specs.PlanningLaws.{accepted-planning}
 use Rattle.encoder.specs.Encoding.{steps_within, slots_after, encode_refusal, encode_answer, encode_answer_at, encode_block_after}

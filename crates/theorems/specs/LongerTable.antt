@@ -3,8 +3,8 @@
 use Rattle.std.specs.Prelude.{◌≡◌, true, List, ◌≢◌, ℕ, ◌*◌, ◌<◌, ◌≤◌, ltb, length, get_or, take}
 use Rattle.std.proofs.Common.{sym, ap, ◌∙◌, subst, ⊎_elim, arith, le-ltb, ne_eqb, length-take, get_or-take}
 use Rattle.erasure.specs.Offered.{Held, held, Fitting, Agree}
-use Rattle.erasure.specs.OfferedLaws.{bytes-all, lost-byte}
-use Rattle.erasure.specs.OldRepair.{RestoredBy, old-repair}
+use Rattle.erasure.proofs.OfferedLaws.{bytes-all, lost-byte}
+use Rattle.erasure.proofs.OldRepair.{RestoredBy, old-repair}
 use Rattle.erasure.specs.Restoring.{outcome, is_lost}
 use Rattle.lengthen.specs.AsIfFresh.{as-if-fresh, word-then}
 use Rattle.lengthen.specs.Carrying.{Carried, SoFar, Grown}

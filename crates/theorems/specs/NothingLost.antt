@@ -8,10 +8,10 @@ use Rattle.suspects.specs.BlameLaws.{agreed-none}
 use Rattle.lists.specs.Tests.{by_bool, by_opt}
 use Rattle.erasure.specs.Offered.{handed_on, Fitting}
 use Rattle.erasure.specs.LostLaws.{lost_in, no-lost, none-lost}
-use Rattle.erasure.specs.OutcomeLaws.{tally-lost}
+use Rattle.erasure.proofs.OutcomeLaws.{tally-lost}
 use Rattle.erasure.specs.Restoring.{ready, zero_lost, none_lost, contradiction, tally, contradicting, agreeing}
-use Rattle.erasure.specs.RestoringLaws.{restoring_none}
-use Rattle.erasure.specs.Values.{zero_lost-length, zero_lost-kept}
+use Rattle.erasure.proofs.RestoringLaws.{restoring_none}
+use Rattle.erasure.proofs.Values.{zero_lost-length, zero_lost-kept}
 use Rattle.faults.specs.Faults.{Fault, no_fault, check_of, byte_of, failing, every_check}
 use Rattle.repair.specs.Repair.{repair_outcome, repair_refusal, repair_answer_at, repair_answer}
 use Rattle.repair.specs.RepairLaws.{agreed-refusal, blamed-refusal, contradicted-refusal}

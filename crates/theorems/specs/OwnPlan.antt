@@ -15,9 +15,9 @@ use Rattle.plan.specs.Layout.{most_aside, most_steps, least_numbers, info_count,
 use Rattle.rule.specs.Choices.{Chooses}
 pub use Rattle.rule.specs.Choices.{by_rule}
 use Rattle.rule.specs.Rule.{Plan}
-use Rattle.rule.specs.WellFormed.{well-formed, info-low}
-use Rattle.rule.specs.Info.{info-number, kept-few}
-use Rattle.rule.specs.WithinLimits.{info-up, kept-length, aside-few, steps-limit}
+use Rattle.rule.proofs.WellFormed.{well-formed, info-low}
+use Rattle.rule.proofs.Info.{info-number, kept-few}
+use Rattle.rule.proofs.WithinLimits.{info-up, kept-length, aside-few, steps-limit}
 use Rattle.planning.specs.Planning.{plan_of_by, numbers_by}
 
 -- ---- tests

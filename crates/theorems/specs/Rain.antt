@@ -3,20 +3,20 @@
 -- don't contradict; those of one codeword never do, and then the call of repair leaves what the old repair comes to.
 use Rattle.std.specs.Prelude.{◌≡◌, refl, true, false, List, ◌≢◌, ◌⊎◌, ℕ, zero, suc, ◌+◌, ◌-◌, ◌*◌, ◌<◌, ◌≤◌, length, get_or}
 use Rattle.std.proofs.Common.{sym, ap, ap₂, ◌∙◌, subst, true≢false, arith}
-use Rattle.erasure.specs.Additions.{turns-most}
-use Rattle.erasure.specs.Alike.{Alike, TakesAlike, outcome-alike, turns-alike}
-use Rattle.erasure.specs.AnyOrder.{end-within, end-map, end-block, end-judged}
-use Rattle.erasure.specs.Largest.{repaired-ends}
+use Rattle.erasure.proofs.Additions.{turns-most}
+use Rattle.erasure.proofs.Alike.{Alike, TakesAlike, outcome-alike, turns-alike}
+use Rattle.erasure.proofs.AnyOrder.{end-within, end-map, end-block, end-judged}
+use Rattle.erasure.proofs.Largest.{repaired-ends}
 use Rattle.erasure.specs.LostLaws.{is_lost_lem, lost-most, lost-fewer}
 use Rattle.erasure.specs.Offered.{Held, handed_on, Fitting, Agree}
-use Rattle.erasure.specs.OfferedLaws.{bytes-all, lost-byte}
-use Rattle.erasure.specs.OrderLaws.{ended-stays, goes_on, restoring-turns, restoring-ends, turns_then, turns-map, turns-taken, turns-spend}
+use Rattle.erasure.proofs.OfferedLaws.{bytes-all, lost-byte}
+use Rattle.erasure.proofs.OrderLaws.{ended-stays, goes_on, restoring-turns, restoring-ends, turns_then, turns-map, turns-taken, turns-spend}
 use Rattle.erasure.specs.Orders.{Ready, Turns, taken, spent, Ended, non_empty, FromStart}
-use Rattle.erasure.specs.OutcomeLaws.{tally-lost, start-length, start-sized}
+use Rattle.erasure.proofs.OutcomeLaws.{tally-lost, start-length, start-sized}
 use Rattle.erasure.specs.Restoring.{State, is_lost, restoring, start, consistent, tally, outcome, contradicting, agreeing, counts_if, map_if}
 use Rattle.aerials.specs.Aerials.{kinds}
 use Rattle.entering.specs.Entering.{entered}
-use Rattle.faults.specs.FaultLaws.{no-fault}
+use Rattle.faults.proofs.FaultLaws.{no-fault}
 use Rattle.lengthen.specs.Lengthen.{lengthen_outcome, lengthen_fault, lengthen_refusal, lengthen_answer_at, lengthen_answer}
 use Rattle.lists.specs.Lists.{In}
 use Rattle.lists.specs.Tests.{eqb-true, by_bool}

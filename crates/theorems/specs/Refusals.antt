@@ -16,7 +16,7 @@ use Rattle.encoder.specs.Encoding.{encode_causes, encode_refusal_at, encode_answ
 use Rattle.repair.specs.Repair.{repair_causes, repair_outcome, repair_refusal, repair_answer, repair_answer_at}
 use Rattle.full.specs.Full.{full_causes, full_refusal, full_answer, full_answer_at, full_map_after}
 use Rattle.merge.specs.Merge.{merge_causes, merge_refusal, merge_answer}
-use Rattle.merge.specs.MergeLaws.{refusal-told}
+use Rattle.merge.proofs.MergeLaws.{refusal-told}
 use Rattle.lengthen.specs.Lengthen.{new_causes, lengthen_refusal, lengthen_answer}
 use Rattle.lengthen.specs.LengthenLaws.{refusal-told as lengthen-told}
 use Rattle.why.specs.Why.{why_causes, why_refusal, why_answer}

@@ -9,9 +9,9 @@ use Rattle.table.specs.PacketLaws.{same-packets}
 use Rattle.table.specs.Table.{places, size}
 use Rattle.erasure.specs.Offered.{Fitting, Agree}
 use Rattle.erasure.specs.Restoring.{Largest, is_lost}
-use Rattle.erasure.specs.Largest.{largest-only}
+use Rattle.erasure.proofs.Largest.{largest-only}
 use Rattle.erasure.specs.LostLaws.{not-lost, is_lost_lem, no-lost}
-use Rattle.erasure.specs.OutcomeLaws.{tally-lost}
+use Rattle.erasure.proofs.OutcomeLaws.{tally-lost}
 use Rattle.repair.specs.Repair.{repair_refusal, repair_answer, repair_block_after, repair_map_after}
 use Rattle.repair.specs.RepairTheorems.{AcceptedRepair, Repairing, accepted-plainly, repairing}
 

@@ -6,7 +6,7 @@ use Rattle.erasure.specs.Offered.{Held, Fitting, Agree}
 use Rattle.erasure.specs.Restoring.{outcome, is_lost}
 use Rattle.lists.specs.Tests.{by_bool, eqb-true}
 use Rattle.merge.specs.Merge.{merge_after, FittingThree}
-use Rattle.merge.specs.MergeTheorems.{OneSent, one-sent}
+use Rattle.merge.proofs.MergeTheorems.{OneSent, one-sent}
 use Rattle.repair.specs.Repair.{repair_map_after}
 use Rattle.repair.specs.RepairTheorems.{repairing}
 use Rattle.table.specs.Codewords.{IsCodeword}

@@ -13,7 +13,7 @@ use Rattle.planning.specs.PlanningLaws.{accepted-planning}
 use Rattle.encoder.specs.Encoding.{encode_block_after}
 use Rattle.erasure.specs.Offered.{Fitting, Agree}
 use Rattle.erasure.specs.Restoring.{Largest}
-use Rattle.erasure.specs.Largest.{largest-exists}
+use Rattle.erasure.proofs.Largest.{largest-exists}
 use Rattle.repair.specs.Repair.{repair_refusal, repair_answer, repair_block_after}
 use Rattle.repair.specs.RepairTheorems.{repairing}
 use Rattle.verify.specs.Verify.{values_of, verify_answer}

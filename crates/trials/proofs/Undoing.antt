@@ -14,9 +14,9 @@ use Rattle.table.specs.BufferLaws.{set-written}
 use Rattle.table.specs.PacketLaws.{packets-length, packets-sized, packets-joined, packets-of, packet-at}
 use Rattle.table.specs.Packets.{Packets, packets, joined}
 use Rattle.table.specs.Table.{places, size, checks}
-use Rattle.erasure.specs.OutcomeLaws.{zero_lost-sized, start-length, start-sized, outcome-length, outcome-sized}
+use Rattle.erasure.proofs.OutcomeLaws.{zero_lost-sized, start-length, start-sized, outcome-length, outcome-sized}
 use Rattle.erasure.specs.Restoring.{zero_lost, outcome, agreeing, block_if, map_if, is_lost}
-use Rattle.erasure.specs.Values.{received-kept, zero_lost-length, zero_lost-kept, zero_lost-zero}
+use Rattle.erasure.proofs.Values.{received-kept, zero_lost-length, zero_lost-kept, zero_lost-zero}
 use Rattle.suspects.specs.Blame.{lost_too, suspect}
 use Rattle.trials.specs.Cleared.{Cleared}
 use Rattle.trials.specs.ClearedLaws.{cleared-packets}

@@ -3,9 +3,9 @@ use Rattle.std.specs.Prelude.{◌≡◌, List, ℕ}
 use Rattle.std.proofs.Common.{ap, ◌∙◌}
 use Rattle.table.specs.PacketLaws.{packets-length, packets-sized, packets-of}
 use Rattle.table.specs.Packets.{packets}
-use Rattle.erasure.specs.OutcomeLaws.{zero_lost-sized}
+use Rattle.erasure.proofs.OutcomeLaws.{zero_lost-sized}
 use Rattle.erasure.specs.Restoring.{zero_lost}
-use Rattle.erasure.specs.Values.{zero_lost-length}
+use Rattle.erasure.proofs.Values.{zero_lost-length}
 use Rattle.trials.specs.Cleared.{Cleared}
 
 -- lost places are zero already

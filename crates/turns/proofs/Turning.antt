@@ -17,7 +17,7 @@ use Rattle.table.specs.Packets.{packets, packet_sum}
 use Rattle.table.specs.SumLaws.{places-in, check-below}
 use Rattle.table.specs.Table.{checks}
 use Rattle.erasure.specs.Restoring.{State, lost_places, ready, restoring, is_lost, turn}
-use Rattle.erasure.specs.RestoringLaws.{ready-one, restoring_none, restoring-enough}
+use Rattle.erasure.proofs.RestoringLaws.{ready-one, restoring_none, restoring-enough}
 use Rattle.table.specs.Accepted.{Accepted, check-count, places-at, check-is, light}
 use Rattle.erasure.specs.States.{Holds, Restored, state_of}
 use Rattle.erasure.specs.LostLaws.{lost-most, lost-inside, lost_in}

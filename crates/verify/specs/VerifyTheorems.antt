@@ -3,7 +3,7 @@
 use Rattle.std.specs.Prelude.{◌≡◌, refl, true, List, ℕ, ◌*◌, ◌<◌, length, take}
 use Rattle.std.proofs.Common.{ap, ◌∙◌, subst, sym}
 use Rattle.std.proofs.Math.Option.{some}
-use Rattle.faults.specs.FaultLaws.{none-fails, fails-none, first-fault, fault-first}
+use Rattle.faults.proofs.FaultLaws.{none-fails, fails-none, first-fault, fault-first}
 use Rattle.faults.specs.Faults.{Fault, FirstFault, every_check}
 use Rattle.lists.specs.ListLaws.{all_map}
 use Rattle.lists.specs.Lists.{All}

@@ -5,7 +5,7 @@ use lib.ListN.{get_or}
 use Rattle.table.specs.BufferLaws.{place-fits}
 use Rattle.table.specs.PacketCall.{part_at}
 use Rattle.aerials.specs.HeardLaws.{packet-sized}
-use Rattle.erasure.specs.PlaceByPlace.{part-sized}
+use Rattle.erasure.proofs.PlaceByPlace.{part-sized}
 use Rattle.packets.specs.Filling.{none_filled, one-filled, block-filled, map-filled}
 use Rattle.aerials.proofs.hear_all.Goals as goal
 

@@ -4,7 +4,7 @@ use mathlib.Core.List.{map}
 use native.Mathlib.Omega.{arith}
 use Rattle.table.specs.Accepted.{few-places, has-weights}
 use Rattle.plan.specs.Step.{pack}
-use Rattle.rule.specs.WithinLimits.{aside-width}
+use Rattle.rule.proofs.WithinLimits.{aside-width}
 use Rattle.emit.specs.Emit.{fitting_rows}
 use Rattle.emit.specs.MarkLaws.{below_more}
 use Rattle.lists.specs.WroteLaws.{wrote-is}

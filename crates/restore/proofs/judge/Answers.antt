@@ -4,7 +4,7 @@ use Rattle.table.specs.Table.{checks}
 use Rattle.erasure.specs.Restoring.{lost_places, none_lost}
 use Rattle.turns.specs.TurnLaws.{at-check}
 use Rattle.restore.proofs.Passing.{passed, byte_fits, tells-fault, tells_none}
-use Rattle.faults.specs.FaultLaws.{fault-hit, fault-zero, fault-end}
+use Rattle.faults.proofs.FaultLaws.{fault-hit, fault-zero, fault-end}
 use Rattle.table.specs.Accepted.{few-checks, has-weights, check-count, check-is, check-fits, check-in, offset-more}
 use Rattle.table.specs.ChecksLaws.{offset-none}
 use Rattle.table.specs.CodewordLaws.{sum-byte, sum-zero, sum-nonzero}

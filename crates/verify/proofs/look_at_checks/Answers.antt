@@ -1,7 +1,7 @@
 -- `verify::look_at_checks` meets its contract.
 use Rattle.table.specs.Packets.{packets}
 use Rattle.table.specs.Table.{checks}
-use Rattle.faults.specs.FaultLaws.{fault-hit, fault-zero, fault-end}
+use Rattle.faults.proofs.FaultLaws.{fault-hit, fault-zero, fault-end}
 use Rattle.faults.specs.Faults.{every_check}
 use Rattle.verify.specs.Verify.{values_of, verdict}
 use Rattle.verify.specs.declared.Verified.TheVariants.{Fails}

@@ -3,11 +3,11 @@ use Rattle.std.specs.Prelude.{◌≡◌, refl, Bool, true, false, cond, List, []
 use Rattle.std.proofs.Common.{ap, ◌∙◌, arith}
 use Rattle.std.proofs.lemmas.Bool.{false≢true}
 use Rattle.erasure.specs.ContradictionLaws.{Zeros, of-sums}
-use Rattle.erasure.specs.OrderLaws.{restoring-turns, turns-never}
+use Rattle.erasure.proofs.OrderLaws.{restoring-turns, turns-never}
 use Rattle.erasure.specs.Passing.{filter-mono}
 use Rattle.erasure.specs.Restoring.{is_lost, zero_lost, start, repaired, consistent, Stopping}
-use Rattle.erasure.specs.RestoringLaws.{restoring-within, restoring-kept, restoring-left}
-use Rattle.erasure.specs.TurnValues.{Agrees, agrees-sums, turns-agrees}
+use Rattle.erasure.proofs.RestoringLaws.{restoring-within, restoring-kept, restoring-left}
+use Rattle.erasure.proofs.TurnValues.{Agrees, agrees-sums, turns-agrees}
 use Rattle.lists.specs.ListLaws.{all_map}
 use Rattle.lists.specs.Lists.{filter, All}
 use Rattle.table.specs.Packets.{packet_sum, Packets}

@@ -7,7 +7,7 @@ use Rattle.lists.specs.ListLaws.{all-rev, all-self, has-low, all_append, has-app
 use Rattle.plan.specs.declared.Step.TheVariants.{Clear, Add}
 use Rattle.plan.specs.LayoutLaws.{Sound}
 use Rattle.rule.specs.Choices.{Chooses}
-use Rattle.rule.specs.AllChecksZero.{ts, az, F, tri, low_t, low_a, free-good, lens}
+use Rattle.rule.proofs.AllChecksZero.{ts, az, F, tri, low_t, low_a, free-good, lens}
 use Rattle.rule.specs.Rule.{Solved, clear_and_add, solving_steps, scratch_steps, fitting_steps, owns, steps_with_gap, fitted_places, inverse, reduced, plan_steps, plan_by, Plan}
 use Rattle.rule.specs.ScratchAndFitting.{has_named, named-low}
 use Rattle.rule.specs.Solved.{tri-own}

@@ -3,7 +3,7 @@ use Rattle.std.specs.Prelude.{◌≡◌, refl, true, false, List, [], ℕ, zero,
 use Rattle.std.proofs.Math.Option.{none, some}
 use Rattle.std.proofs.Common.{arith}
 use Rattle.erasure.specs.LostLaws.{lost_in}
-use Rattle.erasure.specs.OrderLaws.{ready-is, restoring-turns, turns-length, turns-map, turns-sized, turns-within, turns_same, turns-kept, turns-left, turns-mark, turns-taken}
+use Rattle.erasure.proofs.OrderLaws.{ready-is, restoring-turns, turns-length, turns-map, turns-sized, turns-within, turns_same, turns-kept, turns-left, turns-mark, turns-taken}
 use Rattle.erasure.specs.Restoring.{State, is_lost, lost_places, ready, turn, restoring}
 use Rattle.erasure.specs.Turn.{turn_one}
 use Rattle.lists.specs.Lists.{All}

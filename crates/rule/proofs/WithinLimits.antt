@@ -9,11 +9,11 @@ use Rattle.lists.specs.Tests.{by_bool}
 use Rattle.table.specs.Table.{most_places, most_ones, ones}
 use Rattle.plan.specs.Layout.{most_aside, most_steps, least_plan, least_numbers}
 use Rattle.rule.specs.Choices.{Chooses}
-use Rattle.rule.specs.AllChecksZero.{ts, az, F, peels}
+use Rattle.rule.proofs.AllChecksZero.{ts, az, F, peels}
 use Rattle.rule.specs.Buffers.{mask_width}
-use Rattle.rule.specs.Bound.{pass, asides-some, fitting-most, peels-ones, square-more, fitted-number}
+use Rattle.rule.proofs.Bound.{pass, asides-some, fitting-most, peels-ones, square-more, fitted-number}
 use Rattle.rule.specs.Count.{solving-clears, scratch-clears, fitting-clears, solved_ones, count-scratch}
-use Rattle.rule.specs.Info.{peels-count, info-number}
+use Rattle.rule.proofs.Info.{peels-count, info-number}
 use Rattle.rule.specs.Rule.{Solved, solving_steps, scratch_steps, fitting_steps, steps_with_gap, kept, plan_by, Plan, plan_steps, fitted_places, inverse, reduced}
 
 -- the length of the whole list

@@ -4,7 +4,7 @@ use Rattle.std.proofs.Common.{sym, ap, ap₂, ◌∙◌, subst, arith, le-ltb}
 use Rattle.std.proofs.lemmas.Simd.{map-map}
 use Rattle.std.proofs.Math.ListN.{get_or-eq_default}
 use Rattle.erasure.specs.Offered.{Held, byte_over}
-use Rattle.erasure.specs.PlaceByPlace.{part-sized, block-length, block-part}
+use Rattle.erasure.proofs.PlaceByPlace.{part-sized, block-length, block-part}
 use Rattle.erasure.specs.Restoring.{tally}
 use Rattle.lists.specs.ListLaws.{all_map, map-all, any_none, filter_none}
 use Rattle.lists.specs.Lists.{from}

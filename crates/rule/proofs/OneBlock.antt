@@ -16,16 +16,16 @@ use Rattle.table.specs.Packets.{packet_sum, Packets}
 use Rattle.plan.specs.AtStart.{put-length, put-packets}
 use Rattle.plan.specs.ByteByByte.{runs-length, runs-packets}
 use Rattle.rule.specs.Choices.{Chooses}
-use Rattle.rule.specs.AllChecksZero.{ts, az, F, E, tri, low_t, low_a, free-good, peels, d_f, good}
+use Rattle.rule.proofs.AllChecksZero.{ts, az, F, E, tri, low_t, low_a, free-good, peels, d_f, good}
 use Rattle.rule.specs.Encoded.{encode}
-use Rattle.rule.specs.EncodedZero.{encoded}
-use Rattle.rule.specs.Info.{info-number, info-holds}
+use Rattle.rule.proofs.EncodedZero.{encoded}
+use Rattle.rule.proofs.Info.{info-number, info-holds}
 use Rattle.rule.specs.Inverse.{res-bit-in, res-bit-out}
 use Rattle.rule.specs.Peel.{peels_all}
 use Rattle.rule.specs.Rule.{Solved, row, put_in_all, restricted, owns, plan_by, Plan, inverse}
 use Rattle.rule.specs.Solved.{tri-own, put_in_all-clears, val-put_in}
 use Rattle.rule.specs.Solving.{tri-ord, Ord, Ord.done, Ord.also}
-use Rattle.rule.specs.WellFormed.{info-low as places-low, well-formed}
+use Rattle.rule.proofs.WellFormed.{info-low as places-low, well-formed}
 
 -- ---- a sum of which all but one place are zero
 module _ {A : Type 0} (G : Group2 A) (x : ℕ → A) where

@@ -4,7 +4,7 @@ use Rattle.std.proofs.Common.{sym, subst, arith, eq-eqb, ltb-false}
 use Rattle.std.proofs.Math.Option.{Option, none}
 use Rattle.std.proofs.lemmas.Bool.{not-false}
 use Rattle.erasure.specs.Offered.{wrong_lengths, byte_over, handed_on, Fitting, Agree}
-use Rattle.erasure.specs.OutcomeLaws.{outcome-length, outcome-sized}
+use Rattle.erasure.proofs.OutcomeLaws.{outcome-length, outcome-sized}
 use Rattle.erasure.specs.Restoring.{outcome, is_lost, AgreeThere}
 use Rattle.faults.specs.Faults.{Fault}
 use Rattle.lists.specs.ListLaws.{all_read}

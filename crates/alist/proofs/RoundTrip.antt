@@ -15,7 +15,7 @@ use Rattle.making.specs.Written.{flat, table_of}
 use Rattle.numbers.specs.Numbers.{numbers_in}
 use Rattle.alist.specs.Alist.{column_count, row_count, is_alist, one_sided, disagree, sorted_row, alist_checks, numbers_read}
 use Rattle.alist.specs.Alist.{alist_table, alist_read_refusal, alist_read_answer, alist_read_table_after}
-use Rattle.alist.specs.Cases.{accepted-is-0}
+use Rattle.alist.proofs.Cases.{accepted-is-0}
 use Rattle.alist.specs.AlistLaws.{agree-all}
 use Rattle.alist.specs.AlistText.{alist_lines, alist_text, alist_write_refusal_at, alist_write_refusal, alist_write_answer, alist_write_text_after}
 use Rattle.alist.specs.Columns.{columns-count, rows-count, columns-good, rows-good, lists_agree, rows_back}

@@ -20,7 +20,7 @@ use Rattle.alist.specs.Alist.{column_count, row_count, column_weights, row_weigh
 use Rattle.alist.specs.Alist.{counted, right_most, in_range, good_list, good_lists, is_alist, malformed, disagree, sorted_row}
 use Rattle.alist.specs.Alist.{alist_checks, numbers_read, alist_read_refusal, alist_table}
 use Rattle.alist.specs.AlistLaws.{agree-all, rows-counted}
-use Rattle.alist.specs.Cases.{malformed-is-12, not-alist-is-12, disagreeing-is-13, beyond-is-2, heavy-is-3}
+use Rattle.alist.proofs.Cases.{malformed-is-12, not-alist-is-12, disagreeing-is-13, beyond-is-2, heavy-is-3}
 
 -- ---- the statement
 -- the text holds numbers, and t is an accepted table of as many places as they say columns, of packet size s, whose check r has place p

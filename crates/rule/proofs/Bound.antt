@@ -10,9 +10,9 @@ use Rattle.gf2.specs.Span.{span-zero}
 use Rattle.table.specs.Table.{ones}
 use Rattle.plan.specs.Step.{add_steps}
 use Rattle.rule.specs.Choices.{Chooses}
-use Rattle.rule.specs.AllChecksZero.{ts, az, F, tri, peels, ind_k, same, lens}
+use Rattle.rule.proofs.AllChecksZero.{ts, az, F, tri, peels, ind_k, same, lens}
 use Rattle.rule.specs.Count.{count-append, solved_ones, count-solving, count-scratch, count-fitting}
-use Rattle.rule.specs.Info.{tri-has, peels-count}
+use Rattle.rule.proofs.Info.{tri-has, peels-count}
 use Rattle.rule.specs.Peel.{Peels, Peels.stop, Peels.took', Peels.aside', Pulled, Pulled.here, Pulled.there, peels-indep}
 use Rattle.rule.specs.Rule.{Solved, row, solving_steps, scratch_steps, fitting_steps, steps_with_gap, plan_by, Plan, plan_steps, fitted_places, inverse, reduced}
 

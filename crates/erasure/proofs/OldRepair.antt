@@ -3,13 +3,13 @@
 use Rattle.std.specs.Prelude.{◌≡◌, true, false, List, [], ◌⊎◌, ℕ, ◌+◌, ◌*◌, ◌<◌, length, get_or, replicate}
 use Rattle.std.proofs.Common.{sym, ap, ◌∙◌, subst, inl, inr}
 use Rattle.erasure.specs.ContradictionLaws.{Sums, sums-of}
-use Rattle.erasure.specs.Largest.{stays-lost}
+use Rattle.erasure.proofs.Largest.{stays-lost}
 use Rattle.erasure.specs.LostLaws.{none-lost}
-use Rattle.erasure.specs.OutcomeLaws.{tally-lost, tally-restored, start-length, start-sized, outcome-length, outcome-sized, part-joined}
+use Rattle.erasure.proofs.OutcomeLaws.{tally-lost, tally-restored, start-length, start-sized, outcome-length, outcome-sized, part-joined}
 use Rattle.erasure.specs.Restoring.{lost_places, zero_lost, tally, outcome, agreeing, block_if, is_lost, AgreeThere, Largest}
-use Rattle.erasure.specs.RestoringLaws.{restoring-same, restoring-mark}
-use Rattle.erasure.specs.Tally.{repaired-tally}
-use Rattle.erasure.specs.Values.{zero_lost-kept, zero_lost-zero, received-kept, left-zero, restored, no-contradiction}
+use Rattle.erasure.proofs.RestoringLaws.{restoring-same, restoring-mark}
+use Rattle.erasure.proofs.Tally.{repaired-tally}
+use Rattle.erasure.proofs.Values.{zero_lost-kept, zero_lost-zero, received-kept, left-zero, restored, no-contradiction}
 use Rattle.lists.specs.ListLaws.{all_map}
 use Rattle.lists.specs.Lists.{All}
 use Rattle.lists.specs.Tests.{eqb-true, by_bool}

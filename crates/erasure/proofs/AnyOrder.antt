@@ -3,10 +3,10 @@
 use Rattle.std.specs.Prelude.{◌≡◌, refl, true, List, [], ℕ, ◌<◌, length, get_or}
 use Rattle.std.proofs.Common.{sym, ap, ◌∙◌, subst, ext_get_or}
 use Rattle.erasure.specs.ContradictionLaws.{Zeros, sums-of, of-sums}
-use Rattle.erasure.specs.OrderLaws.{turns-length, turns-map, turns-sized, turns-within, turns_same, turns-kept, turns-left, turns-mark, turns-never}
+use Rattle.erasure.proofs.OrderLaws.{turns-length, turns-map, turns-sized, turns-within, turns_same, turns-kept, turns-left, turns-mark, turns-never}
 use Rattle.erasure.specs.Orders.{Turns, Ended}
 use Rattle.erasure.specs.Restoring.{State, is_lost, lost_places, consistent}
-use Rattle.erasure.specs.TurnValues.{Agrees, agrees-sums, turns-agrees}
+use Rattle.erasure.proofs.TurnValues.{Agrees, agrees-sums, turns-agrees}
 use Rattle.lists.specs.ListLaws.{all_map}
 use Rattle.lists.specs.Lists.{All}
 use Rattle.lists.specs.Tests.{eqb-true, by_bool, both_ways}

@@ -3,7 +3,7 @@ use Rattle.std.specs.Prelude.{◌≡◌, refl, true, false, List, [], ◌∷◌,
 use Rattle.std.proofs.Common.{ap, ◌∙◌, arith}
 use Rattle.std.proofs.lemmas.Bool.{false≢true}
 use Rattle.erasure.specs.LostLaws.{lost_in}
-use Rattle.erasure.specs.OrderLaws.{restoring-turns}
+use Rattle.erasure.proofs.OrderLaws.{restoring-turns}
 use Rattle.erasure.specs.Orders.{Turns, Turns.stay, Turns.more}
 use Rattle.erasure.specs.Restoring.{State, is_lost, start, repaired}
 use Rattle.erasure.specs.Turn.{place-lost, turn_one}

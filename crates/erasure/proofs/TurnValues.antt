@@ -5,7 +5,7 @@ use Rattle.std.proofs.Common.{sym, ap, ap₂, ◌∙◌, subst, arith, ext_get_o
 use Rattle.std.proofs.lemmas.Bool.{false≢true}
 use Rattle.std.specs.Int.Bits.{bit_xor}
 use Rattle.erasure.specs.ContradictionLaws.{Zeros, Sums}
-use Rattle.erasure.specs.OrderLaws.{turns-within}
+use Rattle.erasure.proofs.OrderLaws.{turns-within}
 use Rattle.erasure.specs.Orders.{Ready, Turns, Turns.stay, Turns.more}
 use Rattle.erasure.specs.Passing.{filter-mono, none_passes, one_passes}
 use Rattle.erasure.specs.Restoring.{State, is_lost, lost_places, turn}

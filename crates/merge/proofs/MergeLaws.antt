@@ -8,11 +8,11 @@ use Rattle.std.proofs.Math.Option.{Option}
 use borrow.Author.Tests.{not-true, not-false}
 use Rattle.aerials.specs.Aerials.{heard_at, kinds}
 use Rattle.aerials.specs.HeardLaws.{lost-zero}
-use Rattle.aerials.specs.MergedLaws.{marks-length, marks-low, mark-at, merged-length, merged-part}
+use Rattle.aerials.proofs.MergedLaws.{marks-length, marks-low, mark-at, merged-length, merged-part}
 use Rattle.erasure.specs.Offered.{Held, wrong_lengths, byte_over, handed_on, Fitting}
-use Rattle.erasure.specs.OfferedLaws.{lengths-right, lengths-fit, offer-fits}
-use Rattle.erasure.specs.OldRepair.{cleared-kept, cleared-zero}
-use Rattle.erasure.specs.OutcomeLaws.{start-length, start-sized}
+use Rattle.erasure.proofs.OfferedLaws.{lengths-right, lengths-fit, offer-fits}
+use Rattle.erasure.proofs.OldRepair.{cleared-kept, cleared-zero}
+use Rattle.erasure.proofs.OutcomeLaws.{start-length, start-sized}
 use Rattle.erasure.specs.Restoring.{State, agreeing, block_if, is_lost}
 use Rattle.faults.specs.Faults.{Fault}
 use Rattle.lists.specs.Lists.{All.nil, All.cons}

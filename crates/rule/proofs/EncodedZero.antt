@@ -11,10 +11,10 @@ use Rattle.plan.specs.AtStart.{put_other, put-length, put-packets}
 use Rattle.plan.specs.ByteByByte.{runs-view}
 use Rattle.plan.specs.Steps.{with_packets}
 use Rattle.rule.specs.Choices.{Chooses}
-use Rattle.rule.specs.AllChecksZero.{ts, az, F, codeword}
+use Rattle.rule.proofs.AllChecksZero.{ts, az, F, codeword}
 use Rattle.rule.specs.Encoded.{encode}
 use Rattle.rule.specs.Rule.{Solved, owns, plan_steps, plan_by, Plan}
-use Rattle.rule.specs.WellFormed.{well-formed}
+use Rattle.rule.proofs.WellFormed.{well-formed}
 
 -- at the start every byte is zero ..
 view-start : (k s j i : ℕ) → view (replicate k (replicate s 0)) j i ≡ 0

@@ -14,7 +14,7 @@ use Rattle.table.specs.SumLaws.{part-zeros}
 use Rattle.table.specs.Table.{places, size, at_size, checks, refusal}
 use Rattle.table.specs.TableLaws.{accepted}
 use Rattle.erasure.specs.ContradictionLaws.{Sums, sums-of, of-sums}
-use Rattle.erasure.specs.OutcomeLaws.{outcome-length, outcome-sized}
+use Rattle.erasure.proofs.OutcomeLaws.{outcome-length, outcome-sized}
 use Rattle.erasure.specs.Restoring.{State, lost_places, ready, turn, restoring, zero_lost, consistent, outcome, agreeing}
 
 -- byte position j of a state

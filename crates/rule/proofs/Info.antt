@@ -8,12 +8,12 @@ use Rattle.lists.specs.Lists.{below, Distinct, Distinct.dnil, Distinct.dnew, rev
 use Rattle.lists.specs.ListLaws.{length-below, distinct_filter, distinct-below, distinct-rev, length-rev, has_kept, low-has, get_d-has, par-has, all_map}
 use Rattle.plan.specs.AtStart.{put-at, runs-keep}
 use Rattle.rule.specs.Choices.{Chooses}
-use Rattle.rule.specs.AllChecksZero.{ts, az, F, tri, low_t, free-good, peels, same, d_f, free_f}
+use Rattle.rule.proofs.AllChecksZero.{ts, az, F, tri, low_t, free-good, peels, same, d_f, free_f}
 use Rattle.rule.specs.Encoded.{encode}
 use Rattle.rule.specs.Peel.{Peels, Peels.stop, Peels.took', Peels.aside', pulled-length}
 use Rattle.rule.specs.Rule.{Solved, owns, plan_by, Plan}
 use Rattle.rule.specs.Solved.{tri-own, Tri, Tri.done, Tri.also}
-use Rattle.rule.specs.WellFormed.{well-formed, info-low}
+use Rattle.rule.proofs.WellFormed.{well-formed, info-low}
 
 -- ---- taking places out of a list without repeats
 none_out : (x : ℕ) (c : List ℕ) → has x c ≡ false → filter (λ p. not (eqb p x)) c ≡ c

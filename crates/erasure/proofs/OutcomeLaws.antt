@@ -11,9 +11,9 @@ use Rattle.table.specs.Table.{places, size, checks, refusal}
 use Rattle.table.specs.TableLaws.{accepted}
 use Rattle.erasure.specs.LostLaws.{lost_in}
 use Rattle.erasure.specs.Restoring.{zero_lost, tally, outcome}
-use Rattle.erasure.specs.RestoringLaws.{restoring-length, restoring-sized, restoring-fewer}
-use Rattle.erasure.specs.Tally.{restored_in, restored-and-lost}
-use Rattle.erasure.specs.Values.{zero_lost-length}
+use Rattle.erasure.proofs.RestoringLaws.{restoring-length, restoring-sized, restoring-fewer}
+use Rattle.erasure.proofs.Tally.{restored_in, restored-and-lost}
+use Rattle.erasure.proofs.Values.{zero_lost-length}
 
 -- counted either way
 pub tally-lost : (l : List ℕ) → tally 1 l ≡ lost_in l

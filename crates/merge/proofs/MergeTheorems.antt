@@ -4,20 +4,20 @@ use Rattle.std.proofs.Common.{sym, ap, ap₂, ◌∙◌, true≢false, ⊎_elim,
 use Rattle.std.proofs.Math.Option.{none, some}
 use Rattle.aerials.specs.Aerials.{packet_of, mark_of, heard_at, kinds}
 use Rattle.aerials.specs.HeardLaws.{lost-zero, no-clash, merged-word, lost-both}
-use Rattle.aerials.specs.MergedLaws.{SameHeard, four-counts, lost-counts, no-clashes, mark-at, mark-beyond, merged-part, merged-exchanged, merged-alike}
-use Rattle.erasure.specs.Largest.{stays-lost, largest-within}
+use Rattle.aerials.proofs.MergedLaws.{SameHeard, four-counts, lost-counts, no-clashes, mark-at, mark-beyond, merged-part, merged-exchanged, merged-alike}
+use Rattle.erasure.proofs.Largest.{stays-lost, largest-within}
 use Rattle.erasure.specs.LostLaws.{not-lost, is_lost_lem}
 use Rattle.erasure.specs.Offered.{Held, wrong_lengths, byte_over, Fitting, Agree, handed_on}
-use Rattle.erasure.specs.OfferedLaws.{bytes-all, byte_at, agree-there, sized, low, none-handed}
-use Rattle.erasure.specs.OldRepair.{RestoredBy, old-repair, word-agrees, word-values}
-use Rattle.erasure.specs.OutcomeLaws.{tally-restored}
-use Rattle.erasure.specs.Tally.{none-restored}
+use Rattle.erasure.proofs.OfferedLaws.{bytes-all, byte_at, agree-there, sized, low, none-handed}
+use Rattle.erasure.proofs.OldRepair.{RestoredBy, old-repair, word-agrees, word-values}
+use Rattle.erasure.proofs.OutcomeLaws.{tally-restored}
+use Rattle.erasure.proofs.Tally.{none-restored}
 use Rattle.erasure.specs.Restoring.{State, AgreeThere, tally, none_lost, outcome, contradicting, agreeing, is_lost}
-use Rattle.faults.specs.FaultLaws.{some-fault, first-fault}
+use Rattle.faults.proofs.FaultLaws.{some-fault, first-fault}
 use Rattle.faults.specs.Faults.{Fault, FirstFault}
 use Rattle.lists.specs.Tests.{eqb-true, by_bool, or_comm, or-exchange, side}
 use Rattle.merge.specs.Merge.{third, merge_outcome, merge_fault, wrong_any, over_either, merge_refusal, MergeAnswer, refused_with, merge_answer_at, merge_answer, merge_after, FittingThree}
-use Rattle.merge.specs.MergeLaws.{calm, agreed-refusal, contradicted-refusal, accepted-fits, contradicted-fits, after-accepted, after-contradicted, after-refused, third-fits}
+use Rattle.merge.proofs.MergeLaws.{calm, agreed-refusal, contradicted-refusal, accepted-fits, contradicted-fits, after-accepted, after-contradicted, after-refused, third-fits}
 use Rattle.table.specs.Codewords.{IsCodeword}
 use Rattle.table.specs.FirstCause.{first_cause, wrong_length}
 use Rattle.table.specs.PacketCall.{part_at}

@@ -1,7 +1,7 @@
 -- A block made place by place, f the packet of each of n places: its length, and its packets.
 use Rattle.std.specs.Prelude.{◌≡◌, List, [], map as each, ℕ, ◌*◌, ◌<◌, length}
 use Rattle.std.proofs.Common.{ap, ◌∙◌, arith}
-use Rattle.erasure.specs.OutcomeLaws.{part-joined}
+use Rattle.erasure.proofs.OutcomeLaws.{part-joined}
 use Rattle.lists.specs.Buffers.{part_length}
 use Rattle.lists.specs.ListLaws.{all_map, map-all}
 use Rattle.lists.specs.Lists.{from}

@@ -2,7 +2,7 @@
 use Rattle.std.specs.Prelude.{◌≡◌, refl, Bool, true, List, [], ℕ, length}
 use Rattle.std.proofs.Common.{sym, ap, ◌∙◌, arith}
 use Rattle.erasure.specs.LostLaws.{lost-most}
-use Rattle.erasure.specs.OrderLaws.{restoring-turns, restoring-ends, turns-within, turns-never}
+use Rattle.erasure.proofs.OrderLaws.{restoring-turns, restoring-ends, turns-within, turns-never}
 use Rattle.erasure.specs.Orders.{Turns, Ended}
 use Rattle.erasure.specs.Restoring.{State, start, repaired, outcome, is_lost, Largest}
 use Rattle.lists.specs.ListLaws.{all_map, all_of, filter_same}

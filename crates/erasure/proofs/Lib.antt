@@ -1,0 +1,15 @@
+pub mod Additions
+pub mod Alike
+pub mod AnyOrder
+pub mod EachByte
+pub mod Largest
+pub mod OfferedLaws
+pub mod OldBytes
+pub mod OldRepair
+pub mod OrderLaws
+pub mod OutcomeLaws
+pub mod PlaceByPlace
+pub mod RestoringLaws
+pub mod Tally
+pub mod TurnValues
+pub mod Values
