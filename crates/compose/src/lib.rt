@@ -1,5 +1,6 @@
 // The plan: from the checks chosen and the places fitted to its numbers.
 #![tactic(auto)]
+
 ghost use Rattle.std.specs.Prelude.{◌≡◌, ◌+◌, ◌≤◌, length};
 ghost use Rattle.table.specs.Table.{most_places};
 ghost use Rattle.plan.specs.Layout.{most_aside, most_steps, least_plan, info_numbers, step_numbers};

@@ -1,5 +1,6 @@
 // The plan of the checks chosen, written.
 #![tactic(auto)]
+
 ghost use Rattle.std.specs.Prelude.{◌≡◌, ◌≤◌, length};
 ghost use Rattle.table.specs.Accepted.{Located};
 ghost use Rattle.table.specs.Table.{places, number};

@@ -1,6 +1,5 @@
 -- `compose::clears` meets its contract: none set aside, or some.
 use Rattle.compose.proofs.ClearSteps.{clears-some}
-use borrow.Author.Rules.{rules}
 use Rattle.compose.proofs.clears.Goals as goal
 
 pub returns : goal.returns

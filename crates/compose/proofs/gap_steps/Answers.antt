@@ -9,7 +9,6 @@ use Rattle.emit.specs.Emit.{fitting_rows}
 use Rattle.emit.specs.MarkLaws.{below_more}
 use Rattle.lists.specs.WroteLaws.{wrote-is}
 use Rattle.compose.proofs.Sections.{solved-checks, own-places, set-aside, fitted-below, readable, room-A, room-B, room-C, room-D, all-parts}
-use borrow.Author.Rules.{rules}
 use Rattle.compose.proofs.gap_steps.Goals as goal
 
 pub mark-requires : goal.mark-requires

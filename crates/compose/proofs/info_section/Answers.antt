@@ -10,7 +10,6 @@ use Rattle.emit.specs.Emit.{marked}
 use Rattle.emit.specs.MarkLaws.{below_more}
 use Rattle.lists.specs.WroteLaws.{wrote_count, wrote-is}
 use Rattle.compose.proofs.Sections.{info-few, used-long, info-is}
-use borrow.Author.Rules.{rules}
 use Rattle.compose.proofs.info_section.Goals as goal
 
 pub mark-requires : goal.mark-requires

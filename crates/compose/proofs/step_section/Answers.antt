@@ -8,7 +8,6 @@ use Rattle.rule.specs.Rule.{plan_steps}
 use Rattle.emit.specs.Emit.{solved_in, aside_in}
 use Rattle.lists.specs.WroteLaws.{wrote_count, wrote-is}
 use Rattle.emit.specs.PackedLaws.{packed-length}
-use borrow.Author.Rules.{rules}
 use Rattle.compose.proofs.step_section.Goals as goal
 
 pub overflow_cast-plan : goal.overflow_cast-plan

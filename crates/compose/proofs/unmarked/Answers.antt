@@ -1,15 +1,15 @@
 -- `compose::unmarked` meets its contract: the places that are left, one after the other.
 use mathlib.Core.Path.{◌≡◌, ap, ◌∙◌}
 use mathlib.Core.List.{[]}
-use mathlib.Core.Logic.{⊎_elim}
-use Prim.Native.Nat.{◌+◌, ◌-◌, ◌≤◌, ◌<◌}
+use Prim.Native.Nat.{◌+◌, ◌≤◌}
 use native.Mathlib.Omega.{arith}
 use lib.ListN.{length}
 use Rattle.lists.specs.Lists.{below, rev, minus}
 use Rattle.emit.specs.Emit.{marked}
-use Rattle.lists.specs.WroteLaws.{Left, left-all, left_is, left_one, left-room, left-length, left-done}
+use Rattle.lists.specs.WroteLaws.{left-all, left_is, left_one, left-room, left-length, left-done}
 use Rattle.compose.proofs.FreePlaces.{frees, frees_all, frees-none, frees-marked, frees-next}
 use Rattle.compose.proofs.unmarked.Goals as goal
+use Rattle.compose.proofs.unmarked.Goals.{then-used-p-ne1, else-used-p-ne1}
 
 pub loop-p-init : goal.loop-p-init
 loop-p-init c = (omega arith, left_is _ (left-all _ _ _) (frees_all _ _))
@@ -28,7 +28,7 @@ offset_bounds-plan-k c =
     let a = c.args in
     let s = c.loop-p in
     let room : a.at + length (minus (rev (below a.n)) (marked a.used.now)) ≤ length a.plan.now = c.requires.room in
-    let r : s.k < length s.plan = slice-write-plan c in
+    let r = left-room room (left_is _ s.invariant.1 (frees-next a.n a.used.now s.p c.loop-p-test.true c.if-used-p-ne1.true)) in
     let l = left-length room s.invariant.1 in
     omega arith
 
@@ -37,7 +37,7 @@ overflow_add-k c =
     let a = c.args in
     let s = c.loop-p in
     let room : a.at + length (minus (rev (below a.n)) (marked a.used.now)) ≤ length a.plan.now = c.requires.room in
-    let r : s.k < length s.plan = slice-write-plan c in
+    let r = left-room room (left_is _ s.invariant.1 (frees-next a.n a.used.now s.p c.loop-p-test.true c.if-used-p-ne1.true)) in
     let l = left-length room s.invariant.1 in
     omega arith
 
@@ -49,10 +49,10 @@ loop-p-preserved c =
     let l = s.invariant.1 in
     let h = c.loop-p-test.true in (
       omega arith,
-      ⊎_elim
-          (λ u. rw (u.1, u.2) (left_one room (left_is _ l (frees-next a.n a.used.now s.p h u.0.taken))))
-          (λ u. rw (u.1, u.2) (left_is _ l (frees-marked a.n a.used.now s.p h u.0.left)))
-          c.if-used-p-ne1.branch,
+      elim c.if-used-p-ne1.branch [
+        | then-used-p-ne1 u ↦ (rw (u.plan-is, u.k-is) (left_one room (left_is _ l (frees-next a.n a.used.now s.p h u.if-used-p-ne1.true))))
+        | else-used-p-ne1 u ↦ (rw (u.plan-is, u.k-is) (left_is _ l (frees-marked a.n a.used.now s.p h u.if-used-p-ne1.false)))
+      ],
     )
 
 pub shape_of-plan : goal.shape_of-plan

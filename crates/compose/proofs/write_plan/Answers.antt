@@ -3,7 +3,6 @@ use native.Mathlib.Omega.{arith}
 use Rattle.table.specs.Accepted.{few-places, has-weights}
 use Rattle.compose.proofs.Sections.{own-places, fitted-below}
 use Rattle.compose.proofs.WholePlan.{head-fits, info-room, steps-room, steps-few, steps-end, clears-count, taken-few, composed}
-use borrow.Author.Rules.{rules}
 use Rattle.compose.proofs.write_plan.Goals as goal
 
 pub bounds-t-1 : goal.bounds-t-1

@@ -6,7 +6,6 @@ use lib.ListN.{length}
 use Rattle.plan.specs.Step.{pack}
 use Rattle.lists.specs.WroteLaws.{wrote-is}
 use Rattle.compose.proofs.Sections.{solved-checks, own-places, steps-none, steps-some}
-use borrow.Author.Rules.{rules}
 use Rattle.compose.proofs.write_steps.Goals as goal
 
 pub solve_whole-requires : goal.solve_whole-requires

@@ -2,7 +2,6 @@
 use native.Mathlib.Omega.{arith}
 use Rattle.table.specs.Accepted.{has-weights}
 use Rattle.plan_out.proofs.Writing.{fit-ready, plan-ready, number-kept, kept-fits, ones-fit, length-fits, adds_fit, written_out}
-use borrow.Author.Rules.{rules}
 use Rattle.plan_out.proofs.write_out.Goals as goal
 
 pub bounds-t-1 : goal.bounds-t-1
@@ -51,4 +50,5 @@ overflow_cast-result-5 c =
 pub returns : goal.returns
 returns c =
     let p = c.requires in
-    written_out p.table p.choice p.few c.write_plan-w.ensures
+    let q = written_out p.table p.choice p.few c.write_plan-w.ensures in
+    record { answer = q.0; plan = q.1 }
