@@ -1,5 +1,6 @@
 // The receiver: full repair, the call with its refusals.
 #![tactic(auto)]
+
 ghost use Rattle.std.specs.Prelude.{◌≡◌, ◌*◌, ◌≤◌, length};
 ghost use Rattle.table.specs.Accepted.{Accepted};
 ghost use Rattle.full.specs.Full.{Answers, FittingAll, full_answer_of, full_answer_at, full_refused};

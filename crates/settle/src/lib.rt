@@ -1,5 +1,6 @@
 // Elimination over the lost places of a block, the places: each place that leads a row is settled, from the highest down; and the whole of it.
 #![tactic(auto)]
+
 ghost use Rattle.std.specs.Prelude.{◌≡◌, ◌*◌, ◌≤◌, ◌<◌, length, get_or};
 ghost use Rattle.table.specs.Accepted.{Accepted};
 ghost use Rattle.eliminate.specs.Eliminating.{NoneLost, ZeroLost, Led, Settled, SettledAll, Solves};

@@ -1,5 +1,6 @@
 // The used checks of a block, with the rows that fed each, and the walk back from a place to the checks that restore it.
 #![tactic(auto)]
+
 ghost use Rattle.std.specs.Prelude.{◌≡◌, map, ℕ, ◌+◌, ◌-◌, ◌*◌, ◌≤◌, ◌<◌, length, get_or, take, drop};
 ghost use Rattle.gf2.specs.Gf2.{row_of};
 ghost use Rattle.table.specs.Accepted.{Accepted};

@@ -1,6 +1,5 @@
 -- `full::counted` meets its contract.
 use mathlib.Core.Path.{refl}
-use borrow.Author.Rules.{rules}
 use Rattle.full.proofs.counted.Goals as goal
 
 pub returns : goal.returns

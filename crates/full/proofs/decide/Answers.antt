@@ -1,7 +1,6 @@
 -- `full::decide` meets its contract.
 use mathlib.Core.Path.{refl, ◌∙◌}
 use Rattle.full.proofs.Deciding.{none-lost, zero-lost, solved, contradicted}
-use borrow.Author.Rules.{rules}
 use Rattle.full.proofs.decide.Goals as goal
 
 pub solve-requires : goal.solve-requires

@@ -6,7 +6,6 @@ use lib.ListN.{replicate}
 use Rattle.table.specs.Accepted.{few-places}
 use Rattle.restore.specs.SavedLaws.{saved-room, put_back}
 use Rattle.full.proofs.Answering.{answer-decided, answer-clashing, fit-bytes, fit-places, fit-rows}
-use borrow.Author.Rules.{rules}
 use Rattle.full.proofs.full_packets.Goals as goal
 
 pub copy-requires : goal.copy-requires

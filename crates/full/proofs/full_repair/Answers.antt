@@ -3,7 +3,6 @@ use Rattle.full.proofs.Answering.{answer-table, answer-block, answer-map, answer
 use Rattle.table.specs.Accepted.{looked-over, words, block-small}
 use mathlib.Core.Path.{refl, sym, ◌∙◌}
 use native.Mathlib.Omega.{arith}
-use borrow.Author.Rules.{rules}
 use Rattle.full.proofs.full_repair.Goals as goal
 
 pub returns-then-refusal-ne0 : goal.returns-then-refusal-ne0

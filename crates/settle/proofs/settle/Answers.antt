@@ -1,7 +1,6 @@
 -- `settle::settle` meets its contract: the laws of one place, applied.
 use native.Mathlib.Omega.{arith}
 use lib.ListN.{length-set}
-use borrow.Author.Rules.{rules}
 use Rattle.table.specs.BufferLaws.{place-fits}
 use Rattle.settle.proofs.Settling.{behind-long, whole_long, noted-few, can-reduce, can-restore, gone, left}
 use Rattle.settle.proofs.settle.Goals as goal

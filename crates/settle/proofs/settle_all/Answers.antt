@@ -1,9 +1,8 @@
 -- `settle::settle_all` meets its contract: `Settles` holds at each turn.
-use Prim.Native.Nat.{◌-◌, ◌≤◌}
+use Prim.Native.Nat.{◌-◌}
 use mathlib.Core.Path.{◌≡◌, refl, sym, ◌∙◌}
 use native.Mathlib.Omega.{arith}
-use lib.ListN.{length}
-use Rattle.settle.proofs.Settling.{Settles, start, passed_over, settled, all_settled}
+use Rattle.settle.proofs.Settling.{start, passed_over, settled, all_settled}
 use Rattle.settle.proofs.settle_all.Goals as goal
 
 pub loop-p-init : goal.loop-p-init

@@ -1,5 +1,4 @@
 -- `settle::solve` meets its contract.
-use borrow.Author.Rules.{rules}
 use Rattle.lists.specs.ListLaws.{get_d-zeros}
 use Rattle.table.specs.Accepted.{few-places}
 use Rattle.eliminate.specs.EliminatingLaws.{checks-low}

@@ -1,5 +1,4 @@
 -- `tracing::bit_of` meets its contract.
-use native.Mathlib.Omega.{arith}
 use mathlib.Core.Path.{refl}
 use Rattle.tracing.proofs.bit_of.Goals as goal
 

@@ -1,15 +1,13 @@
 -- `tracing::load_lost` meets its contract: the first i places are loaded.
-use Prim.Native.Nat.{◌+◌, ◌-◌, ◌<◌, ◌≤◌}
+use Prim.Native.Nat.{◌+◌, ◌<◌}
 use mathlib.Core.Path.{◌≡◌, ◌∙◌}
-use mathlib.Core.Logic.{⊎_elim}
 use native.Mathlib.Omega.{arith}
-use lib.ListN.{length, take, drop}
+use lib.ListN.{length}
 use borrow.Author.Tests.{eq-eqb, ne_eqb}
-use Rattle.bits.specs.Row.{RowPut}
 use Rattle.bits.specs.RowLaws.{put-put, put_is, put_self}
-use Rattle.reasons.specs.Mirror.{mirror_row}
 use Rattle.tracing.proofs.Loading.{flipped, passed}
 use Rattle.tracing.proofs.load_lost.Goals as goal
+use Rattle.tracing.proofs.load_lost.Goals.{then-lost-p-eq1, else-lost-p-eq1}
 
 pub loop-i-init : goal.loop-i-init
 loop-i-init c = (omega arith, put_is (put_self _ _) c.clear.ensures.here)
@@ -38,10 +36,10 @@ loop-i-preserved c =
     let h = c.loop-i-test.true in
     let q = c.wide-p in
     let inside : a.at + l.i < length a.t.now = let r = c.requires.1.room in omega arith in
-    ⊎_elim
-    (λ u. (omega arith, rw u.6 (flipped a.n a.lost.now a.t.now a.at l.i q.result inside q.ensures (eq-eqb _ 1 u.0.taken) u.2.result u.2.ensures l.invariant.1 u.3.ensures)))
-    (λ u. (omega arith, rw u.1 (passed a.n a.lost.now a.t.now a.at l.i q.result inside q.ensures (ne_eqb _ 1 u.0.left) l.invariant.1)))
-    c.if-lost-p-eq1.branch
+    elim c.if-lost-p-eq1.branch [
+      | then-lost-p-eq1 u ↦ (omega arith, rw u.w-is (flipped a.n a.lost.now a.t.now a.at l.i q.result inside q.ensures (eq-eqb _ 1 u.if-lost-p-eq1.true) u.bit_of.result u.bit_of.ensures l.invariant.1 u.flip.ensures))
+      | else-lost-p-eq1 u ↦ (omega arith, rw u.w-is (passed a.n a.lost.now a.t.now a.at l.i q.result inside q.ensures (ne_eqb _ 1 u.if-lost-p-eq1.false) l.invariant.1))
+    ]
 
 pub shape_of-w : goal.shape_of-w
 shape_of-w c = c.loop-i.invariant.1.len ∙ c.clear.ensures.len

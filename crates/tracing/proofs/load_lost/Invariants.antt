@@ -1,14 +1,8 @@
 -- `tracing::load_lost` meets its contract: the first i places are loaded.
-use Prim.Native.Nat.{◌+◌, ◌-◌, ◌<◌, ◌≤◌}
-use mathlib.Core.Path.{◌≡◌, ◌∙◌}
-use mathlib.Core.Logic.{⊎_elim}
-use native.Mathlib.Omega.{arith}
-use lib.ListN.{length, take, drop}
-use borrow.Author.Tests.{eq-eqb, ne_eqb}
+use Prim.Native.Nat.{◌-◌, ◌≤◌}
+use lib.ListN.{take, drop}
 use Rattle.bits.specs.Row.{RowPut}
-use Rattle.bits.specs.RowLaws.{put-put, put_is, put_self}
 use Rattle.reasons.specs.Mirror.{mirror_row}
-use Rattle.tracing.proofs.Loading.{flipped, passed}
 use Rattle.tracing.proofs.load_lost.Given as goal
 
 abbrev pub invariant-loop-i : goal.invariant-loop-i

@@ -1,13 +1,8 @@
 -- `tracing::note_feeders` meets its contract: the first i places are noted.
-use Prim.Native.Nat.{◌-◌, ◌≤◌}
-use mathlib.Core.List.{map}
 use mathlib.Core.Path.{◌≡◌, ap, ◌∙◌}
 use native.Mathlib.Omega.{arith}
-use lib.ListN.{get_or, take}
-use Rattle.bits.specs.Row.{RowPut}
+use lib.ListN.{get_or}
 use Rattle.bits.specs.RowLaws.{put-put, put_is, put_self}
-use Rattle.gf2.specs.Gf2.{row_of}
-use Rattle.tracing.specs.Tracing.{number_in}
 use Rattle.tracing.proofs.Feeding.{fed, led-at}
 use Rattle.tracing.proofs.note_feeders.Goals as goal
 

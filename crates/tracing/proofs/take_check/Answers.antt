@@ -2,7 +2,6 @@
 use mathlib.Core.Path.{sym, ap, ◌∙◌, subst}
 use mathlib.Core.List.{map}
 use lib.ListN.{take, drop}
-use borrow.Author.Rules.{rules}
 use Rattle.bits.specs.Front.{front-room, front-taken}
 use Rattle.bits.specs.RowLaws.{put_is}
 use Rattle.gf2.specs.Gf2.{row_of}

@@ -1,28 +1,18 @@
 -- `tracing::take_checks` meets its contract: `Takes` holds at each turn.
-use Prim.Native.Nat.{◌-◌, ◌<◌, ◌≤◌}
+use Prim.Native.Nat.{ℕ, ◌<◌, ◌≤◌}
 use mathlib.Core.Path.{◌≡◌, refl, sym, ap, ◌∙◌}
-use mathlib.Core.Logic.{⊎_elim}
 use native.Mathlib.Omega.{arith}
 use lib.ListN.{length, length-set}
 use Rattle.table.specs.Accepted.{few-places, few-checks, has-weights, places-at, check-fits}
 use Rattle.bits.specs.Front.{front_length}
 use Rattle.rows.specs.Choosing.{choosing-owners}
-use Rattle.tracing.proofs.Taking.{Takes, start, turn-hit, turn-miss, stop, told-row, told-feed}
+use Rattle.tracing.proofs.Taking.{start, turn-hit, turn-miss, stop, told-row, told-feed}
 use Rattle.tracing.proofs.take_checks.Goals as goal
+use Rattle.tracing.proofs.take_checks.Goals.{then-l-gt0, else-l-gt0}
 
 -- a row more: its number and its lead are in range
-in-range : (c : tie.Then1 invariant-loop decreases-loop) → (c.loop-i.k < 512) × (c.take_check-l.result ≤ length c.loop-i.owner) × (c.loop-i.k < length c.loop-i.ids)
-in-range c =
-    let s = c.loop-i in
-    let p = c.requires in
-    let room = p.room in
-    let less = c.loop-i-test.true in
-    let few = s.invariant.5.rows.few in
-    let most = few-checks _ _ _ _ p.table.0 in
-    let own = s.invariant.2 in
-    let lead = c.take_check-l.ensures.row.most in
-    let long = front_length s.invariant.5.front (omega arith) in
-    (omega arith, omega arith, omega arith)
+in-range : {k i m lead n own own' ids ids' : ℕ} → k ≤ i → i < m → m ≤ 512 → own ≡ own' → n ≤ own' → lead ≤ n → ids ≡ ids' → m ≤ ids' → (k < 512) × (lead ≤ own) × (k < ids)
+in-range a b c d e f g h = (omega arith, omega arith, omega arith)
 
 pub overflow_add-at : goal.overflow_add-at
 overflow_add-at c = let f = few-checks _ _ _ _ c.requires.table.0 in omega arith
@@ -59,31 +49,31 @@ take_check-l-requires c =
     record { check = (v, p.table.1); rows = (omega arith, omega arith, nar, omega arith, omega arith, omega arith, s.invariant.5.rows.owned, choosing-owners s.invariant.5.rows (omega arith)) }
 
 pub overflow_add-owner : goal.overflow_add-owner
-overflow_add-owner c = let b = in-range c in omega arith
+overflow_add-owner c = let s = c.loop-i in let few = s.invariant.5.rows.few in let room = c.requires.room in let b = in-range few c.loop-i-test.true (few-checks _ _ _ _ c.requires.table.0) s.invariant.2 room.2 c.take_check-l.ensures.row.most (front_length s.invariant.5.front (omega (arith, c.loop-i-test.true))) room.3 in omega arith
 
 pub overflow_cast-owner : goal.overflow_cast-owner
-overflow_cast-owner c = let b = in-range c in omega arith
+overflow_cast-owner c = let s = c.loop-i in let few = s.invariant.5.rows.few in let room = c.requires.room in let b = in-range few c.loop-i-test.true (few-checks _ _ _ _ c.requires.table.0) s.invariant.2 room.2 c.take_check-l.ensures.row.most (front_length s.invariant.5.front (omega (arith, c.loop-i-test.true))) room.3 in omega arith
 
 pub overflow_sub-owner : goal.overflow_sub-owner
 overflow_sub-owner c = omega (arith, c.if-l-gt0.true)
 
 pub offset_bounds-owner-l : goal.offset_bounds-owner-l
-offset_bounds-owner-l c = let b = in-range c in omega (arith, c.if-l-gt0.true)
+offset_bounds-owner-l c = let s = c.loop-i in let few = s.invariant.5.rows.few in let room = c.requires.room in let b = in-range few c.loop-i-test.true (few-checks _ _ _ _ c.requires.table.0) s.invariant.2 room.2 c.take_check-l.ensures.row.most (front_length s.invariant.5.front (omega (arith, c.loop-i-test.true))) room.3 in omega (arith, c.if-l-gt0.true)
 
 pub bounds-owner-l : goal.bounds-owner-l
-bounds-owner-l c = let b = in-range c in omega (arith, c.if-l-gt0.true)
+bounds-owner-l c = let s = c.loop-i in let few = s.invariant.5.rows.few in let room = c.requires.room in let b = in-range few c.loop-i-test.true (few-checks _ _ _ _ c.requires.table.0) s.invariant.2 room.2 c.take_check-l.ensures.row.most (front_length s.invariant.5.front (omega (arith, c.loop-i-test.true))) room.3 in omega (arith, c.if-l-gt0.true)
 
 pub overflow_cast-ids : goal.overflow_cast-ids
 overflow_cast-ids c = let f = few-checks _ _ _ _ c.requires.table.0 in omega (arith, c.loop-i-test.true)
 
 pub offset_bounds-ids-k : goal.offset_bounds-ids-k
-offset_bounds-ids-k c = let b = in-range c in omega arith
+offset_bounds-ids-k c = let s = c.loop-i in let few = s.invariant.5.rows.few in let room = c.requires.room in let b = in-range few c.loop-i-test.true (few-checks _ _ _ _ c.requires.table.0) s.invariant.2 room.2 c.take_check-l.ensures.row.most (front_length s.invariant.5.front (omega (arith, c.loop-i-test.true))) room.3 in omega arith
 
 pub bounds-ids-k : goal.bounds-ids-k
-bounds-ids-k c = let b = in-range c in omega arith
+bounds-ids-k c = let s = c.loop-i in let few = s.invariant.5.rows.few in let room = c.requires.room in let b = in-range few c.loop-i-test.true (few-checks _ _ _ _ c.requires.table.0) s.invariant.2 room.2 c.take_check-l.ensures.row.most (front_length s.invariant.5.front (omega (arith, c.loop-i-test.true))) room.3 in omega arith
 
 pub overflow_add-k : goal.overflow_add-k
-overflow_add-k c = let b = in-range c in omega arith
+overflow_add-k c = let s = c.loop-i in let few = s.invariant.5.rows.few in let room = c.requires.room in let b = in-range few c.loop-i-test.true (few-checks _ _ _ _ c.requires.table.0) s.invariant.2 room.2 c.take_check-l.ensures.row.most (front_length s.invariant.5.front (omega (arith, c.loop-i-test.true))) room.3 in omega arith
 
 pub overflow_add-at-in-loop-i : goal.overflow_add-at-in-loop-i
 overflow_add-at-in-loop-i c =
@@ -115,10 +105,10 @@ loop-i-preserved c =
     let room = p.room in
     let mo = d.most in
     let noted = c.noted-in-loop-i-1.given in
-    ⊎_elim
-    (λ u. (omega arith, long, ap length u.1 ∙ simp length-set own, fed, noted, rw (u.1, u.2, u.3, wd) (turn-hit s.invariant.5 (omega arith) less d g u.0.taken (omega arith) (omega arith))))
-    (λ u. (omega arith, long, ap length u.1 ∙ own, fed, noted, rw (u.1, u.2, u.3, wd) (turn-miss s.invariant.5 (omega arith) less d g (λ z. omega (arith, u.0.left, z)))))
-    c.if-l-gt0.branch
+    elim c.if-l-gt0.branch [
+      | then-l-gt0 u ↦ (omega arith, long, ap length u.owner-is ∙ simp length-set own, fed, noted, rw (u.owner-is, u.ids-is, u.k-is, wd) (turn-hit s.invariant.5 (omega arith) less d g u.if-l-gt0.true (omega arith) (omega arith)))
+      | else-l-gt0 u ↦ (omega arith, long, ap length u.owner-is ∙ own, fed, noted, rw (u.owner-is, u.ids-is, u.k-is, wd) (turn-miss s.invariant.5 (omega arith) less d g (λ z. omega (arith, u.if-l-gt0.false, z))))
+    ]
 
 pub shape_of-w : goal.shape_of-w
 shape_of-w c = c.loop-i.invariant.1

@@ -1,13 +1,8 @@
 -- `tracing::take_checks` meets its contract: `Takes` holds at each turn.
-use Prim.Native.Nat.{◌-◌, ◌<◌, ◌≤◌}
-use mathlib.Core.Path.{◌≡◌, refl, sym, ap, ◌∙◌}
-use mathlib.Core.Logic.{⊎_elim}
-use native.Mathlib.Omega.{arith}
-use lib.ListN.{length, length-set}
-use Rattle.table.specs.Accepted.{few-places, few-checks, has-weights, places-at, check-fits}
-use Rattle.bits.specs.Front.{front_length}
-use Rattle.rows.specs.Choosing.{choosing-owners}
-use Rattle.tracing.proofs.Taking.{Takes, start, turn-hit, turn-miss, stop, told-row, told-feed}
+use Prim.Native.Nat.{◌-◌, ◌≤◌}
+use mathlib.Core.Path.{◌≡◌}
+use lib.ListN.{length}
+use Rattle.tracing.proofs.Taking.{Takes}
 use Rattle.tracing.proofs.take_checks.Given as goal
 
 abbrev pub invariant-loop-i : goal.invariant-loop-i

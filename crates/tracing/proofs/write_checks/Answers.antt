@@ -1,6 +1,5 @@
 -- `tracing::write_checks` meets its contract: the first i checks are looked at.
-use Prim.Native.Nat.{ℕ, ◌+◌, ◌-◌, ◌≤◌}
-use mathlib.Core.Logic.{⊎_elim}
+use Prim.Native.Nat.{ℕ, ◌+◌}
 use mathlib.Core.Path.{◌≡◌, refl, sym, ap, ◌∙◌, subst}
 use native.Mathlib.Omega.{arith}
 use lib.ListN.{length, set, take, length-set}
@@ -11,6 +10,7 @@ use Rattle.reasons.specs.Reasons.{named}
 use Rattle.reasons.specs.Traced.{bits_below}
 use Rattle.tracing.proofs.Feeding.{listed_start, listed-hit, listed-miss}
 use Rattle.tracing.proofs.write_checks.Goals as goal
+use Rattle.tracing.proofs.write_checks.Goals.{then-has_place, else-has_place}
 
 pub loop-i-init : goal.loop-i-init
 loop-i-init c = (omega arith, omega arith, refl, listed_start _ (take c.args.k c.args.ids.now))
@@ -34,21 +34,21 @@ loop-i-preserved c =
     let long = length-take-le a.k a.ids.now r in
     let at = get_or-take a.k a.ids.now l.i 0 h in
     let d = l.invariant.1 in
-    ⊎_elim
-    (λ u. (
-      omega arith,
-      rw u.3 (omega arith),
-      ap length u.2 ∙ simp length-set l.invariant.2,
-      rw (u.2, u.3) (subst (λ (v : ℕ). Front (named (bits_below (l.i + 1) (row a.need.now 0)) (take a.k a.ids.now)) a.list.now (set l.list l.c v) (l.c + 1)) at
-          (listed-hit l.i (row a.need.now 0) (take a.k a.ids.now) (omega arith) (sym c.has_place.ensures ∙ u.0.taken) (omega arith) l.invariant.3)),
-    ))
-    (λ u. (
-      omega arith,
-      rw u.2 (omega arith),
-      ap length u.1 ∙ l.invariant.2,
-      rw (u.1, u.2) (listed-miss l.i (row a.need.now 0) (take a.k a.ids.now) (omega arith) (sym c.has_place.ensures ∙ u.0.left) l.invariant.3),
-    ))
-    c.if-has_place.branch
+    elim c.if-has_place.branch [
+      | then-has_place u ↦ (
+        omega arith,
+        rw u.c-is (omega arith),
+        ap length u.list-is ∙ simp length-set l.invariant.2,
+        rw (u.list-is, u.c-is) (subst (λ (v : ℕ). Front (named (bits_below (l.i + 1) (row a.need.now 0)) (take a.k a.ids.now)) a.list.now (set l.list l.c v) (l.c + 1)) at
+            (listed-hit l.i (row a.need.now 0) (take a.k a.ids.now) (omega arith) (sym c.has_place.ensures ∙ u.if-has_place.true) (omega arith) l.invariant.3)),
+      )
+      | else-has_place u ↦ (
+        omega arith,
+        rw u.c-is (omega arith),
+        ap length u.list-is ∙ l.invariant.2,
+        rw (u.list-is, u.c-is) (listed-miss l.i (row a.need.now 0) (take a.k a.ids.now) (omega arith) (sym c.has_place.ensures ∙ u.if-has_place.false) l.invariant.3),
+      )
+    ]
 
 pub shape_of-list : goal.shape_of-list
 shape_of-list c = c.loop-i.invariant.2

@@ -1,15 +1,11 @@
 -- `tracing::write_checks` meets its contract: the first i checks are looked at.
-use Prim.Native.Nat.{ℕ, ◌+◌, ◌-◌, ◌≤◌}
-use mathlib.Core.Logic.{⊎_elim}
-use mathlib.Core.Path.{◌≡◌, refl, sym, ap, ◌∙◌, subst}
-use native.Mathlib.Omega.{arith}
-use lib.ListN.{length, set, take, length-set}
-use lib.Seq.{get_or-take, length-take-le}
+use Prim.Native.Nat.{◌-◌, ◌≤◌}
+use mathlib.Core.Path.{◌≡◌}
+use lib.ListN.{length, take}
 use Rattle.bits.specs.Front.{Front}
 use Rattle.bits.specs.Row.{row}
 use Rattle.reasons.specs.Reasons.{named}
 use Rattle.reasons.specs.Traced.{bits_below}
-use Rattle.tracing.proofs.Feeding.{listed_start, listed-hit, listed-miss}
 use Rattle.tracing.proofs.write_checks.Given as goal
 
 abbrev pub invariant-loop-i : goal.invariant-loop-i
