@@ -15,7 +15,8 @@ receiver/Answers encoder/Answers uplink/Answers tables/Answers'
 
 # what a file cites: crate/File, and 'declared' for the structs and enums of its own code
 cited() {
-    sed -n 's/^\(pub \|unfoldable \)*use Rattle·\([a-z0-9_]*\)\(·specs\)\{0,1\}\.specs\.\([A-Za-z0-9]*\)\..*/\2\/\4/p' "$1" | sort -u
+    sed -n 's/^\(pub \|unfoldable \)*use Rattle\.\([a-z0-9_]*\)\.\(specs\|proofs\)\.\([A-Za-z0-9]*\)\..*/\2\/\4/p' "$1" |
+        grep -v '^\(std\|io\)/' | sort -u
 }
 
 passed=0

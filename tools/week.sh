@@ -12,18 +12,8 @@ if [ $# -gt 0 ]; then
     bin=$(cd "$1" && pwd)
 else
     bin=$root/target/bin
-    mkdir -p "$root/target"
-    # a line for each crate as it is done; the whole log only where something fails
-    {
-        cd "$root" && rt check staircase_file table_to_alist alist_to_table planlist encode_file repair_file full_repair_file merge_file reason_file \
-            verify_file 2>&1
-        echo $? >"$root/target/week.status"
-    } |
-        tee "$root/target/week.log" | grep '^rt: ' || true
-    [ "$(cat "$root/target/week.status")" = 0 ] || {
-        cat "$root/target/week.log"
-        exit 1
-    }
+    "$root/tools/build.sh" staircase_file table_to_alist alist_to_table planlist encode_file repair_file full_repair_file merge_file reason_file \
+        verify_file
 fi
 room=$(mktemp -d)
 trap 'rm -rf "$room"' EXIT
