@@ -1,5 +1,6 @@
 // Rows of 16 words in a work buffer: loading, flipping, adding, the highest place.
 #![tactic(auto)]
+
 ghost use Rattle.std.specs.Prelude.{◌≡◌, ℕ, ◌+◌, ◌*◌, ◌≤◌, ◌<◌, ◌^◌, length, get_or, take, drop, replicate};
 ghost use Rattle.std.specs.Int.Bits.{bit_xor};
 ghost use Rattle.gf2.specs.Gf2.{bit, Short, Bits, row_of};

@@ -1,5 +1,5 @@
 -- The binary digits of a number, and exclusive-or.
-use Rattle.std.specs.Prelude.{◌≡◌, refl, Bool, true, false, ℕ, zero, suc, ◌+◌, ◌*◌, ◌/◌, ◌%◌, ◌^◌, ◌<◌, ◌≢◌, eqb}
+use Rattle.std.specs.Prelude.{◌≡◌, refl, Bool, true, false, ℕ, zero, suc, ◌+◌, ◌*◌, ◌/◌, ◌%◌, ◌^◌, ◌<◌, eqb}
 use Rattle.std.proofs.Common.{sym, ap, ◌∙◌, true≢false, mod-lt, pow-suc, mul-div_cancel, div-one, mul_comm, arith}
 use Rattle.std.proofs.Math.Nat.{mul-mod_left, div-div-eq-div-mul, div-eq_of_lt}
 use Rattle.std.proofs.Math.Arith.{digits_mod}

@@ -1,5 +1,6 @@
 // A number in decimal digits, read.
 #![tactic(auto)]
+
 ghost use Rattle.std.specs.Prelude.{◌≡◌};
 ghost use Rattle.numerals.specs.Numerals.{is_digit, number_of};
 

@@ -1,5 +1,6 @@
 // Packets: written, added, and restored from a check.
 #![tactic(auto)]
+
 ghost use Rattle.std.specs.Prelude.{◌≡◌, ◌+◌, ◌*◌, ◌≤◌, ◌<◌, length, set, take, drop, replicate};
 ghost use Rattle.gf2.specs.Gf2.{xor_group, add as add_vectors};
 ghost use Rattle.table.specs.Checks.{CheckIn, others_sum};

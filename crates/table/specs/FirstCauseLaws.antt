@@ -61,7 +61,7 @@ one_of [] = refl
 one_of (c ∷ cs) = by_bool c.0
     (λ t. rw t (rw (eqb-self c.1) (or_r (eqb c.1 0) true refl)))
     (λ f. let e : first_cause (c ∷ cs) ≡ first_cause cs = rw f refl in
-      subst (λ (x : ℕ). has x (0 ∷ cause_numbers (c ∷ cs)) ≡ true) (sym e) (among (eqb (first_cause cs) 0) (eqb (first_cause cs) c.1) (has (first_cause cs) (cause_numbers cs)) (one_of cs)))
+    subst (λ (x : ℕ). has x (0 ∷ cause_numbers (c ∷ cs)) ≡ true) (sym e) (among (eqb (first_cause cs) 0) (eqb (first_cause cs) c.1) (has (first_cause cs) (cause_numbers cs)) (one_of cs)))
   where
     among : (a b c : Bool) → (a || c) ≡ true → (a || (b || c)) ≡ true
     among true b c h = refl

@@ -1,5 +1,5 @@
 -- Packets and their sums (document 01, first paragraph): "A block is n packets of s bytes, at places 0 to n − 1."
-use Rattle.std.specs.Prelude.{◌≡◌, List, [], ◌∷◌, ◌++◌, map, ℕ, zero, suc, ◌+◌, length, get_or, take, drop, replicate}
+use Rattle.std.specs.Prelude.{◌≡◌, List, [], ◌∷◌, ◌++◌, map, ℕ, zero, suc, length, get_or, take, drop, replicate}
 use Rattle.gf2.specs.Gf2.{xor_group, add}
 use Rattle.lists.specs.Lists.{All, written}
 

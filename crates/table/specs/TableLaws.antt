@@ -1,5 +1,5 @@
 -- What an accepted table gives.
-use Rattle.std.specs.Prelude.{◌≡◌, refl, Bool, true, false, cond, not, ◌||◌, ◌&&◌, List, [], ◌∷◌, ℕ, suc, ◌+◌, ◌-◌, ◌<◌, ◌≤◌, eqb, ltb, leb, length, get_or, take, drop}
+use Rattle.std.specs.Prelude.{◌≡◌, refl, Bool, true, false, cond, not, ◌||◌, ◌&&◌, List, [], ◌∷◌, ℕ, suc, ◌+◌, ◌<◌, ◌≤◌, eqb, ltb, leb, length, get_or, take, drop}
 use Rattle.std.proofs.Common.{ap, ◌∙◌, true≢false, arith, ltb-true, ltb-false, le-ltb, leb-true, ne_eqb, length-take, length-drop, length-take-le}
 use Rattle.std.proofs.lemmas.Bool.{not-false}
 use Rattle.lists.specs.Tests.{eqb-true, eqb-false, eqb-lt, or-false-l, or-false-r, or-neither, and_l, and_r}

@@ -1,5 +1,6 @@
 // The table of checks.
 #![tactic(auto)]
+
 ghost use Rattle.std.specs.Prelude.{◌≡◌, ◌+◌, ◌*◌, ◌≤◌, length, take, drop};
 ghost use Rattle.lists.specs.Lists.{all_pass};
 ghost use Rattle.table.specs.Accepted.{Accepted};

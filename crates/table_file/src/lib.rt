@@ -1,5 +1,6 @@
 // A table's file as words.
 #![tactic(auto)]
+
 ghost use Rattle.std.specs.Prelude.{◌≡◌, ◌+◌, ◌*◌, ◌/◌, ◌%◌, ◌≤◌, length};
 ghost use Rattle.table_file.specs.Words.{words_of, words_read, words_after, bytes_of};
 

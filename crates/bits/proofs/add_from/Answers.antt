@@ -1,6 +1,5 @@
 -- `bits::add_from` meets its contract: the loop has added i words.
-use Rattle.bits.proofs.Words.{Wrote, wrote_none, across, across-turn, added-across}
-use Prim.Native.Nat.{◌-◌, ◌≤◌}
+use Rattle.bits.proofs.Words.{wrote_none, across-turn, added-across}
 use mathlib.Core.Path.{◌≡◌}
 use native.Mathlib.Omega.{arith}
 use Rattle.bits.proofs.add_from.Goals as goal

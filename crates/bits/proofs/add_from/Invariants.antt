@@ -1,8 +1,6 @@
 -- `bits::add_from` meets its contract: the loop has added i words.
-use Rattle.bits.proofs.Words.{Wrote, wrote_none, across, across-turn, added-across}
+use Rattle.bits.proofs.Words.{Wrote, across}
 use Prim.Native.Nat.{◌-◌, ◌≤◌}
-use mathlib.Core.Path.{◌≡◌}
-use native.Mathlib.Omega.{arith}
 use Rattle.bits.proofs.add_from.Given as goal
 
 abbrev pub invariant-loop-i : goal.invariant-loop-i

@@ -1,7 +1,6 @@
 -- `bits::add_low` meets its contract: the loop has added i words.
-use Rattle.bits.proofs.Words.{Wrote, wrote_none, both, both-turn}
+use Rattle.bits.proofs.Words.{wrote_none, both-turn}
 use Rattle.bits.proofs.Highest.{added-low}
-use Prim.Native.Nat.{◌-◌, ◌≤◌}
 use native.Mathlib.Omega.{arith}
 use Rattle.bits.proofs.add_low.Goals as goal
 

@@ -1,8 +1,6 @@
 -- `bits::add_low` meets its contract: the loop has added i words.
-use Rattle.bits.proofs.Words.{Wrote, wrote_none, both, both-turn}
-use Rattle.bits.proofs.Highest.{added-low}
+use Rattle.bits.proofs.Words.{Wrote, both}
 use Prim.Native.Nat.{◌-◌, ◌≤◌}
-use native.Mathlib.Omega.{arith}
 use Rattle.bits.proofs.add_low.Given as goal
 
 abbrev pub invariant-loop-i : goal.invariant-loop-i

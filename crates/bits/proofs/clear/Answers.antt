@@ -1,6 +1,5 @@
 -- `bits::clear` meets its contract: the loop has written i words.
-use Rattle.bits.proofs.Words.{Wrote, wrote_none, wrote-turn, cleared}
-use Prim.Native.Nat.{◌-◌, ◌≤◌}
+use Rattle.bits.proofs.Words.{wrote_none, wrote-turn, cleared}
 use mathlib.Core.Path.{◌≡◌, refl}
 use native.Mathlib.Omega.{arith}
 use Rattle.bits.proofs.clear.Goals as goal

@@ -1,8 +1,6 @@
 -- `bits::clear` meets its contract: the loop has written i words.
-use Rattle.bits.proofs.Words.{Wrote, wrote_none, wrote-turn, cleared}
+use Rattle.bits.proofs.Words.{Wrote}
 use Prim.Native.Nat.{◌-◌, ◌≤◌}
-use mathlib.Core.Path.{◌≡◌, refl}
-use native.Mathlib.Omega.{arith}
 use Rattle.bits.proofs.clear.Given as goal
 
 abbrev pub invariant-loop-i : goal.invariant-loop-i

@@ -1,7 +1,6 @@
 -- `bits::flip` meets its contract.
 use Rattle.bits.proofs.Words.{flipped}
 use native.Mathlib.Omega.{arith}
-use borrow.Author.Rules.{rules}
 use Rattle.bits.proofs.flip.Goals as goal
 
 pub returns : goal.returns

@@ -6,7 +6,6 @@ use native.Mathlib.Omega.{arith}
 use lib.Bits.{bit_and, and_mask}
 use lib.Dec.{eqb}
 use lib.ListN.{get_or}
-use borrow.Author.Rules.{rules}
 use Rattle.gf2.specs.Gf2.{bit, odd}
 use Rattle.gf2.specs.Bit.{bit_is}
 use Rattle.bits.specs.Row.{row}

@@ -1,12 +1,8 @@
 -- `bits::load` meets its contract: the loop has flipped i places.
-use Rattle.bits.specs.Row.{RowPut}
-use Rattle.gf2.specs.Gf2.{row_of}
 use Rattle.bits.specs.RowLaws.{put-put, put_is, put_self}
 use Rattle.bits.proofs.Loading.{load-turn}
-use Prim.Native.Nat.{◌-◌, ◌≤◌}
-use mathlib.Core.Path.{◌≡◌, ◌∙◌}
+use mathlib.Core.Path.{◌≡◌}
 use native.Mathlib.Omega.{arith}
-use lib.ListN.{take, drop}
 use Rattle.bits.proofs.load.Goals as goal
 
 pub loop-i-init : goal.loop-i-init

@@ -1,11 +1,10 @@
 -- `bits::ones_of` meets its contract: the places counted so far and those of the words left are all.
-use mathlib.Core.Path.{◌≡◌, ap, ◌∙◌}
+use mathlib.Core.Path.{ap, ◌∙◌}
 use mathlib.Core.List.{List}
 use Prim.Native.Nat.{ℕ, ◌<◌, ◌^◌, ◌+◌, ◌-◌, ◌*◌, ◌≤◌}
 use native.Mathlib.Omega.{arith}
 use lib.Count.{ones, ones-le}
 use lib.ListN.{length, get_or, length-append}
-use Rattle.bits.specs.Row.{row, places_in}
 use Rattle.bits.specs.WordPlaces.{places_of, places_from, places-length, row-places, words-next, words-none}
 use Rattle.bits.proofs.ones_of.Goals as goal
 

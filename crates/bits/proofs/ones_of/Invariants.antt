@@ -1,13 +1,9 @@
 -- `bits::ones_of` meets its contract: the places counted so far and those of the words left are all.
-use mathlib.Core.Path.{◌≡◌, ap, ◌∙◌}
+use mathlib.Core.Path.{◌≡◌}
 use Prim.Native.Nat.{◌+◌, ◌-◌, ◌*◌, ◌≤◌}
-use native.Mathlib.Omega.{arith}
-use lib.Count.{ones, ones-le}
-use lib.ListN.{length, get_or, length-append}
+use lib.ListN.{length}
 use Rattle.bits.specs.Row.{row, places_in}
-use Rattle.bits.specs.WordPlaces.{places_of, places_from, places-length, row-places, words-next, words-none}
-use Rattle.bits.proofs.ones_of.Reads as reads
-use Rattle.bits.proofs.ones_of.Lts as lts
+use Rattle.bits.specs.WordPlaces.{places_from}
 use Rattle.bits.proofs.ones_of.Given as goal
 
 abbrev pub invariant-loop-i : goal.invariant-loop-i

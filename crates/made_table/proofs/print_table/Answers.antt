@@ -1,6 +1,5 @@
 -- `made_table::print_table` is safe: an accepted table has its head and its weights.
 use native.Mathlib.Omega.{arith}
-use borrow.Author.Rules.{rules}
 use Rattle.made_table.proofs.Long.{long}
 use Rattle.made_table.proofs.print_table.Goals as goal
 

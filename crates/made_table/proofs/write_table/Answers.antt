@@ -1,7 +1,6 @@
 -- `made_table::write_table` is safe: the bytes of an accepted table lie within the file's buffer.
 use mathlib.Core.Path.{sym}
 use native.Mathlib.Omega.{arith}
-use borrow.Author.Rules.{rules}
 use Rattle.made_table.proofs.Long.{long, file-part}
 use Rattle.made_table.proofs.write_table.Goals as goal
 

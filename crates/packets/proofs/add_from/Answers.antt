@@ -1,6 +1,5 @@
 -- `packets::add_from` meets its contract: the part of src is added.
 use native.Mathlib.Nat.{add-sub_cancel_left}
-use borrow.Author.Rules.{rules}
 use Rattle.packets.proofs.add_from.Goals as goal
 
 pub returns : goal.returns

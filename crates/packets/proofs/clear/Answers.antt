@@ -1,8 +1,6 @@
 -- `packets::clear` meets its contract: after i turns, i bytes are zero.
-use Prim.Native.Nat.{◌-◌, ◌≤◌}
 use mathlib.Core.Path.{◌≡◌, refl}
 use native.Mathlib.Omega.{arith}
-use Rattle.lists.specs.Buffers.{Patched}
 use Rattle.packets.proofs.Buffers.{none, turn, cleared}
 use Rattle.packets.proofs.clear.Goals as goal
 

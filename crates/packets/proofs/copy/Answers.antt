@@ -1,6 +1,5 @@
 -- `packets::copy` meets its contract: the part of src is written.
 use native.Mathlib.Nat.{add-sub_cancel_left}
-use borrow.Author.Rules.{rules}
 use Rattle.packets.proofs.copy.Goals as goal
 
 pub returns : goal.returns

@@ -1,15 +1,9 @@
 -- `packets::gather_others` meets its contract: after m turns, the parts of the other ones of the first m places are added.
-use Prim.Native.Nat.{◌-◌, ◌≤◌}
 use mathlib.Core.Path.{◌≡◌}
-use mathlib.Core.Logic.{⊎_elim}
 use native.Mathlib.Omega.{arith}
 use Rattle.packets.specs.PlaceLaws.{place-room}
-use Rattle.table.specs.GatherLaws.{Gathered, gathered_none}
-use Rattle.table.specs.Packets.{packets}
-use Rattle.lists.specs.Lists.{minus}
-use mathlib.Core.List.{[], ◌∷◌}
+use Rattle.table.specs.GatherLaws.{gathered_none}
 use Rattle.packets.proofs.Gathering.{place_same, place_other}
-use lib.ListN.{take, drop}
 use Rattle.packets.proofs.gather_others.Goals as goal
 use Rattle.packets.proofs.gather_others.Goals.{then-q-skip, else-q-skip}
 
@@ -43,14 +37,15 @@ loop-m-preserved c =
     let h = c.loop-m-test.true in
     let q = c.wide-q in
     elim c.if-q-skip.branch [
-    | then-q-skip u ↦ (
-      omega arith,
-      place_other _ _ _ _ _ _ _ c.requires.0 _ _ _ _ _ l.m q.result c.requires.1 h q.ensures u.if-q-skip.true l.invariant.1 u.add_from.ensures u.acc-is,
-    )
-    | else-q-skip u ↦ (
-      omega arith,
-      place_same _ _ _ _ _ _ _ c.requires.0 _ _ _ _ l.m q.result h q.ensures u.if-q-skip.false l.invariant.1 u.acc-is,
-    ) ]
+      | then-q-skip u ↦ (
+        omega arith,
+        place_other _ _ _ _ _ _ _ c.requires.0 _ _ _ _ _ l.m q.result c.requires.1 h q.ensures u.if-q-skip.true l.invariant.1 u.add_from.ensures u.acc-is,
+      )
+      | else-q-skip u ↦ (
+        omega arith,
+        place_same _ _ _ _ _ _ _ c.requires.0 _ _ _ _ l.m q.result h q.ensures u.if-q-skip.false l.invariant.1 u.acc-is,
+      )
+    ]
 
 pub shape_of-acc : goal.shape_of-acc
 shape_of-acc c = c.loop-m.invariant.1.len

@@ -1,14 +1,9 @@
 -- `packets::gather_others` meets its contract: after m turns, the parts of the other ones of the first m places are added.
 use Prim.Native.Nat.{◌-◌, ◌≤◌}
-use mathlib.Core.Path.{◌≡◌}
-use mathlib.Core.Logic.{⊎_elim}
-use native.Mathlib.Omega.{arith}
-use Rattle.packets.specs.PlaceLaws.{place-room}
-use Rattle.table.specs.GatherLaws.{Gathered, gathered_none}
+use Rattle.table.specs.GatherLaws.{Gathered}
 use Rattle.table.specs.Packets.{packets}
 use Rattle.lists.specs.Lists.{minus}
 use mathlib.Core.List.{[], ◌∷◌}
-use Rattle.packets.proofs.Gathering.{place_same, place_other}
 use lib.ListN.{take, drop}
 use Rattle.packets.proofs.gather_others.Given as goal
 

@@ -1,10 +1,8 @@
 -- `packets::mix` meets its contract: after i turns, i bytes are added.
-use Prim.Native.Nat.{◌-◌, ◌≤◌}
 use mathlib.Core.Path.{◌≡◌, ap}
 use native.Mathlib.Omega.{arith}
 use lib.ListN.{length, get_or}
-use Rattle.lists.specs.Buffers.{Patched}
-use Rattle.packets.proofs.Buffers.{none, turn, sum_at, mix-done}
+use Rattle.packets.proofs.Buffers.{none, turn, mix-done}
 use lib.Bits.{bit_xor}
 use Rattle.packets.proofs.mix.Goals as goal
 

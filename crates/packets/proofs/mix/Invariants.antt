@@ -1,11 +1,8 @@
 -- `packets::mix` meets its contract: after i turns, i bytes are added.
 use Prim.Native.Nat.{◌-◌, ◌≤◌}
-use mathlib.Core.Path.{◌≡◌, ap}
-use native.Mathlib.Omega.{arith}
-use lib.ListN.{length, get_or}
+use lib.ListN.{length}
 use Rattle.lists.specs.Buffers.{Patched}
-use Rattle.packets.proofs.Buffers.{none, turn, sum_at, mix-done}
-use lib.Bits.{bit_xor}
+use Rattle.packets.proofs.Buffers.{sum_at}
 use Rattle.packets.proofs.mix.Given as goal
 
 abbrev pub invariant-loop-i : goal.invariant-loop-i

@@ -1,13 +1,9 @@
 -- `packets::restore` meets its contract: after each turn, the bytes passed of the packet at p are those of the sum.
-use Prim.Native.Nat.{◌-◌, ◌*◌, ◌≤◌, ◌<◌}
-use mathlib.Core.Path.{◌≡◌, refl, ◌∙◌}
+use mathlib.Core.Path.{refl, ◌∙◌}
 use native.Mathlib.Omega.{arith}
-use lib.ListN.{length}
-use Rattle.lists.specs.Buffers.{Patched}
-use Rattle.table.specs.Checks.{CheckIn}
 use Rattle.packets.proofs.Buffers.{none}
 use Rattle.packets.proofs.Others.{same_check}
-use Rattle.packets.proofs.Gathering.{bytes_of, piece-more, all-written}
+use Rattle.packets.proofs.Gathering.{piece-more, all-written}
 use Rattle.packets.proofs.restore.Goals as goal
 
 pub loop-i-init : goal.loop-i-init

@@ -1,13 +1,10 @@
 -- `packets::restore` meets its contract: after each turn, the bytes passed of the packet at p are those of the sum.
 use Prim.Native.Nat.{◌-◌, ◌*◌, ◌≤◌, ◌<◌}
-use mathlib.Core.Path.{◌≡◌, refl, ◌∙◌}
-use native.Mathlib.Omega.{arith}
+use mathlib.Core.Path.{◌≡◌}
 use lib.ListN.{length}
 use Rattle.lists.specs.Buffers.{Patched}
 use Rattle.table.specs.Checks.{CheckIn}
-use Rattle.packets.proofs.Buffers.{none}
-use Rattle.packets.proofs.Others.{same_check}
-use Rattle.packets.proofs.Gathering.{bytes_of, piece-more, all-written}
+use Rattle.packets.proofs.Gathering.{bytes_of}
 use Rattle.packets.proofs.restore.Given as goal
 
 abbrev pub invariant-loop-i : goal.invariant-loop-i

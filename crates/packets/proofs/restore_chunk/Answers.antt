@@ -5,7 +5,6 @@ use native.Mathlib.Omega.{arith}
 use Rattle.table.specs.BufferLaws.{place-fits}
 use Rattle.lists.specs.Lists.{written}
 use Rattle.packets.proofs.Gathering.{others-chunk}
-use borrow.Author.Rules.{rules}
 use Rattle.packets.proofs.restore_chunk.Goals as goal
 
 pub gather_others-requires : goal.gather_others-requires

@@ -7,7 +7,6 @@ use Rattle.table.specs.BufferLaws.{place-fits}
 use Rattle.lists.specs.Lists.{written}
 use Rattle.table.specs.GatherLaws.{first-length, back-room, back-length}
 use Rattle.packets.proofs.Gathering.{others-rest}
-use borrow.Author.Rules.{rules}
 use Rattle.packets.proofs.restore_rest.Goals as goal
 
 pub slice_bounds-gather_others-end : goal.slice_bounds-gather_others-end

@@ -1,9 +1,7 @@
 -- `packets::store` meets its contract: after i turns, i bytes are written.
-use Prim.Native.Nat.{◌-◌, ◌≤◌}
 use mathlib.Core.Path.{◌≡◌, refl}
 use native.Mathlib.Omega.{arith}
-use lib.ListN.{length, get_or}
-use Rattle.lists.specs.Buffers.{Patched}
+use lib.ListN.{length}
 use Rattle.packets.proofs.Buffers.{none, turn, stored}
 use Rattle.packets.proofs.store.Goals as goal
 

@@ -1,11 +1,11 @@
 -- `all_rise` meets its contract: the checks left decide.
-use mathlib.Core.Path.{◌≡◌, refl, sym, ap, ◌∙◌}
-use Prim.Native.Nat.{◌+◌, ◌-◌, ◌≤◌}
+use mathlib.Core.Path.{refl, sym, ap, ◌∙◌}
+use Prim.Native.Nat.{◌+◌}
 use native.Mathlib.Omega.{arith}
 use borrow.Author.Tests.{not-true, not-false}
-use lib.ListN.{length, take, drop}
+use lib.ListN.{drop}
 use Rattle.table.specs.Table.{total}
-use Rattle.table.proofs.Looking.{part, part-all, part_none, part-cons, passes, pass-not, pass_on, pass-end}
+use Rattle.table.proofs.Looking.{part-all, part_none, part-cons, passes, pass-not, pass_on, pass-end}
 use Rattle.table.proofs.all_rise.Goals as goal
 
 pub loop-j-init : goal.loop-j-init

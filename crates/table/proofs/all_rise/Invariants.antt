@@ -1,11 +1,9 @@
 -- `all_rise` meets its contract: the checks left decide.
-use mathlib.Core.Path.{◌≡◌, refl, sym, ap, ◌∙◌}
+use mathlib.Core.Path.{◌≡◌}
 use Prim.Native.Nat.{◌+◌, ◌-◌, ◌≤◌}
-use native.Mathlib.Omega.{arith}
-use borrow.Author.Tests.{not-true, not-false}
 use lib.ListN.{length, take, drop}
 use Rattle.table.specs.Table.{total}
-use Rattle.table.proofs.Looking.{part, part-all, part_none, part-cons, passes, pass-not, pass_on, pass-end}
+use Rattle.table.proofs.Looking.{part, passes}
 use Rattle.table.proofs.all_rise.Given as goal
 
 abbrev pub invariant-loop-j : goal.invariant-loop-j

@@ -1,5 +1,4 @@
 -- `bad_lengths` meets its contract: the tests of cause 3.
-use borrow.Author.Rules.{rules}
 use Rattle.table.proofs.Looking.{length-short, length-ones, length-sum, length-exact}
 use Rattle.table.proofs.bad_lengths.Goals as goal
 

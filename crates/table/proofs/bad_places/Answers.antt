@@ -1,5 +1,4 @@
 -- `bad_places` meets its contract.
-use borrow.Author.Rules.{rules}
 use Rattle.table.proofs.Looking.{places-bad}
 use Rattle.table.proofs.bad_places.Goals as goal
 

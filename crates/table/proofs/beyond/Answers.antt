@@ -1,5 +1,4 @@
 -- `beyond` meets its contract: the three limits, one by one.
-use borrow.Author.Rules.{rules}
 use Rattle.table.proofs.Looking.{beyond-places, beyond-bytes, beyond-checks}
 use Rattle.table.proofs.beyond.Goals as goal
 

@@ -1,5 +1,4 @@
 -- `beyond_limits` meets its contract: the first word, and then the limits.
-use borrow.Author.Rules.{rules}
 use Rattle.table.proofs.Looking.{limit-first, limit-rest}
 use Rattle.table.proofs.beyond_limits.Goals as goal
 

@@ -1,12 +1,11 @@
 -- `fill_starts` meets its contract: the starts written so far, and the start of the next check.
-use mathlib.Core.Path.{◌≡◌, refl}
-use Prim.Native.Nat.{◌+◌, ◌-◌, ◌≤◌}
+use mathlib.Core.Path.{refl}
+use Prim.Native.Nat.{◌+◌}
 use native.Mathlib.Omega.{arith}
-use lib.ListN.{length, get_or, length-set}
-use Rattle.table.specs.Checks.{offset}
+use lib.ListN.{get_or, length-set}
 use Rattle.table.specs.Accepted.{few-checks, has-weights}
 use Rattle.table.specs.ChecksLaws.{offset-none, offset-more}
-use Rattle.table.proofs.Starting.{Written, written-more, start_fits}
+use Rattle.table.proofs.Starting.{written-more, start_fits}
 use Rattle.table.proofs.fill_starts.Goals as goal
 
 pub overflow_add-at : goal.overflow_add-at

@@ -1,12 +1,9 @@
 -- `fill_starts` meets its contract: the starts written so far, and the start of the next check.
-use mathlib.Core.Path.{◌≡◌, refl}
+use mathlib.Core.Path.{◌≡◌}
 use Prim.Native.Nat.{◌+◌, ◌-◌, ◌≤◌}
-use native.Mathlib.Omega.{arith}
-use lib.ListN.{length, get_or, length-set}
+use lib.ListN.{length}
 use Rattle.table.specs.Checks.{offset}
-use Rattle.table.specs.Accepted.{few-checks, has-weights}
-use Rattle.table.specs.ChecksLaws.{offset-none, offset-more}
-use Rattle.table.proofs.Starting.{Written, written-more, start_fits}
+use Rattle.table.proofs.Starting.{Written}
 use Rattle.table.proofs.fill_starts.Given as goal
 
 abbrev pub invariant-loop-j : goal.invariant-loop-j

@@ -1,6 +1,5 @@
 -- `packet_part` meets its contract.
 use mathlib.Core.Path.{sym, ap, ◌∙◌}
-use borrow.Author.Rules.{rules}
 use Rattle.table.proofs.Calling.{part-given, part-empty, start-given, start-empty}
 use Rattle.table.specs.PacketCallLaws.{packet-room}
 use Rattle.table.proofs.packet_part.Goals as goal

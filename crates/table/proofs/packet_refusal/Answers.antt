@@ -1,6 +1,5 @@
 -- `packet_refusal` meets its contract: n times s is formed once n and s are within their limits.
 use native.Mathlib.Omega.{arith}
-use borrow.Author.Rules.{rules}
 use Rattle.table.proofs.Calling.{product, refuse-places, refuse-bytes, refuse-length, refuse-place, refuse-none}
 use Rattle.table.proofs.packet_refusal.Goals as goal
 

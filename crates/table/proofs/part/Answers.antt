@@ -1,7 +1,6 @@
 -- `part` meets its contract.
 use mathlib.Core.Path.{refl}
 use native.Mathlib.Nat.{add-sub_cancel_left}
-use borrow.Author.Rules.{rules}
 use Rattle.table.proofs.part.Goals as goal
 
 pub returns : goal.returns

@@ -1,11 +1,9 @@
 -- `rises` meets its contract: the places left, and the least that the next may be, decide.
-use mathlib.Core.Path.{◌≡◌, refl, sym, ap, ◌∙◌}
+use mathlib.Core.Path.{◌≡◌}
 use Prim.Native.Nat.{◌+◌, ◌-◌, ◌≤◌}
-use native.Mathlib.Omega.{arith}
-use borrow.Author.Tests.{le-leb}
 use lib.ListN.{take, drop}
 use Rattle.table.specs.Table.{rising}
-use Rattle.table.proofs.Looking.{part, part-all, part_none, part-cons, rest, rest-low, rest-on, rest-none}
+use Rattle.table.proofs.Looking.{part, rest}
 use Rattle.table.proofs.rises.Given as goal
 
 abbrev pub invariant-loop-i : goal.invariant-loop-i

@@ -1,11 +1,9 @@
 -- `weigh` meets its contract: the weights left, and the sum so far, decide.
-use mathlib.Core.Path.{◌≡◌, refl, sym, ◌∙◌}
-use Prim.Native.Nat.{◌+◌, ◌-◌, ◌*◌, ◌≤◌}
+use mathlib.Core.Path.{refl, sym, ◌∙◌}
+use Prim.Native.Nat.{◌+◌}
 use native.Mathlib.Omega.{arith}
-use lib.ListN.{take, drop}
-use Rattle.table.specs.LookOver.{weighed}
-use Rattle.table.proofs.Looking.{part, part-all, part_none, part-cons}
-use Rattle.table.specs.WeighLaws.{weighed_on, weigh-start, weigh-heavy, weigh-light, weigh-end}
+use Rattle.table.proofs.Looking.{part-all, part_none, part-cons}
+use Rattle.table.specs.WeighLaws.{weigh-start, weigh-heavy, weigh-light, weigh-end}
 use Rattle.table.proofs.weigh.Goals as goal
 
 pub loop-j-init : goal.loop-j-init

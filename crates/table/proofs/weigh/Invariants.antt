@@ -1,11 +1,10 @@
 -- `weigh` meets its contract: the weights left, and the sum so far, decide.
-use mathlib.Core.Path.{◌≡◌, refl, sym, ◌∙◌}
+use mathlib.Core.Path.{◌≡◌}
 use Prim.Native.Nat.{◌+◌, ◌-◌, ◌*◌, ◌≤◌}
-use native.Mathlib.Omega.{arith}
 use lib.ListN.{take, drop}
 use Rattle.table.specs.LookOver.{weighed}
-use Rattle.table.proofs.Looking.{part, part-all, part_none, part-cons}
-use Rattle.table.specs.WeighLaws.{weighed_on, weigh-start, weigh-heavy, weigh-light, weigh-end}
+use Rattle.table.proofs.Looking.{part}
+use Rattle.table.specs.WeighLaws.{weighed_on}
 use Rattle.table.proofs.weigh.Given as goal
 
 abbrev pub invariant-loop-j : goal.invariant-loop-j

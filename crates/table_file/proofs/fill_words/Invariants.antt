@@ -1,13 +1,7 @@
 -- `table_file::fill_words` meets its contract. The loop's invariant: the first i words are the file's.
-use mathlib.Core.Path.{◌≡◌, refl, sym, ◌∙◌}
+use mathlib.Core.Path.{◌≡◌}
 use Prim.Native.Nat.{ℕ, ◌+◌, ◌-◌, ◌*◌, ◌≤◌, ◌<◌}
-use native.Mathlib.Omega.{arith}
-use borrow.Author.Count.{below_more}
-use lib.ListN.{length, get_or, length-set}
-use lib.Seq.{get_or-set_same, get_or-set_other, ext_get_or}
-use Rattle.table_file.specs.Words.{words_of}
-use Rattle.table_file.proofs.WordsLaws.{words-length}
-use Rattle.table_file.proofs.Laws.{words-at}
+use lib.ListN.{length, get_or}
 use Rattle.table_file.proofs.fill_words.Given as goal
 
 abbrev pub invariant-loop-i : goal.invariant-loop-i

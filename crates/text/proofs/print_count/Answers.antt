@@ -1,6 +1,5 @@
 -- `text::print_count` is safe: a number has at most 20 digits.
 use native.Mathlib.Omega.{arith}
-use borrow.Author.Rules.{rules}
 use lib.ListN.{length-append}
 use Rattle.numerals.specs.NumeralLaws.{decimal-most}
 use Rattle.text.proofs.print_count.Goals as goal

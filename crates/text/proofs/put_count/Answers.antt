@@ -1,7 +1,6 @@
 -- `text::put_count` meets its contract: the word and the digits are appended.
 use mathlib.Core.Path.{ap}
 use native.Mathlib.Omega.{arith}
-use borrow.Author.Rules.{rules}
 use lib.ListN.{length, length-append}
 use Rattle.text.specs.LinesLaws.{both_words}
 use Rattle.text.proofs.put_count.Goals as goal

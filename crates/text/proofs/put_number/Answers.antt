@@ -1,6 +1,5 @@
 -- `text::put_number` meets its contract: the digits are appended.
 use mathlib.Core.Path.{◌∙◌}
-use borrow.Author.Rules.{rules}
 use Rattle.text.specs.LinesLaws.{same_word}
 use Rattle.text.proofs.Laws.{number_digits}
 use Rattle.text.proofs.put_number.Goals as goal

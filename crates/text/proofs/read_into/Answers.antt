@@ -1,10 +1,7 @@
 -- `text::read_into` meets its contract: what is read lies within the buffer, and each turn reads at least a byte.
-use mathlib.Core.Path.{◌≡◌, sym}
-use Prim.Native.Nat.{◌-◌, ◌≤◌}
+use mathlib.Core.Path.{sym}
 use native.Mathlib.Omega.{arith}
-use borrow.Author.Rules.{rules}
 use lib.Seq.{length-take-le}
-use lib.ListN.{length}
 use Rattle.text.specs.Files.{read_count}
 use Rattle.text.proofs.read_into.Goals as goal
 

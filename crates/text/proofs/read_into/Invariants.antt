@@ -1,11 +1,7 @@
 -- `text::read_into` meets its contract: what is read lies within the buffer, and each turn reads at least a byte.
-use mathlib.Core.Path.{◌≡◌, sym}
+use mathlib.Core.Path.{◌≡◌}
 use Prim.Native.Nat.{◌-◌, ◌≤◌}
-use native.Mathlib.Omega.{arith}
-use borrow.Author.Rules.{rules}
-use lib.Seq.{length-take-le}
 use lib.ListN.{length}
-use Rattle.text.specs.Files.{read_count}
 use Rattle.text.proofs.read_into.Given as goal
 
 abbrev pub invariant-loop-n : goal.invariant-loop-n

@@ -1,5 +1,4 @@
 -- `text::read_table` meets its contract: the words stand at the start of the buffer.
-use borrow.Author.Rules.{rules}
 use Rattle.table_file.proofs.WordsLaws.{words-within}
 use Rattle.text.specs.Files.{read_count}
 use Rattle.text.proofs.read_table.Goals as goal

@@ -1,5 +1,4 @@
 -- `text::read_whole` meets its contract: what was read lies within the buffer.
-use borrow.Author.Rules.{rules}
 use Rattle.text.specs.Files.{read_count}
 use Rattle.text.proofs.read_whole.Goals as goal
 
