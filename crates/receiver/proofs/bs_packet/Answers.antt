@@ -9,9 +9,6 @@ use lib.ListN.{length}
 use mathlib.Core.Bool.{cond}
 use Rattle.table.specs.PacketCall.{packet_refusal, part_start, part_len}
 use Rattle.table.specs.PacketCallLaws.{packet-room}
-use Rattle.receiver.proofs.bs_packet.Reads as reads
-use Rattle.receiver.proofs.bs_packet.Lts as lts
-use Rattle.table.proofs.packet_refusal.Reads as packet-refusal-reads
 use Rattle.receiver.proofs.bs_packet.Goals as goal
 
 -- where the part lies, by the number that the leaf gives

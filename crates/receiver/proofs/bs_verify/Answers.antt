@@ -11,9 +11,6 @@ use Rattle.verify.specs.declared.Verified.{Verified}
 use Rattle.verify.specs.declared.Verified.TheVariants.{Fails}
 use Rattle.faults.specs.Faults.{check_of, byte_of}
 use Rattle.receiver.specs.Answers.{one_if}
-use Rattle.receiver.proofs.bs_verify.Reads as reads
-use Rattle.receiver.proofs.bs_verify.Lts as lts
-use Rattle.verify.proofs.verify.Reads as verify-reads
 use Rattle.receiver.proofs.bs_verify.Goals as goal
 
 -- a check's number is below 512, and a byte's below 1,024
@@ -36,10 +33,14 @@ fails-requires c =
     (omega (arith, most.0, most.1), omega (arith, most.0, most.1))
 
 pub returns-in-Refused : goal.returns-in-Refused
-returns-in-Refused c = numbers _ _ c.in-Refused.is c.verify.ensures
+returns-in-Refused c =
+    let v = numbers _ _ c.in-Refused.is c.verify.ensures in
+    record { refusal = v.0; codeword = v.1.0; check = v.1.1.0; byte = v.1.1.1 }
 
 pub returns-in-Codeword : goal.returns-in-Codeword
-returns-in-Codeword c = numbers _ _ c.in-Codeword.is c.verify.ensures
+returns-in-Codeword c =
+    let v = numbers _ _ c.in-Codeword.is c.verify.ensures in
+    record { refusal = v.0; codeword = v.1.0; check = v.1.1.0; byte = v.1.1.1 }
 
 pub returns-in-Fails : goal.returns-in-Fails
 returns-in-Fails c =
