@@ -1,5 +1,6 @@
 // The information packets copied to their places, each written once; and the clearing before it.
 #![tactic(auto)]
+
 ghost use Rattle.std.specs.Prelude.{◌≡◌, ◌*◌, ◌<◌, ◌≤◌, length, take};
 ghost use Rattle.plan.specs.Layout.{plan_places, info_count, info_in, step_count, steps_of, plan_refusal};
 ghost use Rattle.start.specs.Kept.{OthersKept};

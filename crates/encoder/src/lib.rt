@@ -1,5 +1,6 @@
 // The encoder.
 #![tactic(auto)]
+
 ghost use Rattle.std.specs.Prelude.{◌≡◌, ◌≤◌};
 ghost use Rattle.table.specs.Table.{most_bytes};
 ghost use Rattle.plan.specs.Layout.{plan_refusal};

@@ -1,5 +1,6 @@
 // The planner.
 #![tactic(auto)]
+
 ghost use Rattle.std.specs.Prelude.{◌≡◌, ◌≤◌, length};
 ghost use Rattle.table.specs.Table.{refusal};
 ghost use Rattle.plan.specs.Layout.{least_plan};

@@ -1,5 +1,6 @@
 // The steps of a plan carried out, as far as the limit.
 #![tactic(auto)]
+
 ghost use Rattle.std.specs.Prelude.{◌≡◌, cond, ◌≤◌, min, length};
 ghost use Rattle.plan.specs.Layout.{step_count};
 ghost use Rattle.start.specs.Start.{Lent};

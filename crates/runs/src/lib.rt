@@ -1,6 +1,7 @@
 // Runs of plan steps into one slot: a clear or none, and then add steps. A run is carried out piece by piece: the sum of a
 // piece's bytes is gathered, and written once.
 #![tactic(auto)]
+
 ghost use Rattle.std.specs.Prelude.{◌≡◌, ◌+◌, ◌≤◌, ◌<◌, length, replicate};
 ghost use Rattle.slots.specs.Runs.{sources_of, RunAt, Listed};
 ghost use Rattle.slots.specs.Slots.{RunIn, Gathers};

@@ -1,5 +1,6 @@
 // The slots of an encoding in block and scratch, steps as they are decoded, and parts of slots: added, and put back.
 #![tactic(auto)]
+
 ghost use Rattle.std.specs.Prelude.{◌≡◌, ◌+◌, ◌≤◌, length};
 ghost use Rattle.plan.specs.Step.{unpack};
 ghost use Rattle.slots.specs.Runs.{step_in, is_clear, target_of, source_into, sources_of, RunAt, Listed};

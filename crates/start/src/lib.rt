@@ -1,6 +1,7 @@
 // What stands in the slots before the first step, and the clearing: every slot but the information places becomes zero, but for
 // some that the first step on them clears.
 #![tactic(auto)]
+
 ghost use Rattle.std.specs.Prelude.{◌≡◌, List, [], ◌∷◌, ◌+◌, ◌*◌, ◌≤◌, length, take};
 ghost use Rattle.plan.specs.declared.Step.{Step as StepValue};
 ghost use Rattle.plan.specs.Layout.{plan_places, info_count, slots, step_count, steps_of, plan_refusal};

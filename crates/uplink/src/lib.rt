@@ -1,5 +1,6 @@
 // The uplink's library for C: the planner and the encoder.
 #![tactic(auto)]
+
 ghost use Rattle.std.specs.Prelude.{◌≡◌};
 ghost use Rattle.encoder.specs.Encoding.{encode_answer, encode_block_after, encode_scratch_after};
 ghost use Rattle.planning.specs.Planning.{planning_answer, planning_plan_after, planning_work_after};

@@ -1,6 +1,6 @@
 -- `copying::copy_information` meets its contract: what is left to copy decides the block.
 use Prim.Native.Nat.{ℕ, ◌-◌, ◌*◌, ◌≤◌, ◌<◌}
-use mathlib.Core.Path.{◌≡◌, refl, sym, ap, ◌∙◌}
+use mathlib.Core.Path.{refl, sym, ap, ◌∙◌}
 use mathlib.Core.List.{List}
 use lib.ListN.{length, take, drop, drop_of_length-le}
 use Rattle.table.specs.BufferLaws.{place-fits}

@@ -2,7 +2,6 @@
 use mathlib.Core.Path.{◌∙◌}
 use Rattle.plan.specs.LayoutLaws.{well}
 use Rattle.copying.proofs.CopyLaws.{prepared-for}
-use borrow.Author.Rules.{rules}
 use Rattle.copying.proofs.prepare.Goals as goal
 
 pub returns : goal.returns

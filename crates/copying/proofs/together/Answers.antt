@@ -1,8 +1,5 @@
 -- `copying::together` meets its contract: the places passed follow each other.
-use Prim.Native.Nat.{◌-◌}
-use Rattle.plan.specs.Layout.{info_in}
 use Rattle.plan.specs.LayoutLaws.{well, info-below}
-use Rattle.start.specs.Start.{Together}
 use Rattle.copying.proofs.Following.{together-one, together-more}
 use native.Mathlib.Omega.{arith}
 use Rattle.copying.proofs.together.Goals as goal

@@ -1,10 +1,7 @@
 -- `copying::together` meets its contract: the places passed follow each other.
 use Prim.Native.Nat.{◌-◌}
 use Rattle.plan.specs.Layout.{info_in}
-use Rattle.plan.specs.LayoutLaws.{well, info-below}
 use Rattle.start.specs.Start.{Together}
-use Rattle.copying.proofs.Following.{together-one, together-more}
-use native.Mathlib.Omega.{arith}
 use Rattle.copying.proofs.together.Given as goal
 
 abbrev pub invariant-loop-r : goal.invariant-loop-r

@@ -4,7 +4,6 @@ use native.Mathlib.Omega.{arith}
 use Rattle.table.specs.ChecksLaws.{limits, has-weights}
 use Rattle.table.specs.Table.{number}
 use Rattle.planning.specs.Refusals.{many-aside, served, gap_is, outcome-as}
-use borrow.Author.Rules.{rules}
 use Rattle.planner.proofs.plan_table.Goals as goal
 
 pub bounds-t-1 : goal.bounds-t-1
@@ -24,10 +23,14 @@ fill_starts-requires c =
 
 pub choose_checks-c-requires : goal.choose_checks-c-requires
 choose_checks-c-requires c =
-    let p = c.requires in record { located = record {
+    let p = c.requires in record {
+      located = record {
         table = record { accepted = p.table; number_is = c.wide-m.ensures; places-are = c.wide-n.ensures; size_is = refl };
         starts-at = c.fill_starts.ensures;
-      }; work = p.work; room = record { taken = omega arith; places = omega arith; put = omega arith } }
+      };
+      work = p.work;
+      room = record { taken = omega arith; places = omega arith; put = omega arith };
+    }
 
 pub returns-then-c-gt-MOST_ASIDE : goal.returns-then-c-gt-MOST_ASIDE
 returns-then-c-gt-MOST_ASIDE c =
@@ -35,9 +38,9 @@ returns-then-c-gt-MOST_ASIDE c =
     let t = c.args.t.now in
     let P = c.args.plan.now in
     let W = c.args.work.now in
-    let q = gap_is t in
+    let gq = gap_is t in
     let g = c.choose_checks-c.ensures.choice.gap in
-    let h = c.if-c-gt-MOST_ASIDE.true in 
+    let h = c.if-c-gt-MOST_ASIDE.true in
     let q = outcome-as t P W (many-aside t P W p.table p.room p.work (omega arith)) c.refused.ensures refl c.choose_checks-c.ensures.work in
     record { answer = q.0; plan = q.1.0; work = q.1.1 }
 
@@ -55,8 +58,8 @@ returns c =
     let t = c.args.t.now in
     let P = c.args.plan.now in
     let W = c.args.work.now in
-    let q = gap_is t in
+    let gq = gap_is t in
     let g = c.choose_checks-c.ensures.choice.gap in
-    let h = c.if-c-gt-MOST_ASIDE.false in 
+    let h = c.if-c-gt-MOST_ASIDE.false in
     let q = outcome-as t P W (served t P W p.table p.room p.work (omega arith)) c.write_out.ensures.answer c.write_out.ensures.plan c.choose_checks-c.ensures.work in
     record { answer = q.0; plan = q.1.0; work = q.1.1 }

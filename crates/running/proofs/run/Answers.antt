@@ -1,9 +1,8 @@
 -- `running::run` meets its contract: the slots are what the steps so far give, and the count is theirs.
-use Prim.Native.Nat.{ℕ, ◌-◌, ◌<◌, ◌≤◌}
+use Prim.Native.Nat.{ℕ, ◌<◌, ◌≤◌}
 use mathlib.Core.Path.{◌≡◌, refl, ◌∙◌}
-use lib.ListN.{length, length-replicate}
+use lib.ListN.{length-replicate}
 use Rattle.plan.specs.Layout.{step_count, steps_of}
-use Rattle.running.specs.Running.{Ran}
 use Rattle.plan.specs.LayoutLaws.{well}
 use Rattle.running.proofs.RunLaws.{adds-within, ran-none, skip-most, found, run_at, run-within, run-goes, ran-run}
 use borrow.Author.Rules.{rules}
@@ -71,8 +70,11 @@ add_run-count-requires c =
     let last = c.within in
     let r = found w q.result l.i c.decode-x.ensures c.target-to.ensures c.is_clear-fresh.ensures c.skipped.ensures in
     let more : l.i < last.result = omega (arith, last.ensures, c.loop-i-test.true) in
-    let all : last.result ≤ step_count w = omega (arith, last.ensures, p.steps) in record { run = rw c.places-n.ensures
-          (run_at w (well w p.lent.formed) q.result q.ensures l.i last.result more all r a.s _ _ (l.invariant.2 ∙ p.lent.block) (l.invariant.3 ∙ p.lent.scratch)); list = omega (arith, last.ensures, l.invariant.4) }
+    let all : last.result ≤ step_count w = omega (arith, last.ensures, p.steps) in record {
+      run = rw c.places-n.ensures
+          (run_at w (well w p.lent.formed) q.result q.ensures l.i last.result more all r a.s _ _ (l.invariant.2 ∙ p.lent.block) (l.invariant.3 ∙ p.lent.scratch));
+      list = omega (arith, last.ensures, l.invariant.4);
+    }
 
 pub overflow_cast-additions : goal.overflow_cast-additions
 overflow_cast-additions c =

@@ -1,13 +1,8 @@
 -- `running::run` meets its contract: the slots are what the steps so far give, and the count is theirs.
-use Prim.Native.Nat.{ℕ, ◌-◌, ◌<◌, ◌≤◌}
-use mathlib.Core.Path.{◌≡◌, refl, ◌∙◌}
-use lib.ListN.{length, length-replicate}
-use Rattle.plan.specs.Layout.{step_count, steps_of}
+use Prim.Native.Nat.{◌-◌, ◌≤◌}
+use mathlib.Core.Path.{◌≡◌}
+use lib.ListN.{length}
 use Rattle.running.specs.Running.{Ran}
-use Rattle.plan.specs.LayoutLaws.{well}
-use Rattle.running.proofs.RunLaws.{adds-within, ran-none, skip-most, found, run_at, run-within, run-goes, ran-run}
-use borrow.Author.Rules.{rules}
-use native.Mathlib.Omega.{arith}
 use Rattle.running.proofs.run.Given as goal
 
 abbrev pub invariant-loop-i : goal.invariant-loop-i

@@ -1,9 +1,6 @@
 -- `runs::add_rest` meets its contract: after each turn, the bytes passed of the slot are what the run gives.
-use Prim.Native.Nat.{◌-◌, ◌≤◌}
-use mathlib.Core.Path.{◌≡◌, refl, ◌∙◌}
-use lib.ListN.{length}
+use mathlib.Core.Path.{refl, ◌∙◌}
 use Rattle.runs.specs.GatherLaws.{gathers-none, gathers-on, gathers-as}
-use Rattle.slots.specs.Slots.{Gathers}
 use Rattle.runs.proofs.ListedLaws.{same-run}
 use native.Mathlib.Omega.{arith}
 use Rattle.runs.proofs.add_rest.Goals as goal

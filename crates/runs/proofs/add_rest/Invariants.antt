@@ -1,11 +1,8 @@
 -- `runs::add_rest` meets its contract: after each turn, the bytes passed of the slot are what the run gives.
 use Prim.Native.Nat.{◌-◌, ◌≤◌}
-use mathlib.Core.Path.{◌≡◌, refl, ◌∙◌}
+use mathlib.Core.Path.{◌≡◌}
 use lib.ListN.{length}
-use Rattle.runs.specs.GatherLaws.{gathers-none, gathers-on, gathers-as}
 use Rattle.slots.specs.Slots.{Gathers}
-use Rattle.runs.proofs.ListedLaws.{same-run}
-use native.Mathlib.Omega.{arith}
 use Rattle.runs.proofs.add_rest.Given as goal
 
 abbrev pub invariant-loop-off : goal.invariant-loop-off

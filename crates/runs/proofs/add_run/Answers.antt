@@ -3,7 +3,6 @@ use mathlib.Core.Path.{sym}
 use lib.Seq.{length-take-le}
 use Rattle.runs.specs.GatherLaws.{gathers-on}
 use Rattle.runs.proofs.ListedLaws.{same-run, listed-room, listed-run, listed-gathers}
-use borrow.Author.Rules.{rules}
 use native.Mathlib.Omega.{arith}
 use Rattle.runs.proofs.add_run.Goals as goal
 

@@ -1,6 +1,5 @@
 -- `runs::run_part` meets its contract: what the run starts from is added, then its slots, and the sum is put back.
 use Rattle.runs.specs.GatherLaws.{gathers-part}
-use borrow.Author.Rules.{rules}
 use Rattle.runs.proofs.run_part.Goals as goal
 
 pub returns : goal.returns

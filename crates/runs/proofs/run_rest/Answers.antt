@@ -5,7 +5,6 @@ use lib.ListN.{length, take, replicate}
 use lib.Seq.{length-take-le}
 use Rattle.table.specs.SumLaws.{part-zeros}
 use Rattle.runs.specs.GatherLaws.{gathers-as}
-use borrow.Author.Rules.{rules}
 use native.Mathlib.Omega.{arith}
 use Rattle.runs.proofs.run_rest.Goals as goal
 

@@ -3,7 +3,6 @@ use Prim.Native.Nat.{ℕ}
 use mathlib.Core.Path.{refl}
 use lib.ListN.{replicate, length-replicate}
 use Rattle.runs.specs.GatherLaws.{gathers-part, gathers-as}
-use borrow.Author.Rules.{rules}
 use native.Mathlib.Omega.{arith}
 use Rattle.runs.proofs.start_chunk.Goals as goal
 
@@ -15,5 +14,8 @@ collect-count-requires c =
 pub returns : goal.returns
 returns c =
     let e = c.collect-count.ensures in
-    let long = length-replicate {A = ℕ} 64 0 in record { list = e.list; slot = gathers-as (omega arith)
-          (gathers-part 0 (replicate 64 0) _ _ refl (omega (arith, c.requires.room)) c.add_base.auto.acc c.add_base.ensures e.sum c.put_part.ensures) }
+    let long = length-replicate {A = ℕ} 64 0 in record {
+      list = e.list;
+      slot = gathers-as (omega arith)
+          (gathers-part 0 (replicate 64 0) _ _ refl (omega (arith, c.requires.room)) c.add_base.auto.acc c.add_base.ensures e.sum c.put_part.ensures);
+    }

@@ -1,7 +1,6 @@
 -- `slots::add_base` meets its contract: nothing after a clear.
 use borrow.Author.Tests.{not-true, not-false}
 use Rattle.slots.proofs.PartLaws.{zeros-added}
-use borrow.Author.Rules.{rules}
 use Rattle.slots.proofs.add_base.Goals as goal
 
 pub returns-then-not-fresh : goal.returns-then-not-fresh

@@ -1,6 +1,5 @@
 -- `slots::add_part` meets its contract: in the block or in the scratch.
 use Rattle.slots.proofs.PartLaws.{added-front, added-back}
-use borrow.Author.Rules.{rules}
 use native.Mathlib.Omega.{arith}
 use Rattle.slots.proofs.add_part.Goals as goal
 

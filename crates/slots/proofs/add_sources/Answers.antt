@@ -1,9 +1,6 @@
 -- `slots::add_sources` meets its contract: after m turns, the parts of the first m slots are added.
-use Prim.Native.Nat.{◌-◌, ◌≤◌}
-use mathlib.Core.Path.{◌≡◌, refl, ◌∙◌}
-use lib.ListN.{length, take}
+use mathlib.Core.Path.{refl, ◌∙◌}
 use lib.Seq.{take_all}
-use Rattle.slots.specs.Slots.{PartsAdded}
 use Rattle.slots.proofs.PartLaws.{parts_none, parts_more, parts-as, take_more}
 use native.Mathlib.Omega.{arith}
 use Rattle.slots.proofs.add_sources.Goals as goal

@@ -1,11 +1,8 @@
 -- `slots::add_sources` meets its contract: after m turns, the parts of the first m slots are added.
 use Prim.Native.Nat.{◌-◌, ◌≤◌}
-use mathlib.Core.Path.{◌≡◌, refl, ◌∙◌}
+use mathlib.Core.Path.{◌≡◌}
 use lib.ListN.{length, take}
-use lib.Seq.{take_all}
 use Rattle.slots.specs.Slots.{PartsAdded}
-use Rattle.slots.proofs.PartLaws.{parts_none, parts_more, parts-as, take_more}
-use native.Mathlib.Omega.{arith}
 use Rattle.slots.proofs.add_sources.Given as goal
 
 abbrev pub invariant-loop-m : goal.invariant-loop-m

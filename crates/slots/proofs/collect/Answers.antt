@@ -1,13 +1,12 @@
 -- `slots::collect` meets its contract: the sources passed are listed, and their parts added.
-use Prim.Native.Nat.{◌-◌, ◌<◌, ◌≤◌}
+use Prim.Native.Nat.{◌<◌}
 use mathlib.Core.Path.{◌≡◌, refl, ap, ◌∙◌}
 use mathlib.Core.List.{[], ◌∷◌, ◌++◌}
 use lib.ListN.{length, take, length-set}
 use lib.Seq.{take_all}
 use Rattle.slots.specs.Runs.{source_into, sources_of}
-use Rattle.slots.specs.Slots.{PartsAdded}
 use Rattle.slots.proofs.PartLaws.{parts_none, parts_more, parts-as, take-written}
-use Rattle.slots.proofs.StepLaws.{Passed, passed_none, passed-end, passed-stop, passed-next}
+use Rattle.slots.proofs.StepLaws.{passed_none, passed-end, passed-stop, passed-next}
 use native.Mathlib.Omega.{arith}
 use Rattle.slots.proofs.collect.Goals as goal
 

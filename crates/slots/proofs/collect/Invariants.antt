@@ -1,14 +1,10 @@
 -- `slots::collect` meets its contract: the sources passed are listed, and their parts added.
-use Prim.Native.Nat.{◌-◌, ◌<◌, ◌≤◌}
-use mathlib.Core.Path.{◌≡◌, refl, ap, ◌∙◌}
-use mathlib.Core.List.{[], ◌∷◌, ◌++◌}
-use lib.ListN.{length, take, length-set}
-use lib.Seq.{take_all}
-use Rattle.slots.specs.Runs.{source_into, sources_of}
+use Prim.Native.Nat.{◌-◌, ◌≤◌}
+use mathlib.Core.Path.{◌≡◌}
+use lib.ListN.{length, take}
+use Rattle.slots.specs.Runs.{sources_of}
 use Rattle.slots.specs.Slots.{PartsAdded}
-use Rattle.slots.proofs.PartLaws.{parts_none, parts_more, parts-as, take-written}
-use Rattle.slots.proofs.StepLaws.{Passed, passed_none, passed-end, passed-stop, passed-next}
-use native.Mathlib.Omega.{arith}
+use Rattle.slots.proofs.StepLaws.{Passed}
 use Rattle.slots.proofs.collect.Given as goal
 
 abbrev pub invariant-loop-count : goal.invariant-loop-count

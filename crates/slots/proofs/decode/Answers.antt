@@ -2,7 +2,6 @@
 use mathlib.Core.Path.{sym, ◌∙◌}
 use Rattle.plan.specs.Step.{unpack}
 use Rattle.slots.proofs.StepLaws.{decoded-valid, decoded-invalid}
-use borrow.Author.Rules.{rules}
 use Rattle.slots.proofs.decode.Goals as goal
 
 pub returns-in-Valid : goal.returns-in-Valid

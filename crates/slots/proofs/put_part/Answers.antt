@@ -1,6 +1,5 @@
 -- `slots::put_part` meets its contract: in the block or in the scratch.
 use Rattle.slots.proofs.PartLaws.{put_front, put_back}
-use borrow.Author.Rules.{rules}
 use native.Mathlib.Omega.{arith}
 use Rattle.slots.proofs.put_part.Goals as goal
 

@@ -4,7 +4,6 @@ use Rattle.start.proofs.ClearLaws.{gap-none, gap_more}
 use mathlib.Core.Path.{◌≡◌}
 use native.Mathlib.Nat.{mul-le-mul_right}
 use native.Mathlib.Omega.{arith}
-use borrow.Author.Rules.{rules}
 use Rattle.start.proofs.clear_gap.Goals as goal
 
 pub overflow_mul-low : goal.overflow_mul-low

@@ -1,10 +1,8 @@
 -- `start::clear_gaps` meets its contract: the gaps before the first i information places are done.
-use Prim.Native.Nat.{◌-◌, ◌≤◌}
+use Prim.Native.Nat.{◌≤◌}
 use mathlib.Core.Path.{◌≡◌, refl, ◌∙◌}
-use lib.ListN.{length}
 use Rattle.plan.specs.Layout.{plan_places, info_in}
 use Rattle.plan.specs.LayoutLaws.{well, info-below, info-length}
-use Rattle.start.specs.Start.{GapsCleared}
 use Rattle.start.proofs.ClearLaws.{gaps-none, gaps-more}
 use Rattle.start.proofs.GapLaws.{behind-le}
 use native.Mathlib.Nat.{mul-le-mul_right}

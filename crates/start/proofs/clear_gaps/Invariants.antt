@@ -1,14 +1,8 @@
 -- `start::clear_gaps` meets its contract: the gaps before the first i information places are done.
 use Prim.Native.Nat.{◌-◌, ◌≤◌}
-use mathlib.Core.Path.{◌≡◌, refl, ◌∙◌}
+use mathlib.Core.Path.{◌≡◌}
 use lib.ListN.{length}
-use Rattle.plan.specs.Layout.{plan_places, info_in}
-use Rattle.plan.specs.LayoutLaws.{well, info-below, info-length}
 use Rattle.start.specs.Start.{GapsCleared}
-use Rattle.start.proofs.ClearLaws.{gaps-none, gaps-more}
-use Rattle.start.proofs.GapLaws.{behind-le}
-use native.Mathlib.Nat.{mul-le-mul_right}
-use native.Mathlib.Omega.{arith}
 use Rattle.start.proofs.clear_gaps.Given as goal
 
 abbrev pub invariant-loop-i : goal.invariant-loop-i

@@ -7,7 +7,6 @@ use Rattle.plan.specs.LookOver.{most_slots}
 use Rattle.start.proofs.ClearLaws.{gaps-low, all-kept, cleared-for}
 use Rattle.start.proofs.MarkLaws.{marked-none}
 use native.Mathlib.Omega.{arith}
-use borrow.Author.Rules.{rules}
 use Rattle.start.proofs.clear_others.Goals as goal
 
 pub places-n-requires : goal.places-n-requires

@@ -1,8 +1,5 @@
 -- `start::clear_unmarked` meets its contract: the packets below i are done, the others as they were.
-use Prim.Native.Nat.{◌-◌, ◌≤◌}
 use mathlib.Core.Path.{◌≡◌, refl, ◌∙◌}
-use lib.ListN.{length}
-use Rattle.start.specs.Start.{GapCleared}
 use Rattle.start.specs.RunBytes.{run-bytes}
 use Rattle.start.proofs.ClearLaws.{gap-none, gap_more, turn_on}
 use native.Mathlib.Nat.{mul-le-mul_right}

@@ -1,12 +1,9 @@
 -- `start::mark_cleared` meets its contract: the marks are those of the steps from i on.
-use Prim.Native.Nat.{◌-◌, ◌≤◌}
-use mathlib.Core.Path.{◌≡◌, refl, ◌∙◌}
+use Prim.Native.Nat.{◌≤◌}
+use mathlib.Core.Path.{◌≡◌}
 use lib.ListN.{length, take, drop}
 use Rattle.plan.specs.Layout.{steps_of}
 use Rattle.start.specs.Start.{Marked}
-use Rattle.plan.specs.LayoutLaws.{well}
-use Rattle.start.proofs.MarkLaws.{step-in-front, step-below, no-more-steps}
-use native.Mathlib.Omega.{arith}
 use Rattle.start.proofs.mark_cleared.Given as goal
 
 abbrev pub invariant-loop-i : goal.invariant-loop-i

@@ -1,6 +1,5 @@
 -- `start::mark_slots` meets its contract: all marks, or none.
 use Rattle.start.proofs.MarkLaws.{only-marked, only_none}
-use borrow.Author.Rules.{rules}
 use Rattle.start.proofs.mark_slots.Goals as goal
 
 pub returns-then-s-ge-LONG : goal.returns-then-s-ge-LONG

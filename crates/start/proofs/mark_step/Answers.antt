@@ -1,7 +1,6 @@
 -- `start::mark_step` meets its contract: by the kind of the step.
 use lib.ListN.{length-set}
 use Rattle.start.proofs.MarkLaws.{mark-clear, mark-add}
-use borrow.Author.Rules.{rules}
 use Rattle.start.proofs.mark_step.Goals as goal
 
 pub bounds-marks-to : goal.bounds-marks-to

@@ -1,5 +1,5 @@
 -- `start::past` meets its contract: the packets passed are all marked, or none is.
-use Prim.Native.Nat.{ℕ, ◌+◌, ◌-◌, ◌<◌, ◌≤◌}
+use Prim.Native.Nat.{◌+◌, ◌≤◌}
 use mathlib.Core.Path.{◌≡◌}
 use borrow.Author.Count.{below_more}
 use Rattle.plan.specs.LookOver.{is_marked}

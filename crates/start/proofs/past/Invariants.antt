@@ -1,10 +1,7 @@
 -- `start::past` meets its contract: the packets passed are all marked, or none is.
 use Prim.Native.Nat.{ℕ, ◌+◌, ◌-◌, ◌<◌, ◌≤◌}
 use mathlib.Core.Path.{◌≡◌}
-use borrow.Author.Count.{below_more}
 use Rattle.plan.specs.LookOver.{is_marked}
-use Rattle.start.proofs.MarkLaws.{marked-unlike, marked-like}
-use native.Mathlib.Omega.{arith}
 use Rattle.start.proofs.past.Given as goal
 
 abbrev pub invariant-loop-r : goal.invariant-loop-r
