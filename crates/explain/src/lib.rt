@@ -1,5 +1,6 @@
 // The reason for one lost place: the checks that restore it, or the least set of lost places with it.
 #![tactic(auto)]
+
 ghost use Rattle.std.specs.Prelude.{true, ◌≡◌, ◌+◌, ◌*◌, ◌^◌, ◌≤◌, ◌<◌, length};
 ghost use Rattle.erasure.specs.Restoring.{is_lost};
 ghost use Rattle.gf2.specs.Gf2.{path};

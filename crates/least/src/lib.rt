@@ -1,5 +1,6 @@
 // The least set of lost places for a place that stays lost: solving by the rows that lead places, from the lowest bit up.
 #![tactic(auto)]
+
 ghost use Rattle.std.specs.Prelude.{◌≡◌, ℕ, ◌+◌, ◌-◌, ◌*◌, ◌≤◌, ◌<◌, length, get_or};
 ghost use Rattle.gf2.specs.Gf2.{Bits};
 ghost use Rattle.gf2.specs.Separate.{meets};

@@ -1,5 +1,6 @@
 // The receiver: why a packet is missing, the call with its refusals.
 #![tactic(auto)]
+
 ghost use Rattle.std.specs.Prelude.{◌≡◌, ◌*◌, ◌≤◌, ◌<◌, length, replicate};
 ghost use Rattle.full.specs.Full.{FittingAll};
 ghost use Rattle.table.specs.Accepted.{Accepted};

@@ -1,7 +1,6 @@
 -- `explain::explain` meets its contract.
 use native.Mathlib.Nat.{pos_of_ne-zero}
 use native.Mathlib.Omega.{arith}
-use borrow.Author.Rules.{rules}
 use Rattle.lists.specs.ListLaws.{get_d-zeros}
 use Rattle.bits.specs.Front.{front-room}
 use Rattle.rows.specs.LeadsLaws.{owners-kept}

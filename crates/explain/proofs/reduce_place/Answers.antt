@@ -1,6 +1,5 @@
 -- `explain::reduce_place` meets its contract.
 use native.Mathlib.Omega.{arith}
-use borrow.Author.Rules.{rules}
 use Rattle.bits.specs.Front.{front-is}
 use Rattle.gf2.specs.Settling.{pow-short}
 use Rattle.reasons.specs.Mirror.{mirror, mirror-lt}

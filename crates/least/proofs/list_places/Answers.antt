@@ -1,6 +1,5 @@
 -- `least::list_places` meets its contract.
 use native.Mathlib.Omega.{arith}
-use borrow.Author.Rules.{rules}
 use Rattle.bits.specs.Front.{front-is}
 use Rattle.rows.specs.Leads.{leads}
 use Rattle.least.proofs.Solving.{solved-list}

@@ -1,14 +1,12 @@
 -- `least::meets_set` meets its contract: the bits below q are looked at.
-use Prim.Native.Nat.{◌-◌, ◌≤◌}
 use mathlib.Core.Path.{◌≡◌, refl, sym, ◌∙◌}
-use mathlib.Core.Logic.{⊎_elim}
 use native.Mathlib.Omega.{arith}
 use borrow.Author.Tests.{eq-eqb, ne_eqb}
 use Rattle.bits.specs.Row.{row}
-use Rattle.gf2.specs.Separate.{meets}
 use Rattle.least.specs.Solved.{in_set}
 use Rattle.least.proofs.Solving.{met, not-in-row, not-in-set}
 use Rattle.least.proofs.meets_set.Goals as goal
+use Rattle.least.proofs.meets_set.Goals.{then-set-q-eq1+then-has_place, then-set-q-eq1+else-has_place, else-set-q-eq1}
 
 pub loop-q-init : goal.loop-q-init
 loop-q-init c = (omega arith, refl)
@@ -25,13 +23,11 @@ loop-q-preserved c =
     let s = c.loop-q in
     let S = in_set a.set.now in
     let r = row a.w.now a.r in
-    ⊎_elim
-    (λ u. (omega arith, u.3 ∙ met S s.q r (eq-eqb _ 1 u.0.taken) (sym u.1.ensures ∙ u.2.taken) s.invariant.1))
-    (λ v. ⊎_elim
-    (λ u. (omega arith, u.3 ∙ not-in-row S s.q r (sym u.1.ensures ∙ u.2.left) s.invariant.1))
-    (λ u. (omega arith, u.1 ∙ not-in-set S s.q r (ne_eqb _ 1 u.0.left) s.invariant.1))
-    v)
-    c.if-set-q-eq1.branch
+    elim c.if-set-q-eq1.branch [
+      | then-set-q-eq1+then-has_place u ↦ (omega arith, u.odd-is ∙ met S s.q r (eq-eqb _ 1 u.if-set-q-eq1.true) (sym u.has_place.ensures ∙ u.if-has_place.true) s.invariant.1)
+      | then-set-q-eq1+else-has_place u ↦ (omega arith, u.odd-is ∙ not-in-row S s.q r (sym u.has_place.ensures ∙ u.if-has_place.false) s.invariant.1)
+      | else-set-q-eq1 u ↦ (omega arith, u.odd-is ∙ not-in-set S s.q r (ne_eqb _ 1 u.if-set-q-eq1.false) s.invariant.1)
+    ]
 
 pub returns : goal.returns
 returns c =

@@ -1,13 +1,9 @@
 -- `least::meets_set` meets its contract: the bits below q are looked at.
 use Prim.Native.Nat.{◌-◌, ◌≤◌}
-use mathlib.Core.Path.{◌≡◌, refl, sym, ◌∙◌}
-use mathlib.Core.Logic.{⊎_elim}
-use native.Mathlib.Omega.{arith}
-use borrow.Author.Tests.{eq-eqb, ne_eqb}
+use mathlib.Core.Path.{◌≡◌}
 use Rattle.bits.specs.Row.{row}
 use Rattle.gf2.specs.Separate.{meets}
 use Rattle.least.specs.Solved.{in_set}
-use Rattle.least.proofs.Solving.{met, not-in-row, not-in-set}
 use Rattle.least.proofs.meets_set.Given as goal
 
 abbrev pub invariant-loop-q : goal.invariant-loop-q

@@ -1,15 +1,15 @@
 -- `least::solve_set` meets its contract: the bits below q are solved.
-use Prim.Native.Nat.{ℕ, ◌-◌, ◌<◌, ◌≤◌}
+use Prim.Native.Nat.{◌<◌}
 use mathlib.Core.Path.{◌≡◌, refl, sym, ap, ◌∙◌}
-use mathlib.Core.Logic.{⊎_elim}
 use native.Mathlib.Nat.{pos_of_ne-zero}
 use native.Mathlib.Omega.{arith}
 use lib.ListN.{length, length-set}
 use Rattle.gf2.specs.Separate.{meets}
 use Rattle.rows.specs.Leads.{leads}
 use Rattle.least.specs.Solved.{in_set}
-use Rattle.least.proofs.Solving.{up_to, solved-none, next-free, written-lead, free-zero, lead-row, lead-nonzero}
+use Rattle.least.proofs.Solving.{solved-none, next-free, written-lead, free-zero, lead-row, lead-nonzero}
 use Rattle.least.proofs.solve_set.Goals as goal
+use Rattle.least.proofs.solve_set.Goals.{then-o-ne0+then-meets_set, then-o-ne0+else-meets_set, else-o-ne0}
 
 pub loop-q-init : goal.loop-q-init
 loop-q-init c = let a = c.args in (omega arith, refl, λ j. sym (solved-none (leads a.w.now a.owner.now) (in_set a.set.now) j))
@@ -47,23 +47,21 @@ loop-q-preserved c =
     let at = lead-row a.w.now a.owner.now p.rows.1 s.q c.wide-o.result e in
     let nz = lead-nonzero a.w.now a.owner.now p.rows.1 s.q c.wide-o.result e in
     let room : s.q < length s.set = let r = p.room.1 in omega arith in
-    ⊎_elim
-    (λ u. (
-      omega arith,
-      ap length u.4 ∙ simp length-set l,
-      rw u.4 (written-lead F (in_set a.set.now) s.q s.set 1 room (nz u.0.taken) s.invariant.2
-          (sym u.3.taken ∙ u.2.ensures ∙ ap (meets (in_set s.set) s.q) (sym (at u.0.taken)))),
-    ))
-    (λ v. ⊎_elim
-    (λ u. (
-      omega arith,
-      ap length u.4 ∙ simp length-set l,
-      rw u.4 (written-lead F (in_set a.set.now) s.q s.set 0 room (nz u.0.taken) s.invariant.2
-          (sym u.3.left ∙ u.2.ensures ∙ ap (meets (in_set s.set) s.q) (sym (at u.0.taken)))),
-    ))
-    (λ u. (omega arith, ap length u.1 ∙ l, rw u.1 (λ j. s.invariant.2 j ∙ sym (next-free F (in_set a.set.now) s.q (free-zero a.w.now a.owner.now p.rows.1 s.q c.wide-o.result e u.0.left) j))))
-    v)
-    c.if-o-ne0.branch
+    elim c.if-o-ne0.branch [
+      | then-o-ne0+then-meets_set u ↦ (
+        omega arith,
+        ap length u.set-is ∙ simp length-set l,
+        rw u.set-is (written-lead F (in_set a.set.now) s.q s.set 1 room (nz u.if-o-ne0.true) s.invariant.2
+            (sym u.if-meets_set.true ∙ u.meets_set.ensures ∙ ap (meets (in_set s.set) s.q) (sym (at u.if-o-ne0.true)))),
+      )
+      | then-o-ne0+else-meets_set u ↦ (
+        omega arith,
+        ap length u.set-is ∙ simp length-set l,
+        rw u.set-is (written-lead F (in_set a.set.now) s.q s.set 0 room (nz u.if-o-ne0.true) s.invariant.2
+            (sym u.if-meets_set.false ∙ u.meets_set.ensures ∙ ap (meets (in_set s.set) s.q) (sym (at u.if-o-ne0.true)))),
+      )
+      | else-o-ne0 u ↦ (omega arith, ap length u.set-is ∙ l, rw u.set-is (λ j. s.invariant.2 j ∙ sym (next-free F (in_set a.set.now) s.q (free-zero a.w.now a.owner.now p.rows.1 s.q c.wide-o.result e u.if-o-ne0.false) j)))
+    ]
 
 pub shape_of-set : goal.shape_of-set
 shape_of-set c = c.loop-q.invariant.1

@@ -1,14 +1,10 @@
 -- `least::solve_set` meets its contract: the bits below q are solved.
-use Prim.Native.Nat.{ℕ, ◌-◌, ◌<◌, ◌≤◌}
-use mathlib.Core.Path.{◌≡◌, refl, sym, ap, ◌∙◌}
-use mathlib.Core.Logic.{⊎_elim}
-use native.Mathlib.Nat.{pos_of_ne-zero}
-use native.Mathlib.Omega.{arith}
-use lib.ListN.{length, length-set}
-use Rattle.gf2.specs.Separate.{meets}
+use Prim.Native.Nat.{ℕ, ◌-◌, ◌≤◌}
+use mathlib.Core.Path.{◌≡◌}
+use lib.ListN.{length}
 use Rattle.rows.specs.Leads.{leads}
 use Rattle.least.specs.Solved.{in_set}
-use Rattle.least.proofs.Solving.{up_to, solved-none, next-free, written-lead, free-zero, lead-row, lead-nonzero}
+use Rattle.least.proofs.Solving.{up_to}
 use Rattle.least.proofs.solve_set.Given as goal
 
 abbrev pub invariant-loop-q : goal.invariant-loop-q

@@ -1,14 +1,12 @@
 -- `least::write_places` meets its contract: the places below p are looked at.
-use Prim.Native.Nat.{◌-◌, ◌≤◌}
 use mathlib.Core.Path.{◌≡◌, refl, sym, ap, ◌∙◌}
-use mathlib.Core.Logic.{⊎_elim}
 use native.Mathlib.Omega.{arith}
 use lib.ListN.{length, length-set}
 use borrow.Author.Tests.{eq-eqb, ne_eqb}
-use Rattle.bits.specs.Front.{Front}
 use Rattle.least.specs.Solved.{in_set}
-use Rattle.least.proofs.Solving.{places_below, places-start, places-hit, places-miss}
+use Rattle.least.proofs.Solving.{places-start, places-hit, places-miss}
 use Rattle.least.proofs.write_places.Goals as goal
+use Rattle.least.proofs.write_places.Goals.{then-set-bit_of-eq1, else-set-bit_of-eq1}
 
 pub loop-p-init : goal.loop-p-init
 loop-p-init c = (omega arith, omega arith, refl, places-start c.args.n (in_set c.args.set.now))
@@ -25,10 +23,10 @@ loop-p-preserved c =
     let s = c.loop-p in
     let room = c.requires.1 in
     let d = s.invariant.1 in
-    ⊎_elim
-    (λ u. (omega arith, rw u.2 (omega arith), ap length u.1 ∙ simp length-set s.invariant.2, rw (u.1, u.2) (places-hit a.n (in_set a.set.now) s.p (sym (ap (in_set a.set.now) c.bit_of.ensures) ∙ eq-eqb _ 1 u.0.taken) (omega arith) s.invariant.3)))
-    (λ u. (omega arith, rw u.2 (omega arith), ap length u.1 ∙ s.invariant.2, rw (u.1, u.2) (places-miss a.n (in_set a.set.now) s.p (sym (ap (in_set a.set.now) c.bit_of.ensures) ∙ ne_eqb _ 1 u.0.left) s.invariant.3)))
-    c.if-set-bit_of-eq1.branch
+    elim c.if-set-bit_of-eq1.branch [
+      | then-set-bit_of-eq1 u ↦ (omega arith, rw u.c-is (omega arith), ap length u.list-is ∙ simp length-set s.invariant.2, rw (u.list-is, u.c-is) (places-hit a.n (in_set a.set.now) s.p (sym (ap (in_set a.set.now) c.bit_of.ensures) ∙ eq-eqb _ 1 u.if-set-bit_of-eq1.true) (omega arith) s.invariant.3))
+      | else-set-bit_of-eq1 u ↦ (omega arith, rw u.c-is (omega arith), ap length u.list-is ∙ s.invariant.2, rw (u.list-is, u.c-is) (places-miss a.n (in_set a.set.now) s.p (sym (ap (in_set a.set.now) c.bit_of.ensures) ∙ ne_eqb _ 1 u.if-set-bit_of-eq1.false) s.invariant.3))
+    ]
 
 pub shape_of-list : goal.shape_of-list
 shape_of-list c = c.loop-p.invariant.2

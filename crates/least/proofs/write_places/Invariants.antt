@@ -1,13 +1,10 @@
 -- `least::write_places` meets its contract: the places below p are looked at.
 use Prim.Native.Nat.{◌-◌, ◌≤◌}
-use mathlib.Core.Path.{◌≡◌, refl, sym, ap, ◌∙◌}
-use mathlib.Core.Logic.{⊎_elim}
-use native.Mathlib.Omega.{arith}
-use lib.ListN.{length, length-set}
-use borrow.Author.Tests.{eq-eqb, ne_eqb}
+use mathlib.Core.Path.{◌≡◌}
+use lib.ListN.{length}
 use Rattle.bits.specs.Front.{Front}
 use Rattle.least.specs.Solved.{in_set}
-use Rattle.least.proofs.Solving.{places_below, places-start, places-hit, places-miss}
+use Rattle.least.proofs.Solving.{places_below}
 use Rattle.least.proofs.write_places.Given as goal
 
 abbrev pub invariant-loop-p : goal.invariant-loop-p

@@ -2,7 +2,6 @@
 use Rattle.table.specs.Accepted.{looked-over, words, block-small}
 use mathlib.Core.Path.{refl, sym, ◌∙◌}
 use native.Mathlib.Omega.{arith}
-use borrow.Author.Rules.{rules}
 use Rattle.why.proofs.Looking.{found-table, found-block, found_map, found-work, found-reason, found-byte, found-place, found_none}
 use Rattle.why.proofs.look.Goals as goal
 

@@ -2,15 +2,14 @@
 use Prim.Native.Nat.{ℕ}
 use mathlib.Core.Bool.{cond}
 use mathlib.Core.Path.{◌≡◌, sym, ap, ◌∙◌}
-use mathlib.Core.Logic.{⊎_elim}
 use native.Mathlib.Omega.{arith}
-use borrow.Author.Rules.{rules}
 use borrow.Author.Tests.{eq-eqb, ne_eqb}
 use lib.ListN.{replicate}
 use Rattle.bits.specs.Front.{front-room}
 use Rattle.table.specs.Table.{checks}
 use Rattle.why.proofs.Telling.{tells-received, tells-found}
 use Rattle.why.proofs.tell.Goals as goal
+use Rattle.why.proofs.tell.Goals.{then-r, else-r}
 
 pub bounds-lost-place : goal.bounds-lost-place
 bounds-lost-place c = let l = c.requires.table.1 in let h = c.requires.room.0 in omega arith
@@ -40,5 +39,5 @@ pub returns : goal.returns
 returns c =
     let a = c.args in
     let r = c.explain-r.result in
-    let is : c.if-r.result ≡ cond r.restored 2 3 = ⊎_elim (λ u. u.1 ∙ sym (ap (λ v. cond v 2 3) u.0.taken)) (λ u. u.1 ∙ sym (ap (λ v. cond v 2 3) u.0.left)) c.if-r.branch in
+    let is : c.if-r.result ≡ cond r.restored 2 3 = elim c.if-r.branch [ then-r u ↦ u.result-is ∙ sym (ap (λ v. cond v 2 3) u.if-r.true) | else-r u ↦ u.result-is ∙ sym (ap (λ v. cond v 2 3) u.if-r.false) ] in
     tells-found a.n (checks a.t.now) a.lost.now a.place (eq-eqb _ 1 c.if-lost-place-ne1.false) (c.clear_numbers.ensures ∙ ap (λ (k : ℕ). replicate k 0) c.requires.room.2) c.explain-r.ensures _ is

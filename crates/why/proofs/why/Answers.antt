@@ -1,7 +1,6 @@
 -- `why::why` meets its contract.
 use mathlib.Core.Path.{sym, ap, ◌∙◌}
 use native.Mathlib.Omega.{arith}
-use borrow.Author.Rules.{rules}
 use Rattle.why.specs.Why.{why_refused}
 use Rattle.why.specs.WhyLaws.{early-fits}
 use Rattle.why.proofs.Answering.{explains-early}
