@@ -39,7 +39,7 @@ stairs-on k {j} {L} s nil = let z : j ≡ j + 0 = omega arith in subst (λ x. St
 stairs-on k {j} {L} s (cons {x = l} {l = ls} a b) =
     let z : suc j + length ls ≡ j + suc (length ls) = omega arith in
     subst (λ x. Stairs k x (L ++ ((l ++ stair k j) ∷ stairs_from k (suc j) ls))) z
-    (subst (Stairs k (suc j + length ls)) (append_assoc L ((l ++ stair k j) ∷ []) (stairs_from k (suc j) ls)) (stairs-on k (more s a) b))
+    (subst (Stairs k (suc j + length ls)) (append_assoc L ((l ++ stair k j) ∷ []) (stairs_from k (suc j) ls)) (stairs-on k {j = suc j} {L = L ++ ((l ++ stair k j) ∷ [])} (more s a) b))
 
 -- its checks have no place from k + j on
 stairs-low : {k j : ℕ} {L : List (List ℕ)} → Stairs k j L → (q : ℕ) → k + j ≤ q → All (λ c. has q c ≡ false) L
