@@ -1,5 +1,6 @@
 // The receiver's library for C: the packet call, verification, repair, full repair, merging, a longer table, and the reason for one place.
 #![tactic(auto)]
+
 ghost use Rattle.std.specs.Prelude.{◌≡◌, ◌≤◌, length};
 ghost use Rattle.table.specs.PacketCall.{packet_refusal, part_start, part_len};
 ghost use Rattle.verify.specs.Verify.{verify_answer};

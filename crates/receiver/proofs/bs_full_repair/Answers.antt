@@ -1,5 +1,4 @@
 -- `receiver::bs_full_repair` meets its contract.
-use borrow.Author.Rules.{rules}
 use Rattle.receiver.proofs.bs_full_repair.Goals as goal
 
 pub returns : goal.returns

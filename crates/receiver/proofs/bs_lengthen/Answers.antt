@@ -1,5 +1,4 @@
 -- `receiver::bs_lengthen` meets its contract.
-use borrow.Author.Rules.{rules}
 use Rattle.receiver.proofs.bs_lengthen.Goals as goal
 
 pub returns : goal.returns

@@ -1,5 +1,4 @@
 -- `receiver::bs_merge` meets its contract.
-use borrow.Author.Rules.{rules}
 use Rattle.receiver.proofs.bs_merge.Goals as goal
 
 pub returns : goal.returns

@@ -3,7 +3,6 @@ use Prim.Native.Nat.{ℕ, ◌≤◌}
 use mathlib.Core.Path.{◌≡◌, sym, ap, ◌∙◌}
 use mathlib.Core.List.{List}
 use native.Mathlib.Omega.{arith}
-use borrow.Author.Rules.{rules}
 use Rattle.table.specs.TableLaws.{accepted}
 use Rattle.verify.specs.Verify.{Values, values_of, verify_answer}
 use Rattle.verify.specs.VerifyTheorems.{fails-lowest}
