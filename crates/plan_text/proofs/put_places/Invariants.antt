@@ -13,8 +13,8 @@ use Rattle.plan_text.proofs.Turns.{next_place, last-place}
 use Rattle.plan_text.proofs.put_places.Given as goal
 
 abbrev pub invariant-loop-k : goal.invariant-loop-k
-invariant-loop-k l = (k ≤ info_count l.plan)
-    × Left l.initial.out l.initial.end (words_after_blanks (map decimal (info_in l.plan))) l.k end (words_after_blanks (map decimal (drop k (info_in l.plan))))
+invariant-loop-k l = (l.k ≤ info_count l.plan)
+    × Left l.initial.out l.initial.end (words_after_blanks (map decimal (info_in l.plan))) l.out l.end (words_after_blanks (map decimal (drop l.k (info_in l.plan))))
 
 abbrev pub decreases-loop-k : goal.decreases-loop-k
-decreases-loop-k l = info_count l.plan - k
+decreases-loop-k l = info_count l.plan - l.k

@@ -6,7 +6,7 @@ use lib.ListN.{length}
 use Rattle.reason_file.proofs.print_numbers.Given as goal
 
 abbrev pub invariant-loop-i : goal.invariant-loop-i
-invariant-loop-i g l = i ≤ length l.list
+invariant-loop-i g l = l.i ≤ length l.list
 
 abbrev pub decreases-loop-i : goal.decreases-loop-i
-decreases-loop-i g l = length l.list - i
+decreases-loop-i g l = length l.list - l.i
