@@ -14,7 +14,7 @@ use Rattle.table.specs.Packets.{packets, joined, bytes_at}
 use Rattle.erasure.proofs.EachByte.{zeros-each}
 use Rattle.erasure.specs.Restoring.{zero_lost}
 use Rattle.suspects.specs.Blame.{suspect}
-use Rattle.suspects.specs.EachByte.{not_narrow}
+use Rattle.suspects.proofs.EachByte.{not_narrow}
 use Rattle.trials.specs.Cleared.{Cleared}
 use Rattle.trials.specs.ClearedLaws.{cleared-packets}
 use Rattle.blame.specs.Trying.{Narrow}

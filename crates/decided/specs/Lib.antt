@@ -1,13 +1,5 @@
 pub mod AfterLaws
-pub mod AfterWords
-pub mod Counted
 pub mod Decided
-pub mod DecidedBytes
-pub mod DecidedLaws
-pub mod DecidedTheorems
-pub mod EliminatedPairs
 pub mod Packed
-pub mod PeeledLaws
 pub mod Peeling
-pub mod PeelingFirst
 pub mod Words

@@ -15,7 +15,7 @@ use Rattle.plan.specs.Steps.{carry_out_all}
 use Rattle.start.specs.Start.{Lent, start_of, slots_in, PreparedFor}
 use Rattle.start.specs.StartLaws.{slots_length, slots-held, start-alike}
 use Rattle.encoder.specs.Encoding.{slots_after, wrong_lengths, EncodeAnswer, refused_by, encode_refusal, encode_answer, encode_block_after, encode_scratch_after}
-use Rattle.encoder.specs.EncodingLaws.{AcceptedEncoding, not-refused-at, refused-answer, refused-keeps-block, refused-keeps-scratch, accepted-answer, accepted-block, accepted-scratch, limit-least}
+use Rattle.encoder.proofs.EncodingLaws.{AcceptedEncoding, not-refused-at, refused-answer, refused-keeps-block, refused-keeps-scratch, accepted-answer, accepted-block, accepted-scratch, limit-least}
 use Rattle.running.specs.Running.{Ran}
 
 -- packets are few and short

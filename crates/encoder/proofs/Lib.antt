@@ -1,1 +1,3 @@
+pub mod AnySize
 pub mod CallLaws
+pub mod EncodingLaws

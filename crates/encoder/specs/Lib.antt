@@ -1,4 +1,2 @@
 pub mod Answers
-pub mod AnySize
 pub mod Encoding
-pub mod EncodingLaws

@@ -7,7 +7,7 @@ use native.Mathlib.Omega.{arith}
 use lib.ListN.{length, get_or, replicate}
 use Rattle.decided.specs.Decided.{clashes, solved_block, solved_map}
 use Rattle.decided.specs.Peeling.{stays-received}
-use Rattle.decided.specs.PeeledLaws.{peeled-clashes, peeled-block, peeled-map, still-zero, contradicted-clashes}
+use Rattle.decided.proofs.PeeledLaws.{peeled-clashes, peeled-block, peeled-map, still-zero, contradicted-clashes}
 use Rattle.eliminate.specs.Eliminating.{NoneLost, ZeroLost, Solves}
 use Rattle.erasure.specs.ContradictionLaws.{sums-of}
 use Rattle.erasure.proofs.OutcomeLaws.{start-length, start-sized, outcome-length, outcome-sized}

@@ -1,2 +1,3 @@
 pub mod Answering
 pub mod Deciding
+pub mod FullTheorems

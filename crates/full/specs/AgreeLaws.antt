@@ -2,8 +2,8 @@
 use Rattle.std.specs.Prelude.{◌≡◌, true, false, List, [], ℕ, ◌<◌, eqb, get_or}
 use Rattle.std.proofs.Common.{ap}
 use Rattle.decided.specs.Decided.{decided, value, clashes}
-use Rattle.decided.specs.DecidedTheorems.{none-agrees, one-agrees, all_have, decided-exactly}
-use Rattle.decided.specs.PeeledLaws.{beyond-peeling}
+use Rattle.decided.proofs.DecidedTheorems.{none-agrees, one-agrees, all_have, decided-exactly}
+use Rattle.decided.proofs.PeeledLaws.{beyond-peeling}
 use Rattle.erasure.proofs.OfferedLaws.{agree-there}
 use Rattle.erasure.specs.Offered.{Fitting, Agree}
 use Rattle.erasure.specs.Restoring.{is_lost, outcome, AgreeThere}

@@ -2,4 +2,3 @@ pub mod AgreeLaws
 pub mod Deciding
 pub mod Full
 pub mod FullLaws
-pub mod FullTheorems

@@ -12,7 +12,7 @@ use Rattle.erasure.specs.Restoring.{agreeing, block_if, map_if, Counts, counts_i
 use Rattle.faults.proofs.FaultLaws.{no-fault}
 use Rattle.lengthen.specs.Lengthen.{start, lengthen_outcome, lengthen_fault, offer_causes, lengthen_refusal, Answers, LengthenFitting}
 use Rattle.lengthen.specs.LengthenLaws.{offer-refused, not_eight, agreed-refusal, contradicted-refusal, after-accepted, after-contradicted, zeroed-already}
-use Rattle.lengthen.specs.LengthenTheorems.{refused-lengthening}
+use Rattle.lengthen.proofs.LengthenTheorems.{refused-lengthening}
 use Rattle.packets.specs.Filling.{Sized}
 use Rattle.report.specs.Report.{repair_answer_of, accepted_with, refused_with}
 use Rattle.report.specs.declared.Repaired.{Repaired}

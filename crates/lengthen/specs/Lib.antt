@@ -3,6 +3,5 @@ pub mod Carrying
 pub mod FirstPackets
 pub mod Lengthen
 pub mod LengthenLaws
-pub mod LengthenTheorems
 pub mod Received
 pub mod Twice

@@ -8,7 +8,7 @@ use borrow.Author.Tests.{ne_eqb}
 use Rattle.lists.specs.Lists.{has}
 use Rattle.table.specs.FirstCauseLaws.{refused-by}
 use Rattle.why.specs.Why.{WhyAnswer, why_refusal, why_causes, Explains}
-use Rattle.why.specs.WhyLaws.{refusal-told}
+use Rattle.why.proofs.WhyLaws.{refusal-told}
 use Rattle.why.specs.declared.Reason.{Reason}
 
 -- of the table

@@ -2,11 +2,7 @@ pub mod AscendingLaws
 pub mod Echelon
 pub mod Least
 pub mod LeastBits
-pub mod LeastList
-pub mod ListedLaws
 pub mod Mirror
 pub mod Reasons
-pub mod Restored
 pub mod Trace
-pub mod Traced
 pub mod Used

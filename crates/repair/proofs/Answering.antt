@@ -21,7 +21,7 @@ use Rattle.erasure.proofs.OldRepair.{cleared-kept}
 use Rattle.erasure.proofs.OutcomeLaws.{tally-two}
 use Rattle.erasure.specs.Restoring.{none_lost, zero_lost, tally, outcome, contradicting, agreeing, Counts, counts_if, block_if, map_if, is_lost}
 use Rattle.suspects.specs.Blame.{lost_too, only_suspect, blamed}
-use Rattle.suspects.specs.BlameLaws.{agreed-none, contradicted-only, only-is, only-alike, lost_too-known, lost_too-bytes}
+use Rattle.suspects.proofs.BlameLaws.{agreed-none, contradicted-only, only-is, only-alike, lost_too-known, lost_too-bytes}
 use Rattle.trials.specs.Cleared.{Cleared}
 use Rattle.faults.proofs.FaultLaws.{no-fault, some-fault, first-fault}
 use Rattle.restore.specs.Mending.{counts_of, Mends}

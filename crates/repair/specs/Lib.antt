@@ -1,5 +1,3 @@
-pub mod OneWrong
 pub mod Parts
 pub mod Repair
 pub mod RepairLaws
-pub mod RepairTheorems

@@ -1,3 +1,1 @@
 pub mod Blame
-pub mod BlameLaws
-pub mod EachByte

@@ -27,7 +27,7 @@ use Rattle.rule.proofs.WellFormed.{info-low}
 use Rattle.planning.specs.Planning.{plan_of, numbers_of, planning_refusal, planning_answer, planning_plan_after, planning_answer_at, numbers_by, plan_of_by}
 use Rattle.planning.specs.PlanningLaws.{accepted-planning}
 use Rattle.encoder.specs.Encoding.{steps_within, slots_after, encode_refusal, encode_answer, encode_answer_at, encode_block_after}
-use Rattle.encoder.specs.EncodingLaws.{accepted as accepted-encoding, not-refused-at, count-within, limit-all}
+use Rattle.encoder.proofs.EncodingLaws.{accepted as accepted-encoding, not-refused-at, count-within, limit-all}
 use Rattle.theorems.specs.OwnPlan.{own-info, own-steps, own-places, own-accepted, own-count}
 
 -- the plan as the planner wrote it

@@ -17,7 +17,7 @@ use Rattle.lists.specs.Tests.{by_bool}
 use Rattle.longer.specs.Longer.{lengthens}
 use Rattle.longer.specs.LongerLaws.{lengthens-facts}
 use Rattle.repair.specs.Repair.{repair_refusal, repair_block_after, repair_map_after}
-use Rattle.repair.specs.RepairTheorems.{repairing}
+use Rattle.repair.proofs.RepairTheorems.{repairing}
 use Rattle.table.specs.Codewords.{IsCodeword}
 use Rattle.table.specs.PacketCall.{part_at}
 use Rattle.table.specs.Packets.{joined}

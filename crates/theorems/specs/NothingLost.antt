@@ -4,7 +4,7 @@ use Rattle.std.specs.Prelude.{◌≡◌, refl, true, false, List, [], ◌∷◌,
 use Rattle.std.proofs.Common.{sym, ap, ◌∙◌, inl, inr, arith, ext_get_or}
 use Rattle.std.proofs.Math.Option.{Option, none, some}
 use Rattle.suspects.specs.Blame.{blamed}
-use Rattle.suspects.specs.BlameLaws.{agreed-none}
+use Rattle.suspects.proofs.BlameLaws.{agreed-none}
 use Rattle.lists.specs.Tests.{by_bool, by_opt}
 use Rattle.erasure.specs.Offered.{handed_on, Fitting}
 use Rattle.erasure.specs.LostLaws.{lost_in, no-lost, none-lost}

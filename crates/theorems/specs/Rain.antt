@@ -22,9 +22,9 @@ use Rattle.lists.specs.Lists.{In}
 use Rattle.lists.specs.Tests.{eqb-true, by_bool}
 use Rattle.merge.specs.Merge.{third, merge_outcome, merge_fault, merge_refusal, merge_answer_at, merge_answer}
 use Rattle.repair.specs.Repair.{believed, repair_outcome, repair_refusal, repair_answer_at, repair_answer, repair_block_after, repair_map_after}
-use Rattle.repair.specs.RepairTheorems.{Repairing, answer_by, accepted-plainly, plainly, repairing}
+use Rattle.repair.proofs.RepairTheorems.{Repairing, answer_by, accepted-plainly, plainly, repairing}
 use Rattle.suspects.specs.Blame.{blamed}
-use Rattle.suspects.specs.BlameLaws.{agreed-none}
+use Rattle.suspects.proofs.BlameLaws.{agreed-none}
 use Rattle.table.specs.Codewords.{IsCodeword}
 use Rattle.table.specs.PacketCall.{part_at}
 use Rattle.table.specs.Packets.{packets, joined}

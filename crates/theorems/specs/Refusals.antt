@@ -20,7 +20,7 @@ use Rattle.merge.proofs.MergeLaws.{refusal-told}
 use Rattle.lengthen.specs.Lengthen.{new_causes, lengthen_refusal, lengthen_answer}
 use Rattle.lengthen.specs.LengthenLaws.{refusal-told as lengthen-told}
 use Rattle.why.specs.Why.{why_causes, why_refusal, why_answer}
-use Rattle.why.specs.WhyLaws.{refusal-told as why-told}
+use Rattle.why.proofs.WhyLaws.{refusal-told as why-told}
 use Rattle.erasure.specs.Offered.{Held, handed_on}
 use Rattle.erasure.specs.Restoring.{State, contradicting}
 use Rattle.faults.specs.Faults.{Fault}

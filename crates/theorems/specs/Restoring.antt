@@ -13,7 +13,7 @@ use Rattle.erasure.proofs.Largest.{largest-only}
 use Rattle.erasure.specs.LostLaws.{not-lost, is_lost_lem, no-lost}
 use Rattle.erasure.proofs.OutcomeLaws.{tally-lost}
 use Rattle.repair.specs.Repair.{repair_refusal, repair_answer, repair_block_after, repair_map_after}
-use Rattle.repair.specs.RepairTheorems.{AcceptedRepair, Repairing, accepted-plainly, repairing}
+use Rattle.repair.proofs.RepairTheorems.{AcceptedRepair, Repairing, accepted-plainly, repairing}
 
 -- repair of what arrived of the block w, L being the largest stopping set among the lost places
 pub record Restores (t b map w : List ℕ) (L : ℕ → Bool) : Type 0 where

@@ -20,12 +20,12 @@ use Rattle.rule.specs.Rule.{heaviest, set_aside_of}
 use Rattle.planning.specs.Planning.{plan_of, numbers_of, planning_refusal_at, least_plan, work_words, numbers_by, plan_of_by}
 use Rattle.encoder.specs.Encoding.{encode_refusal_at, encode_answer, encode_block_after, encode_scratch_after}
 use Rattle.repair.specs.Repair.{repair_refusal, repair_answer, repair_block_after, repair_map_after}
-use Rattle.repair.specs.RepairTheorems.{old_answer}
+use Rattle.repair.proofs.RepairTheorems.{old_answer}
 use Rattle.full.specs.Full.{full_refusal, full_answer, full_block_after, full_map_after}
 use Rattle.gf2.specs.Gf2.{down}
 use Rattle.gf2.specs.Solving.{solve}
 use Rattle.reasons.specs.Echelon.{insert, leads_of}
-use Rattle.reasons.specs.ListedLaws.{list_for}
+use Rattle.reasons.proofs.ListedLaws.{list_for}
 use Rattle.why.specs.Why.{why_refusal, why_answer, why_block_after, why_map_after, reason_after, reason_numbers}
 use Rattle.table.specs.Packets.{lowest_nonzero}
 use Rattle.table.specs.Table.{at_size, places, checks}

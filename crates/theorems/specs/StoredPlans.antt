@@ -12,7 +12,7 @@ use Rattle.rule.specs.Choices.{Chooses, by_weight}
 use Rattle.rule.specs.Rule.{Plan, heaviest}
 use Rattle.planning.specs.Planning.{plan_of_by, numbers_by}
 use Rattle.encoder.specs.Encoding.{wrong_size, encode_refusal_at, refused_by, encode_answer, encode_block_after, encode_scratch_after}
-use Rattle.encoder.specs.EncodingLaws.{refused-size, refused-plan, refused-answer, refused-keeps-block, refused-keeps-scratch}
+use Rattle.encoder.proofs.EncodingLaws.{refused-size, refused-plan, refused-answer, refused-keeps-block, refused-keeps-scratch}
 use Rattle.theorems.specs.Demands.{ToTheLastStep, TheOneBlock, the-one-block, last-counted}
 use Rattle.theorems.specs.OwnPlan.{own-accepted, own-info, own-steps}
 

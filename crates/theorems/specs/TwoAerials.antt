@@ -8,7 +8,7 @@ use Rattle.lists.specs.Tests.{by_bool, eqb-true}
 use Rattle.merge.specs.Merge.{merge_after, FittingThree}
 use Rattle.merge.proofs.MergeTheorems.{OneSent, one-sent}
 use Rattle.repair.specs.Repair.{repair_map_after}
-use Rattle.repair.specs.RepairTheorems.{repairing}
+use Rattle.repair.proofs.RepairTheorems.{repairing}
 use Rattle.table.specs.Codewords.{IsCodeword}
 use Rattle.table.specs.PacketCall.{part_at}
 use Rattle.table.specs.Table.{places, size, at_size}

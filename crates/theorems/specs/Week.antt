@@ -15,7 +15,7 @@ use Rattle.erasure.specs.Offered.{Fitting, Agree}
 use Rattle.erasure.specs.Restoring.{Largest}
 use Rattle.erasure.proofs.Largest.{largest-exists}
 use Rattle.repair.specs.Repair.{repair_refusal, repair_answer, repair_block_after}
-use Rattle.repair.specs.RepairTheorems.{repairing}
+use Rattle.repair.proofs.RepairTheorems.{repairing}
 use Rattle.verify.specs.Verify.{values_of, verify_answer}
 use Rattle.verify.specs.VerifyTheorems.{codeword-passes}
 use Rattle.verify.specs.declared.Verified.TheVariants.{Codeword}

@@ -10,14 +10,14 @@ use Rattle.lists.specs.Lists.{has, All, Up}
 use Rattle.lists.specs.Numbers.{map-from-at}
 use Rattle.lists.specs.Tests.{by_bool, eqb-true, eqb-false}
 use Rattle.reasons.specs.Least.{decided-none}
-use Rattle.reasons.specs.LeastList.{least-only}
-use Rattle.reasons.specs.ListedLaws.{list_for, listed-one, listed-some, kind_by, kind-mark}
+use Rattle.reasons.proofs.LeastList.{least-only}
+use Rattle.reasons.proofs.ListedLaws.{list_for, listed-one, listed-some, kind_by, kind-mark}
 use Rattle.reasons.specs.Reasons.{Restores, EvenSet, LeastEven, kind_of, Listed}
-use Rattle.reasons.specs.Restored.{list-restores, list-some, only-list}
+use Rattle.reasons.proofs.Restored.{list-restores, list-some, only-list}
 use Rattle.table.specs.Table.{places, checks, refusal}
 use Rattle.table.specs.TableLaws.{accepted}
 use Rattle.why.specs.Why.{Explains, why_answer_of, why_refusal, why_map_after, why_answer_at, why_answer, reason_after}
-use Rattle.why.specs.WhyLaws.{Fits, accepted-fits, refused_full, refusal-told, answer-accepted, buffer-accepted, map-ran}
+use Rattle.why.proofs.WhyLaws.{Fits, accepted-fits, refused_full, refusal-told, answer-accepted, buffer-accepted, map-ran}
 use Rattle.why.specs.declared.Reason.{Reason}
 
 -- ---- the kinds

@@ -13,7 +13,7 @@ use Rattle.reasons.specs.Reasons.{kind_of, Listed}
 use Rattle.table.specs.Table.{places, checks}
 use Rattle.why.specs.Telling.{Tells}
 use Rattle.why.specs.Why.{Explains, why_answer_of, why_answer_at, why_refused, why_refusal, why_answer, why_map_after, reason_after}
-use Rattle.why.specs.WhyLaws.{early, Fits, refused-early, refused_full, block-kept, map-kept, work-kept, block-ran, map-ran, work-ran}
+use Rattle.why.proofs.WhyLaws.{early, Fits, refused-early, refused_full, block-kept, map-kept, work-kept, block-ran, map-ran, work-ran}
 use Rattle.why.specs.declared.Kind.{Kind}
 use Rattle.why.specs.declared.Reason.{Reason}
 

@@ -8,7 +8,7 @@ use Rattle.full.specs.Full.{FittingAll}
 use Rattle.table.specs.Accepted.{Accepted, few-checks, words}
 use Rattle.table.specs.Table.{places, size, number}
 use Rattle.why.specs.Why.{reason_numbers}
-use Rattle.why.specs.WhyLaws.{Fits}
+use Rattle.why.proofs.WhyLaws.{Fits}
 
 module _ (t : List ℕ) (m n s : ℕ) (k : Accepted t m n s) (b l w : List ℕ) (f : FittingAll t b l w) where
   pub fit-places : length l ≡ n

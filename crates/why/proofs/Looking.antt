@@ -11,7 +11,7 @@ use Rattle.erasure.specs.Offered.{byte_over}
 use Rattle.lists.specs.Tests.{by_bool}
 use Rattle.table.specs.Table.{places, size, refusal, work_words}
 use Rattle.why.specs.Why.{reason_numbers}
-use Rattle.why.specs.WhyLaws.{early, early-table, early-block, early-map, early-work, early-reason, early-byte, early-place}
+use Rattle.why.proofs.WhyLaws.{early, early-table, early-block, early-map, early-work, early-reason, early-byte, early-place}
 
 module _ (t b map work : List ℕ) (p : ℕ) (reason : List ℕ) (c n s : ℕ) (look : c ≡ refusal t) where
   pub found-table : (c ≡ 0 → ⊥) → c ≡ early t b map work p reason

@@ -10,7 +10,7 @@ use Rattle.erasure.specs.Restoring.{is_lost}
 use Rattle.explain.specs.Telling as found
 use Rattle.explain.specs.declared.Told.{Told}
 use Rattle.lists.specs.Tests.{by_bool}
-use Rattle.reasons.specs.ListedLaws.{listed-received}
+use Rattle.reasons.proofs.ListedLaws.{listed-received}
 use Rattle.reasons.specs.Reasons.{kind_of}
 use Rattle.why.specs.Telling.{Tells}
 

@@ -8,7 +8,7 @@ use Rattle.table.specs.Table.{most_bytes}
 use Rattle.table.specs.TableLaws.{inside-high}
 use Rattle.plan.specs.Layout.{step_count, plan_refusal}
 use Rattle.encoder.specs.Encoding.{wrong_size}
-use Rattle.encoder.specs.EncodingLaws.{refused-size, refused-plan, refused-lengths, right-lengths}
+use Rattle.encoder.proofs.EncodingLaws.{refused-size, refused-plan, refused-lengths, right-lengths}
 use Rattle.encoder.proofs.CallLaws.{lent, refused-call, accepted-call}
 use Rattle.plan.specs.LayoutLaws.{well}
 use native.Mathlib.Omega.{arith}

@@ -16,9 +16,9 @@ slice_bounds-explain_place-end g c =
 pub slice_bounds-map-end : goal.slice_bounds-map-end
 slice_bounds-map-end g c =
     let r = c.read_argument-2 in
-    (read_count _ r.ensures c.in-Count-read_argument.is).0
+    (read_count _ r.ensures c.in-Count-2.is).0
 
 pub slice_bounds-explain_place-end-2 : goal.slice_bounds-explain_place-end-2
 slice_bounds-explain_place-end-2 g c =
     let r = c.read_argument-2 in
-    (read_count _ r.ensures c.in-Count-read_argument.is).1
+    (read_count _ r.ensures c.in-Count-2.is).1

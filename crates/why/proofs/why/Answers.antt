@@ -2,7 +2,7 @@
 use mathlib.Core.Path.{sym, ap, ◌∙◌}
 use native.Mathlib.Omega.{arith}
 use Rattle.why.specs.Why.{why_refused}
-use Rattle.why.specs.WhyLaws.{early-fits}
+use Rattle.why.proofs.WhyLaws.{early-fits}
 use Rattle.why.proofs.Answering.{explains-early}
 use Rattle.why.proofs.Fitting.{passed-table, passed_words, passed-below}
 use Rattle.why.proofs.why.Goals as goal

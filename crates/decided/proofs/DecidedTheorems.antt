@@ -2,12 +2,12 @@
 use Rattle.std.specs.Prelude.{◌≡◌, true, false, List, ℕ, zero, suc, ◌*◌, ◌<◌, length, replicate}
 use Rattle.std.proofs.Common.{sym, ap, ◌∙◌, subst}
 use Rattle.decided.specs.AfterLaws.{solved-at}
-use Rattle.decided.specs.AfterWords.{solved-sized, word_after, sums-after}
+use Rattle.decided.proofs.AfterWords.{solved-sized, word_after, sums-after}
 use Rattle.decided.specs.Decided.{decided, value, clashes, packet_after, solved_block, solved_map}
-use Rattle.decided.specs.DecidedBytes.{bytes-exist, bytes-exact}
-use Rattle.decided.specs.DecidedLaws.{clash-no-word, decided-value}
+use Rattle.decided.proofs.DecidedBytes.{bytes-exist, bytes-exact}
+use Rattle.decided.proofs.DecidedLaws.{clash-no-word, decided-value}
 use Rattle.decided.specs.Packed.{list_of-length}
-use Rattle.decided.specs.PeeledLaws.{given, given-block}
+use Rattle.decided.proofs.PeeledLaws.{given, given-block}
 use Rattle.decided.specs.Words.{Word}
 use Rattle.erasure.proofs.OutcomeLaws.{part-joined, tally-lost}
 use Rattle.erasure.specs.Restoring.{is_lost, lost_places, tally, AgreeThere}

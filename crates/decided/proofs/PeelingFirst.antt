@@ -3,7 +3,7 @@ use Rattle.std.specs.Prelude.{◌≡◌, true, false, List, [], ℕ, ◌<◌, �
 use Rattle.std.proofs.Common.{sym, ◌∙◌}
 use Rattle.std.proofs.lemmas.Bool.{false≢true}
 use Rattle.decided.specs.Decided.{decided, value, clashes}
-use Rattle.decided.specs.DecidedLaws.{clash-no-word, word-no-clash, decided-value, agreed_word, agreed-word, one-decided}
+use Rattle.decided.proofs.DecidedLaws.{clash-no-word, word-no-clash, decided-value, agreed_word, agreed-word, one-decided}
 use Rattle.decided.specs.Words.{Word, Block, Same}
 use Rattle.erasure.specs.Restoring.{is_lost}
 use Rattle.lists.specs.Tests.{by_bool}

@@ -15,7 +15,7 @@ use Rattle.plan.specs.LayoutLaws.{well}
 use Rattle.plan.specs.Steps.{carry_out_all, at_start}
 use Rattle.start.specs.StartLaws.{start-length}
 use Rattle.encoder.specs.Encoding.{steps_within, slots_after, EncodeAnswer, encode_refusal, encode_answer, encode_block_after, encode_scratch_after}
-use Rattle.encoder.specs.EncodingLaws.{AcceptedEncoding, accepted, not-refused-at, accepted-answer, accepted-block, accepted-scratch}
+use Rattle.encoder.proofs.EncodingLaws.{AcceptedEncoding, accepted, not-refused-at, accepted-answer, accepted-block, accepted-scratch}
 
 -- ---- the single-byte encoding of byte position j
 module _ (w : List ℕ) (s : ℕ) (information block scratch : List ℕ) (limit j : ℕ) where

@@ -4,9 +4,9 @@ use Rattle.std.proofs.Common.{sym, ap, ◌∙◌, subst, true≢false, arith}
 use Rattle.std.proofs.lemmas.List.{length-replicate}
 use Rattle.decided.specs.AfterLaws.{after-decided, after-lost, after-received, mark-lost, solved-at, marks-at}
 use Rattle.decided.specs.Decided.{lost_row, received_sum, decided, value, clashes, packet_after, solved_block, solved_map}
-use Rattle.decided.specs.DecidedLaws.{sums-sized, decided-value}
+use Rattle.decided.proofs.DecidedLaws.{sums-sized, decided-value}
 use Rattle.decided.specs.Packed.{some-view}
-use Rattle.decided.specs.PeelingFirst.{word-exists}
+use Rattle.decided.proofs.PeelingFirst.{word-exists}
 use Rattle.decided.specs.Words.{Word, Block}
 use Rattle.erasure.specs.Restoring.{is_lost, lost_places}
 use Rattle.erasure.specs.Passing.{none_passes}

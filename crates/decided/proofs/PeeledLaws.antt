@@ -4,7 +4,7 @@ use Rattle.std.proofs.Common.{sym, ◌∙◌, true≢false, arith}
 use Rattle.decided.specs.AfterLaws.{after-decided, after-lost, after-received, mark-decided, mark-lost, mark-received}
 use Rattle.decided.specs.Decided.{decided, value, clashes, packet_after, mark_after, solved_block, solved_map}
 use Rattle.decided.specs.Peeling.{stays-received, peeling-block, peeling-same}
-use Rattle.decided.specs.PeelingFirst.{word-exists, same-clashes, same-decided, same-value, restored-decided, restored-value}
+use Rattle.decided.proofs.PeelingFirst.{word-exists, same-clashes, same-decided, same-value, restored-decided, restored-value}
 use Rattle.decided.specs.Words.{Block, Same}
 use Rattle.erasure.specs.Restoring.{is_lost, outcome, agreeing}
 use Rattle.erasure.proofs.RestoringLaws.{restoring-same, restoring-mark}

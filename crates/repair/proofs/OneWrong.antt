@@ -4,14 +4,14 @@ use Rattle.std.specs.Prelude.{◌≡◌, false, List, ◌≢◌, ℕ, ◌<◌, e
 use Rattle.std.proofs.Common.{sym, ap, ◌∙◌, true≢false, get_or-set_same, get_or-set_other}
 use Rattle.std.proofs.Math.Option.{some}
 use Rattle.suspects.specs.Blame.{lost_too, blamed, Suspect}
-use Rattle.suspects.specs.BlameLaws.{mark-three, blamed-is}
+use Rattle.suspects.proofs.BlameLaws.{mark-three, blamed-is}
 use Rattle.erasure.proofs.OfferedLaws.{bytes-all, lost-byte}
 use Rattle.erasure.specs.Offered.{Fitting}
 use Rattle.erasure.proofs.OldRepair.{word-agrees, word-values}
 use Rattle.erasure.specs.Restoring.{is_lost, outcome, AgreeThere}
 use Rattle.lists.specs.Tests.{eqb-true, by_bool}
 use Rattle.repair.specs.Repair.{repair_block_after, repair_map_after}
-use Rattle.repair.specs.RepairTheorems.{accepted-by-blame}
+use Rattle.repair.proofs.RepairTheorems.{accepted-by-blame}
 use Rattle.table.specs.Codewords.{IsCodeword}
 use Rattle.table.specs.PacketCall.{part_at}
 use Rattle.table.specs.Packets.{joined}

@@ -5,7 +5,7 @@ use Rattle.decided.specs.Decided.{decided, mark_after}
 use Rattle.erasure.specs.Restoring.{is_lost}
 use Rattle.lists.specs.Lists.{All}
 use Rattle.lists.specs.Tests.{by_bool}
-use Rattle.reasons.specs.LeastList.{least_list, list-least, list_up, least-only}
+use Rattle.reasons.proofs.LeastList.{least_list, list-least, list_up, least-only}
 use Rattle.reasons.specs.Reasons.{restored_by, kind_of, Listed}
 
 module _ (n : ℕ) (cs : List (List ℕ)) (lost : List ℕ) (p : ℕ) where

@@ -4,7 +4,7 @@ use Rattle.std.proofs.Common.{sym, ap, ap₂, ◌∙◌}
 use Rattle.std.specs.Int.Bits.{bit_xor}
 use Rattle.std.proofs.lemmas.List.{length-replicate}
 use Rattle.decided.specs.Decided.{lost_row, received_sum, decided, value, clashes}
-use Rattle.decided.specs.DecidedLaws.{byte_of, sums-sized, word_of, word_of-word, word-no-clash, word-meets, decided-value}
+use Rattle.decided.proofs.DecidedLaws.{byte_of, sums-sized, word_of, word_of-word, word-no-clash, word-meets, decided-value}
 use Rattle.decided.specs.Packed.{clash-none}
 use Rattle.decided.specs.Words.{Word, Block}
 use Rattle.gf2.specs.EchelonLaws.{sums-complete}

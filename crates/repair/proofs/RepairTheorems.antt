@@ -4,7 +4,7 @@ use Rattle.std.specs.Prelude.{◌≡◌, refl, true, false, cond, List, ◌≢�
 use Rattle.std.proofs.Common.{sym, ap, ap₂, ◌∙◌, subst, true≢false, inl, inr, ⊎_elim, arith, ne_eqb, length-set, get_or-set_same, get_or-set_other}
 use Rattle.std.proofs.Math.Option.{Option, none, some}
 use Rattle.suspects.specs.Blame.{lost_too, blamed, Suspect, OnlySuspect}
-use Rattle.suspects.specs.BlameLaws.{TwoSuspects, no-only, none_only, two-only, agreed-none, contradicted-only, blamed-contradicts, blamed-is, is-blamed, lost_too-bytes, lost_too-count, lost_too-known, mark-three, three-restored, three-lost, stays-without, suspect-changes, blamed-alike}
+use Rattle.suspects.proofs.BlameLaws.{TwoSuspects, no-only, none_only, two-only, agreed-none, contradicted-only, blamed-contradicts, blamed-is, is-blamed, lost_too-bytes, lost_too-count, lost_too-known, mark-three, three-restored, three-lost, stays-without, suspect-changes, blamed-alike}
 use Rattle.erasure.proofs.OfferedLaws.{none-handed, bytes-all, byte_at, agree-there, sized, low}
 use Rattle.erasure.specs.Offered.{handed_on, Fitting, Agree}
 use Rattle.erasure.proofs.Largest.{stays-lost, largest-same}

@@ -4,12 +4,12 @@ use Rattle.std.proofs.Common.{sym, ap₂, ◌∙◌, subst, inl, inr, arith, ne_
 use Rattle.std.proofs.Math.Path.{ap}
 use Rattle.std.proofs.Math.Option.{none, some}
 use Rattle.suspects.specs.Blame.{blamed}
-use Rattle.suspects.specs.BlameLaws.{agreed-none, blamed-contradicts}
+use Rattle.suspects.proofs.BlameLaws.{agreed-none, blamed-contradicts}
 use Rattle.decided.specs.AfterLaws.{after-decided, after-lost, after-received, mark-decided, mark-lost, mark-received, marks-at}
-use Rattle.decided.specs.Counted.{counted}
+use Rattle.decided.proofs.Counted.{counted}
 use Rattle.decided.specs.Decided.{lost_row, decided, some_of, clashes_at, packet_after, mark_after, solved_block, solved_map}
-use Rattle.decided.specs.DecidedTheorems.{after-sums, after-part, after-right, after-whole}
-use Rattle.decided.specs.PeeledLaws.{calm-agrees, contradicted-clashes}
+use Rattle.decided.proofs.DecidedTheorems.{after-sums, after-part, after-right, after-whole}
+use Rattle.decided.proofs.PeeledLaws.{calm-agrees, contradicted-clashes}
 use Rattle.erasure.proofs.OfferedLaws.{bytes-all, byte_at, agree-there}
 use Rattle.erasure.specs.Offered.{wrong_lengths, byte_over, Agree}
 use Rattle.erasure.proofs.OldBytes.{old-bytes-cleared}
@@ -27,7 +27,7 @@ use Rattle.lists.specs.Numbers.{from_all}
 use Rattle.lists.specs.Tests.{by_bool, eqb-true, eqb-false}
 use Rattle.repair.specs.Repair.{repair_refusal, repair_block_after, repair_map_after}
 use Rattle.repair.specs.RepairLaws.{agreed-refusal, contradicted-fits}
-use Rattle.repair.specs.RepairTheorems.{plainly}
+use Rattle.repair.proofs.RepairTheorems.{plainly}
 use Rattle.table.specs.Codewords.{IsCodeword}
 use Rattle.table.specs.PacketCall.{part_at}
 use Rattle.table.specs.PacketLaws.{packet-at, same-packets}

@@ -3,7 +3,7 @@ use Rattle.std.specs.Prelude.{◌≡◌, true, false, List, [], ℕ, ◌<◌, �
 use Rattle.std.proofs.Common.{arith}
 use Rattle.std.proofs.lemmas.Nat.{xor_lt}
 use Rattle.decided.specs.Decided.{decided, clashes}
-use Rattle.decided.specs.DecidedLaws.{agreed_word, agreed-word, agreed-within, one-decided}
+use Rattle.decided.proofs.DecidedLaws.{agreed_word, agreed-word, agreed-within, one-decided}
 use Rattle.decided.specs.Words.{Word, Block}
 use Rattle.erasure.specs.Restoring.{is_lost}
 use Rattle.lists.specs.ListLaws.{all_read}

@@ -9,7 +9,7 @@ use Rattle.table.specs.AnySize.{places-at}
 use Rattle.table.specs.Packets.{bytes_at}
 use Rattle.table.specs.Table.{places, size, at_size, refusal}
 use Rattle.suspects.specs.Blame.{lost_too, suspect, Suspect}
-use Rattle.suspects.specs.BlameLaws.{suspect-is, is-suspect}
+use Rattle.suspects.proofs.BlameLaws.{suspect-is, is-suspect}
 
 module _ (t b map : List ℕ) (ok : refusal t ≡ 0) (fits : length b ≡ places t * size t) (j : ℕ) (h : j < size t) (p : ℕ) where
   pub suspect-narrow : Suspect t b map p → Suspect (at_size 1 t) (bytes_at (size t) (places t) j b) map p

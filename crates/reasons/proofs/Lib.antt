@@ -1,0 +1,4 @@
+pub mod LeastList
+pub mod ListedLaws
+pub mod Restored
+pub mod Traced
