@@ -1,5 +1,6 @@
 // The planner's own plan, for the programs.
 #![tactic(auto)]
+
 ghost use Rattle.std.specs.Prelude.{◌≡◌};
 ghost use Rattle.planning.specs.Planning.{planning_answer_of, planning_answer, planning_plan_after};
 ghost use Rattle.own_plan.specs.Own.{lent_work};

@@ -1,5 +1,6 @@
 // The text of a plan, line by line.
 #![tactic(auto)]
+
 ghost use Rattle.std.specs.Prelude.{◌≡◌, ◌++◌, map, ◌+◌, ◌≤◌, length};
 ghost use Rattle.plan.specs.declared.Step.TheVariants.{Add};
 ghost use Rattle.plan.specs.Step.{add_steps, unpack};

@@ -12,7 +12,7 @@ put_refused-requires c = refused-room _ c.args.out.now c.requires
 
 pub returns-in_default : goal.returns-in_default
 returns-in_default c =
-    let f = c.args.file.now in 
+    let f = c.args.file.now in
     let q = at-start (same_word (unfit-text f (words-none f (sym c.words_in.ensures.answer ∙ c.in_default.is))) c.put_refused.ensures) in
     record { text = q.0; length = q.1.0; within = q.1.1 }
 
@@ -24,6 +24,6 @@ slice_bounds-list_table-end c = let w = c.words_in.ensures in (words-within c.ar
 
 pub returns : goal.returns
 returns c =
-    let w = c.words_in.ensures in 
+    let w = c.words_in.ensures in
     let q = at-start (same_word (words-text c.args.file.now w.answer w.words c.in-Count.is) c.list_table.ensures) in
     record { text = q.0; length = q.1.0; within = q.1.1 }
