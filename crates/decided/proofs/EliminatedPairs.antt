@@ -6,10 +6,10 @@ use Rattle.std.proofs.lemmas.List.{length-replicate}
 use Rattle.decided.specs.Decided.{lost_row, received_sum, decided, value, clashes}
 use Rattle.decided.proofs.DecidedLaws.{byte_of, sums-sized, word_of, word_of-word, word-no-clash, word-meets, decided-value}
 use Rattle.decided.specs.Packed.{clash-none}
+use Rattle.decided.specs.Pairing.{byte_group, pair_of}
 use Rattle.decided.specs.Words.{Word, Block}
 use Rattle.gf2.specs.EchelonLaws.{sums-complete}
-use Rattle.gf2.specs.Gf2.{bit, is_zero, Group2, xor_group, sum_over, comb, Lead, rows_of, down, path}
-use Rattle.gf2.specs.Group.{fun_group}
+use Rattle.gf2.specs.Gf2.{bit, is_zero, xor_group, sum_over, comb, Lead, rows_of, down, path}
 use Rattle.gf2.specs.Linear.{lin-image}
 use Rattle.gf2.specs.Pairs.{pair_group, pairs_of, rows-within, solved, pairs-met}
 use Rattle.gf2.specs.RowValue.{val, at, val-pow}
@@ -20,10 +20,6 @@ use Rattle.lists.specs.ListLaws.{all_map, get_d-zeros}
 use Rattle.lists.specs.Lists.{below}
 use Rattle.lists.specs.Tests.{by_bool}
 use Rattle.table.specs.PacketLaws.{view}
-
--- packets as functions of the byte
-abbrev pub byte_group : Group2 (ℕ → ℕ)
-byte_group = fun_group ℕ xor_group
 
 -- byte j of a value is the value of byte j
 pub val-byte : (st : ℕ → ℕ → ℕ) (n r j : ℕ) → val byte_group st n r j ≡ val xor_group (λ p. st p j) n r
@@ -44,10 +40,6 @@ comb-byte g j m cs = lin-image (pair_group xor_group byte_group) xor_group {f = 
 -- .. and its row
 pub comb-row : {X : Type 0} (g : X → ℕ × (ℕ → ℕ)) (m : List Bool) (cs : List X) → (comb (pair_group xor_group byte_group) m (map g cs)).0 ≡ comb xor_group m (map (λ c. (g c).0) cs)
 comb-row g m cs = lin-image (pair_group xor_group byte_group) xor_group {f = λ x. x.0} (record { adds = λ a b. refl }) g m cs
-
--- a check's lost row with its received sum
-abbrev pub pair_of : ℕ → List (List ℕ) → List ℕ → List ℕ → ℕ × (ℕ → ℕ)
-pair_of s b lost c = (lost_row lost c, λ j. get_or (received_sum s b lost c) j 0)
 
 module _ (n s : ℕ) (cs b : List (List ℕ)) (ok : Block n s cs b) (lost : List ℕ) where
   -- a row that vanished and a sum that did not: something clashes

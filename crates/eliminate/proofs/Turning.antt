@@ -32,7 +32,8 @@ use Rattle.bits.specs.Row.{row}
 use Rattle.rows.specs.Leads.{leads, Owners, Lowered}
 use Rattle.rows.specs.LeadsLaws.{leads-none, named, leads-kept, owners-kept, owners-below, own-here, own-other, own-most, lead-here, lead-other, lead_bits}
 use Rattle.decided.specs.Decided.{lost_row, received_sum, clashes}
-use Rattle.decided.proofs.EliminatedPairs.{byte_group, comb-row, pair_of, found-clash}
+use Rattle.decided.specs.Pairing.{byte_group, pair_of}
+use Rattle.decided.proofs.EliminatedPairs.{comb-row, found-clash}
 use Rattle.erasure.proofs.OutcomeLaws.{zero_lost-sized}
 use Rattle.decided.specs.Words.{Block}
 use Rattle.eliminate.specs.Eliminating.{received_places, row_sum, sums_at, led_pairs, Eliminated}

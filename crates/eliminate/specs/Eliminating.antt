@@ -13,7 +13,7 @@ use Rattle.erasure.specs.Restoring.{is_lost, lost_places}
 use Rattle.bits.specs.Row.{row, RowPut}
 use Rattle.rows.specs.Leads.{leads}
 use Rattle.decided.specs.Decided.{lost_row, clashes, solved_block, solved_map}
-use Rattle.decided.proofs.EliminatedPairs.{byte_group, pair_of}
+use Rattle.decided.specs.Pairing.{byte_group, pair_of}
 use Rattle.eliminate.specs.declared.Taken.{Taken}
 
 -- ---- a check

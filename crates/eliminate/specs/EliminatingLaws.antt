@@ -19,7 +19,7 @@ use Rattle.table.specs.TableLaws.{accepted}
 use Rattle.bits.specs.Row.{row}
 use Rattle.rows.specs.Leads.{leads}
 use Rattle.rows.specs.LeadsLaws.{leads-none, leads-at, named}
-use Rattle.decided.proofs.EliminatedPairs.{byte_group}
+use Rattle.decided.specs.Pairing.{byte_group}
 use Rattle.eliminate.specs.Eliminating.{sums_at}
 
 -- ---- a list of places as it lies in a buffer

@@ -17,12 +17,14 @@ use Rattle.gf2.specs.OneRowMore.{Stopped, short-zero}
 use Rattle.lists.specs.Lists.{All}
 use Rattle.reasons.specs.Least.{found-least}
 use Rattle.reasons.specs.LeastBits.{even_bits}
-use Rattle.reasons.proofs.LeastList.{places_of, listed-least, listed-up}
+use Rattle.reasons.specs.Noting.{places_of}
+use Rattle.reasons.proofs.LeastList.{listed-least, listed-up}
 use Rattle.reasons.proofs.ListedLaws.{listed-restored}
 use Rattle.reasons.specs.Mirror.{mirror, mirror_row}
 use Rattle.reasons.specs.Reasons.{named}
 use Rattle.reasons.specs.Trace.{trace}
-use Rattle.reasons.proofs.Traced.{bits_below, Numbered, kept_in, kept_out, place-decided, traced-list}
+use Rattle.reasons.specs.Noting.{bits_below, Numbered}
+use Rattle.reasons.proofs.Traced.{kept_in, kept_out, place-decided, traced-list}
 use Rattle.reasons.specs.Used.{chosen}
 use Rattle.rows.specs.Leads.{leads, Owners, Lowered}
 use Rattle.rows.specs.LeadsLaws.{leads-none, leads-kept}

@@ -19,7 +19,7 @@ use Rattle.lists.specs.Lists.{bxor, filter, from}
 use Rattle.lists.specs.Numbers.{from-snoc}
 use Rattle.lists.specs.Tests.{by_bool, eqb-true, eqb-false, eqb-self}
 use Rattle.reasons.specs.LeastBits.{even_bits}
-use Rattle.reasons.proofs.LeastList.{places_of}
+use Rattle.reasons.specs.Noting.{places_of}
 use Rattle.reasons.specs.Mirror.{mirror}
 use Rattle.rows.specs.Leads.{leads}
 use Rattle.rows.specs.LeadsLaws.{leads-none, leads-at}

@@ -8,7 +8,7 @@ ghost use Rattle.bits.specs.Front.{Front};
 ghost use Rattle.bits.specs.Row.{row};
 ghost use Rattle.rows.specs.Leads.{leads};
 ghost use Rattle.reasons.specs.LeastBits.{even_bits};
-ghost use Rattle.reasons.proofs.LeastList.{places_of};
+ghost use Rattle.reasons.specs.Noting.{places_of};
 ghost use Rattle.least.specs.Solved.{in_set, Solved};
 
 use table::{MOST_PLACES, wide};

@@ -7,17 +7,14 @@ use Rattle.erasure.specs.Restoring.{is_lost}
 use Rattle.gf2.specs.Gf2.{is_zero, Short, down}
 use Rattle.gf2.specs.OneRowMore.{Stopped, down-zero}
 use Rattle.lists.specs.ListLaws.{all_map, map-all}
-use Rattle.lists.specs.Lists.{has, filter, from, All, Up}
+use Rattle.lists.specs.Lists.{has, All, Up}
 use Rattle.reasons.specs.AscendingLaws.{up_run, up_same, has-run}
 use Rattle.reasons.specs.Echelon.{down-stopped, top_of, top-is, leads_of, echelon, echelon-lead, echelon-in, echelon-out}
 use Rattle.reasons.specs.Least.{least-one, found-least, unit-short}
 use Rattle.reasons.specs.LeastBits.{even_bits}
 use Rattle.reasons.specs.Mirror.{mirror, mirror_row, mirror-short, mirror-decided}
+use Rattle.reasons.specs.Noting.{places_of}
 use Rattle.reasons.specs.Reasons.{LeastEven}
-
--- the places that bits, mirrored, have
-abbrev pub places_of : ℕ → (ℕ → Bool) → List ℕ
-places_of n d = filter (λ q. d (mirror n q)) (from 0 n)
 
 -- a set found by solving, as a list
 pub listed-least : (n : ℕ) (cs : List (List ℕ)) (lost : List ℕ) (p : ℕ) (d : ℕ → Bool) → LeastEven n cs lost p (λ q. cond (ltb q n) (d (mirror n q)) false) → LeastEven n cs lost p (λ q. has q (places_of n d))

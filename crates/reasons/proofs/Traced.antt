@@ -9,7 +9,7 @@ use Rattle.std.proofs.lemmas.List.{length-map}
 use Rattle.decided.specs.Decided.{decided}
 use Rattle.gf2.specs.Columns.{is_zero-sound}
 use Rattle.gf2.specs.EchelonLaws.{sums-sound, sums-complete, down-path, path-leads, short-lt}
-use Rattle.gf2.specs.Gf2.{Group2, xor_group, sum_over, comb, bit, is_zero, onto, row_of, sums, Lead, Short, rows_of, down, path, mask_for}
+use Rattle.gf2.specs.Gf2.{Group2, xor_group, sum_over, comb, bit, is_zero, onto, row_of, sums, Short, rows_of, down, path, mask_for}
 use Rattle.gf2.specs.Group.{eq-zero, left_comm}
 use Rattle.gf2.specs.GreedyLaws.{choose-spans}
 use Rattle.gf2.specs.MaskLaws.{mask-sums, mask-length}
@@ -23,13 +23,9 @@ use Rattle.lists.specs.Lists.{All, below, from}
 use Rattle.lists.specs.Numbers.{from-length}
 use Rattle.reasons.specs.Mirror.{mirror, mirror_row, mirror_at, mirrored, sum-map, rows_back, chosen-used, place-back, mirror-decided}
 use Rattle.reasons.specs.Reasons.{row_at, used, named, restored_by}
-use Rattle.reasons.specs.Trace.{trace, Fed, trace-sum}
+use Rattle.reasons.specs.Trace.{trace, trace-sum}
+use Rattle.reasons.specs.Noting.{bits_below, Kept, Numbered, noted}
 use Rattle.reasons.specs.Used.{at, chosen, chosen-in, onto-in-order, rows-listed, within-of-all, used_rows, used-indep, from-map}
-
--- ---- a choice by bits
--- the bits of y below k, as a mask
-abbrev pub bits_below : ℕ → ℕ → List Bool
-bits_below k y = map (λ i. bit i y) (from 0 k)
 
 pub bits-length : (k y : ℕ) → length (bits_below k y) ≡ k
 bits-length k y = length-map (from 0 k) (λ i. bit i y) ∙ from-length 0 k
@@ -50,22 +46,6 @@ choice-sum G f d (u ∷ U) = head (d 0) (map d (from 1 (length U)))
     head : (b : Bool) (m : List Bool) → comb G (b ∷ m) (f u ∷ map f U) ≡ G.◌⊕◌ (cond b (f u) G.o) (comb G m (map f U))
     head true m = refl
     head false m = sym (G.zl _)
-
--- ---- what elimination leaves: F has the row that leads a place, rows have numbers in the order in which they were taken, U the checks
--- that they came from; f is a check's own row
-pub record Kept (n : ℕ) (f : ℕ → ℕ) (U : List ℕ) (F row feed : ℕ → ℕ) : Type 0 where
-  pub lead : Lead F
-  pub same : (x : ℕ) → sums (rows_of F n) x ≡ sums (onto xor_group is_zero f [] U) x
-  pub fed : Fed xor_group row (λ k. f (get_or U k 0)) feed (length U)
-
--- the row that leads a place, by its number
-pub record Numbered (F row num : ℕ → ℕ) (k : ℕ) : Type 0 where
-  pub is : (q : ℕ) → is_zero (F q) ≡ false → F q ≡ row (num q)
-  pub few : (q : ℕ) → is_zero (F q) ≡ false → num q < k
-
--- the numbers of the rows that are added while x goes down
-abbrev pub noted : ℕ → (ℕ → ℕ) → (ℕ → ℕ) → ℕ → List ℕ
-noted n F num x = map num (path F n x)
 
 module _ (n : ℕ) {F row num : ℕ → ℕ} {k : ℕ} (h : Numbered F row num k) (x : ℕ) where
   noted-low : All (λ i. i < k) (noted n F num x)

@@ -3,6 +3,7 @@ pub mod Echelon
 pub mod Least
 pub mod LeastBits
 pub mod Mirror
+pub mod Noting
 pub mod Reasons
 pub mod Trace
 pub mod Used

@@ -24,7 +24,8 @@ use Rattle.rows.specs.LeadsLaws.{leads-none, leads-at, named, owners-lead}
 use Rattle.decided.specs.Decided.{decided, value, clashes, packet_after, mark_after, solved_block, solved_map}
 use Rattle.decided.specs.AfterLaws.{after-decided, after-lost, after-received, mark-decided, mark-lost, mark-received, solved-at, marks-at}
 use Rattle.decided.proofs.AfterWords.{value-length}
-use Rattle.decided.proofs.EliminatedPairs.{byte_group, pair_of, echelon-calm, lead-decided, lead-value, free-lost}
+use Rattle.decided.specs.Pairing.{byte_group, pair_of}
+use Rattle.decided.proofs.EliminatedPairs.{echelon-calm, lead-decided, lead-value, free-lost}
 use Rattle.decided.specs.Packed.{list_of-length}
 use Rattle.decided.specs.Words.{Block}
 use Rattle.eliminate.specs.Eliminating.{sums_at, without, vanishes, ZeroLost, Led, Eliminated, SettledAll, Solves}

@@ -17,7 +17,8 @@ use Rattle.bits.specs.Front.{Front, front-none, front-more}
 use Rattle.bits.specs.Row.{row, RowPut}
 use Rattle.bits.specs.RowLaws.{put-put, put_is}
 use Rattle.reasons.specs.Reasons.{named}
-use Rattle.reasons.proofs.Traced.{bits_below, bits-length}
+use Rattle.reasons.specs.Noting.{bits_below}
+use Rattle.reasons.proofs.Traced.{bits-length}
 use Rattle.tracing.specs.Tracing.{number_in, Led}
 
 -- one number more of a list

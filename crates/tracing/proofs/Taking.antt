@@ -20,7 +20,8 @@ use Rattle.rows.specs.Leads.{leads, Lowered}
 use Rattle.rows.specs.LeadsLaws.{owners-lead}
 use Rattle.reasons.specs.Mirror.{mirror_row, mirror_at}
 use Rattle.reasons.specs.Trace.{Fed, fed-kept, fed-more}
-use Rattle.reasons.proofs.Traced.{Kept, Numbered, noted-sum, noted-short}
+use Rattle.reasons.specs.Noting.{Kept, Numbered}
+use Rattle.reasons.proofs.Traced.{noted-sum, noted-short}
 use Rattle.reasons.specs.Used.{chosen}
 use Rattle.tracing.specs.Tracing.{number_in, feeders, Taken}
 use Rattle.tracing.specs.TracingLaws.{numbered}

@@ -5,7 +5,7 @@ use Rattle.bits.specs.Row.{row}
 use Rattle.gf2.specs.Gf2.{Bits}
 use Rattle.lists.specs.Lists.{All}
 use Rattle.reasons.specs.Mirror.{mirror_at, mirror_row}
-use Rattle.reasons.proofs.Traced.{Kept, noted}
+use Rattle.reasons.specs.Noting.{Kept, noted}
 use Rattle.reasons.specs.Used.{chosen}
 use Rattle.rows.specs.Leads.{leads}
 use Rattle.table.specs.Table.{checks}

@@ -5,7 +5,7 @@ use Rattle.bits.specs.Row.{row}
 use Rattle.gf2.specs.EchelonLaws.{path-leads, path-low}
 use Rattle.gf2.specs.Gf2.{is_zero, path}
 use Rattle.lists.specs.ListLaws.{all_map, all-zip}
-use Rattle.reasons.proofs.Traced.{Numbered}
+use Rattle.reasons.specs.Noting.{Numbered}
 use Rattle.rows.specs.Leads.{leads}
 use Rattle.rows.specs.LeadsLaws.{leads-none, leads-at, named}
 use Rattle.tracing.specs.Tracing.{number_in, Led}

@@ -11,7 +11,7 @@ ghost use Rattle.rows.specs.Leads.{Owners, Lowered};
 ghost use Rattle.reasons.specs.Mirror.{mirror, mirror_row};
 ghost use Rattle.reasons.specs.Reasons.{named};
 ghost use Rattle.reasons.specs.Trace.{trace as traced};
-ghost use Rattle.reasons.proofs.Traced.{bits_below};
+ghost use Rattle.reasons.specs.Noting.{bits_below};
 ghost use Rattle.tracing.specs.Tracing.{number_in, feeders, Led, Taken};
 
 use table::{MOST_PLACES, wide};

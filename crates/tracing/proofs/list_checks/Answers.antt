@@ -6,7 +6,7 @@ use Rattle.bits.specs.Front.{front-is}
 use Rattle.bits.specs.Row.{row}
 use Rattle.reasons.specs.Reasons.{named}
 use Rattle.reasons.specs.Trace.{trace}
-use Rattle.reasons.proofs.Traced.{bits_below}
+use Rattle.reasons.specs.Noting.{bits_below}
 use Rattle.tracing.proofs.list_checks.Goals as goal
 
 pub note_feeders-requires : goal.note_feeders-requires

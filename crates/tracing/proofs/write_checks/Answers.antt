@@ -7,7 +7,7 @@ use lib.Seq.{get_or-take, length-take-le}
 use Rattle.bits.specs.Front.{Front}
 use Rattle.bits.specs.Row.{row}
 use Rattle.reasons.specs.Reasons.{named}
-use Rattle.reasons.proofs.Traced.{bits_below}
+use Rattle.reasons.specs.Noting.{bits_below}
 use Rattle.tracing.proofs.Feeding.{listed_start, listed-hit, listed-miss}
 use Rattle.tracing.proofs.write_checks.Goals as goal
 use Rattle.tracing.proofs.write_checks.Goals.{then-has_place, else-has_place}

@@ -5,7 +5,7 @@ use lib.ListN.{length, take}
 use Rattle.bits.specs.Front.{Front}
 use Rattle.bits.specs.Row.{row}
 use Rattle.reasons.specs.Reasons.{named}
-use Rattle.reasons.proofs.Traced.{bits_below}
+use Rattle.reasons.specs.Noting.{bits_below}
 use Rattle.tracing.proofs.write_checks.Given as goal
 
 abbrev pub invariant-loop-i : goal.invariant-loop-i
