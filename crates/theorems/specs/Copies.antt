@@ -9,7 +9,7 @@ use Rattle.table.specs.Table.{most_checks, checks, ones, refusal, rising}
 use Rattle.making.specs.ReadBack.{checks-back}
 use Rattle.making.specs.WrittenAccepted.{Fits, written-accepted}
 use Rattle.plan.specs.Layout.{most_aside}
-use Rattle.rule.specs.Rule.{kept, peel, plan, set_aside_of}
+use Rattle.rule.specs.Rule.{kept, peel, set_aside_of}
 use Rattle.planning.specs.Planning.{least_plan, work_words, plan_of, plan_of_by, refused_by, planning_refusal, planning_answer}
 use Rattle.planning.specs.PlanningLaws.{gap-decides}
 use Rattle.theorems.specs.CopiesKept.{one, two, three, all-kept}
