@@ -1,5 +1,4 @@
 -- `alist_to_table::by_buffer` is safe: what was read lies within the buffer.
-use borrow.Author.Rules.{rules}
 use Rattle.text.specs.Files.{read_count}
 use Rattle.alist_to_table.proofs.by_buffer.Goals as goal
 

@@ -1,6 +1,5 @@
 -- `alist_to_table::by_file` is safe: its buffer has its length.
 use mathlib.Core.Path.{sym}
-use borrow.Author.Rules.{rules}
 use Prim.Native.Nat.{ℕ}
 use lib.ListN.{length-replicate}
 use Rattle.alist_to_table.proofs.by_file.Goals as goal

@@ -1,7 +1,6 @@
 -- `alist_to_table::make_file` is safe: the table that was read lies within its buffer and is accepted; what is refused has its words.
 use mathlib.Core.Path.{refl}
 use native.Mathlib.Omega.{arith}
-use borrow.Author.Rules.{rules}
 use lib.ListN.{replicate}
 use Rattle.alist_to_table.proofs.TableRead.{table-stands, table-accepted, refusals-said}
 use Rattle.alist_to_table.proofs.make_file.Goals as goal

@@ -4,7 +4,6 @@ use Prim.Native.Nat.{◌*◌, ◌≤◌}
 use native.Mathlib.Nat.{le_trans}
 use native.Mathlib.Omega.{arith}
 use Rattle.encode_file.proofs.Sizes.{sizes}
-use borrow.Author.Rules.{rules}
 use Rattle.encode_file.proofs.encode_by.Goals as goal
 
 pub places-requires : goal.places-requires

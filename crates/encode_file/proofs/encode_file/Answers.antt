@@ -3,7 +3,6 @@ use mathlib.Core.Path.{refl}
 use lib.ListN.{replicate}
 use Rattle.table.specs.Accepted.{words}
 use Rattle.own_plan.specs.Own.{own-plan}
-use borrow.Author.Rules.{rules}
 use Rattle.encode_file.proofs.encode_file.Goals as goal
 
 pub size_for-requires : goal.size_for-requires

@@ -1,5 +1,4 @@
 -- `encode_file::encode_within` is safe: the parts lie within the buffers.
-use borrow.Author.Rules.{rules}
 use Rattle.table.specs.BufferLaws.{part-of-same}
 use Rattle.encode_file.proofs.encode_within.Goals as goal
 

@@ -1,5 +1,4 @@
 -- `full_repair_file::repair_files` is safe: what was read lies within the buffers.
-use borrow.Author.Rules.{rules}
 use Rattle.text.specs.Files.{read_count}
 use Rattle.full_repair_file.proofs.repair_files.Goals as goal
 

@@ -1,6 +1,5 @@
 -- `listing::list` meets its contract: refusal 3, or the text of the file's words.
 use mathlib.Core.Path.{sym, ◌∙◌}
-use borrow.Author.Rules.{rules}
 use Rattle.table_file.proofs.WordsLaws.{words-none, words-within}
 use Rattle.text.specs.LinesLaws.{same_word}
 use Rattle.plan_text.specs.PlanTextLaws.{refused-room}

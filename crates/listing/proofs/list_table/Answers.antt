@@ -1,7 +1,6 @@
 -- `listing::list_table` meets its contract: the refusal, or the text of the planner's own plan.
 use mathlib.Core.Path.{◌≡◌, refl}
 use native.Mathlib.Omega.{arith}
-use borrow.Author.Rules.{rules}
 use Rattle.table.specs.Accepted.{words}
 use Rattle.text.specs.LinesLaws.{same_word}
 use Rattle.plan_text.specs.PlanTextLaws.{refused-room}

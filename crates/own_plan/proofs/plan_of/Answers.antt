@@ -1,5 +1,4 @@
 -- `own_plan::plan_of` meets its contract, which is the planner's.
-use borrow.Author.Rules.{rules}
 use Rattle.own_plan.specs.Own.{lent_work}
 use Rattle.own_plan.proofs.plan_of.Goals as goal
 

@@ -1,7 +1,6 @@
 -- `plan_text::put_add` meets its contract: the words of the line, one after the other.
 use mathlib.Core.List.{◌++◌}
 use native.Mathlib.Omega.{arith}
-use borrow.Author.Rules.{rules}
 use lib.ListN.{length-append}
 use Rattle.plan.specs.declared.Step.TheVariants.{Add}
 use Rattle.numerals.specs.Numerals.{decimal}

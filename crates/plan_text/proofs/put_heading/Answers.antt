@@ -1,6 +1,5 @@
 -- `plan_text::put_heading` meets its contract: the words and numbers of the first line, one after the other.
 use mathlib.Core.List.{◌++◌}
-use borrow.Author.Rules.{rules}
 use Rattle.text.specs.LinesLaws.{left-all, left-room, left-next, left-last}
 use Rattle.numerals.specs.Numerals.{decimal}
 use Rattle.text.specs.Lines.{bytes}

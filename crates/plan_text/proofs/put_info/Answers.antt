@@ -1,6 +1,5 @@
 -- `plan_text::put_info` meets its contract: the first word and the places.
 use native.Mathlib.Omega.{arith}
-use borrow.Author.Rules.{rules}
 use Rattle.text.specs.LinesLaws.{both_words}
 use Rattle.plan_text.proofs.put_info.Goals as goal
 

@@ -1,6 +1,5 @@
 -- `plan_text::put_line` meets its contract: a word, a number and the line's end, one after the other.
 use native.Mathlib.Omega.{arith}
-use borrow.Author.Rules.{rules}
 use lib.ListN.{length-append}
 use Rattle.text.specs.LinesLaws.{both_words}
 use Rattle.plan_text.proofs.put_line.Goals as goal

@@ -1,7 +1,6 @@
 -- `plan_text::put_number` meets its contract: a number that is no step has no line.
 use mathlib.Core.Path.{sym, ◌∙◌}
 use native.Mathlib.Omega.{arith}
-use borrow.Author.Rules.{rules}
 use Rattle.plan.specs.Step.{unpack}
 use Rattle.text.specs.LinesLaws.{nothing_put}
 use Rattle.plan_text.proofs.Turns.{is-step, no_step}

@@ -1,14 +1,13 @@
 -- `plan_text::put_places` meets its contract: the places of the second line, one after the other.
 use mathlib.Core.List.{◌++◌, map}
-use Prim.Native.Nat.{◌+◌, ◌-◌, ◌≤◌}
+use Prim.Native.Nat.{◌+◌}
 use native.Mathlib.Omega.{arith}
-use borrow.Author.Rules.{rules}
 use lib.ListN.{drop}
-use Rattle.plan.specs.Layout.{info_count, info_in}
+use Rattle.plan.specs.Layout.{info_in}
 use Rattle.plan.specs.LayoutLaws.{well, info-length}
 use Rattle.numerals.specs.Numerals.{decimal}
 use Rattle.text.specs.Lines.{bytes, words_after_blanks}
-use Rattle.text.specs.LinesLaws.{Left, left-all, left-room, left-next, left-last}
+use Rattle.text.specs.LinesLaws.{left-all, left-room, left-next, left-last}
 use Rattle.plan_text.proofs.Turns.{next_place, last-place}
 use Rattle.plan_text.proofs.put_places.Goals as goal
 

@@ -3,7 +3,6 @@ use mathlib.Core.Path.{refl, sym, ap, subst}
 use mathlib.Core.List.{List}
 use Prim.Native.Nat.{ℕ, ◌+◌, ◌≤◌}
 use native.Mathlib.Omega.{arith}
-use borrow.Author.Rules.{rules}
 use lib.ListN.{length, length-append}
 use Rattle.plan.specs.Layout.{plan_places, plan_gap, plan_kept, info_in, steps_of}
 use Rattle.numerals.specs.Numerals.{decimal}

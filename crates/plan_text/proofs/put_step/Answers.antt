@@ -1,5 +1,4 @@
 -- `plan_text::put_step` meets its contract: by the kind of step.
-use borrow.Author.Rules.{rules}
 use Rattle.plan_text.proofs.put_step.Goals as goal
 
 pub put_line-requires : goal.put_line-requires

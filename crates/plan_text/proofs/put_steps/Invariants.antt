@@ -1,13 +1,10 @@
 -- `plan_text::put_steps` meets its contract: the lines of the steps, one after the other.
-use Prim.Native.Nat.{◌+◌, ◌-◌, ◌≤◌}
-use native.Mathlib.Omega.{arith}
-use lib.ListN.{length, get_or, drop}
-use Rattle.plan.specs.Step.{unpack_all, unpack}
+use Prim.Native.Nat.{◌-◌, ◌≤◌}
+use lib.ListN.{length, drop}
+use Rattle.plan.specs.Step.{unpack_all}
 use Rattle.plan.specs.Layout.{steps_of}
-use Rattle.text.specs.LinesLaws.{Left, left-all, left-room, left-next, left-none}
-use Rattle.plan_text.specs.PlanText.{step_lines, number_text}
-use Rattle.plan.specs.LayoutLaws.{well}
-use Rattle.plan_text.proofs.Turns.{next-step, last_step}
+use Rattle.text.specs.LinesLaws.{Left}
+use Rattle.plan_text.specs.PlanText.{step_lines}
 use Rattle.plan_text.proofs.put_steps.Given as goal
 
 abbrev pub invariant-loop-i : goal.invariant-loop-i

@@ -1,5 +1,4 @@
 -- `planlist::main` is safe: what was read lies within the buffer.
-use borrow.Author.Rules.{rules}
 use Rattle.text.specs.Files.{read_count}
 use Rattle.planlist.proofs.main.Goals as goal
 

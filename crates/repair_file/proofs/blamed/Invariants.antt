@@ -1,10 +1,7 @@
 -- `repair_file::blamed` meets its contract.
-use mathlib.Core.Logic.{⊎_elim}
 use mathlib.Core.Path.{◌≡◌}
-use native.Mathlib.Omega.{arith}
 use lib.ListN.{length, get_or}
 use Prim.Native.Nat.{ℕ, ◌-◌, ◌≤◌, ◌<◌}
-use Rattle.lists.specs.Tests.{side}
 use Rattle.repair_file.proofs.blamed.Given as goal
 
 abbrev pub invariant-loop-p : goal.invariant-loop-p

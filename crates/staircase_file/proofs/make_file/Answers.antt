@@ -1,5 +1,4 @@
 -- `staircase_file::make_file` is safe: the table that was made lies within its buffer and is accepted.
-use borrow.Author.Rules.{rules}
 use lib.ListN.{replicate}
 use Rattle.staircase_file.proofs.TableMade.{table-stands, table-accepted}
 use Rattle.staircase_file.proofs.make_file.Goals as goal

@@ -1,5 +1,4 @@
 -- `table_to_alist::main` is safe: the words that were read lie within the table's buffer.
-use borrow.Author.Rules.{rules}
 use Rattle.text.specs.Files.{read_count}
 use Rattle.table_to_alist.proofs.main.Goals as goal
 

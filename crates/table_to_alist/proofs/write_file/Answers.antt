@@ -2,7 +2,6 @@
 use mathlib.Core.Path.{sym}
 use Prim.Native.Nat.{ℕ}
 use native.Mathlib.Omega.{arith}
-use borrow.Author.Rules.{rules}
 use lib.ListN.{length-replicate}
 use Rattle.table_to_alist.proofs.TextWritten.{long-enough}
 use Rattle.table_to_alist.proofs.write_file.Goals as goal

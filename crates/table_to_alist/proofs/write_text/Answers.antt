@@ -1,6 +1,5 @@
 -- `table_to_alist::write_text` is safe: the text that was written lies within its buffer; what is refused has its words.
 use native.Mathlib.Omega.{arith}
-use borrow.Author.Rules.{rules}
 use Rattle.table_to_alist.proofs.TextWritten.{text-stands, refusals-said}
 use Rattle.table_to_alist.proofs.write_text.Goals as goal
 

@@ -1,5 +1,4 @@
 -- `verify_file::verify` is safe: the bytes that were read lie within the block's buffer.
-use borrow.Author.Rules.{rules}
 use Rattle.text.specs.Files.{read_count}
 use Rattle.verify_file.proofs.verify.Goals as goal
 
