@@ -1,5 +1,4 @@
 -- `merge_file::main` is safe: the words that were read lie within the table's buffer.
-use borrow.Author.Rules.{rules}
 use Rattle.text.specs.Files.{read_count}
 use Rattle.merge_file.proofs.main.Goals as goal
 

@@ -1,5 +1,4 @@
 -- `merge_file::merge_held` is safe: the third block and map lie within their buffers.
-use borrow.Author.Rules.{rules}
 use Rattle.table.specs.BufferLaws.{part-of-same}
 use Rattle.merge_file.proofs.merge_held.Goals as goal
 

@@ -1,6 +1,4 @@
 -- `merge_file::merge_into` is safe: what is refused has its words.
-use borrow.Author.Rules.{rules}
-use Rattle.erasure.specs.Offered.{held}
 use Rattle.merge_file.proofs.Refusing.{refused-before}
 use Rattle.merge_file.proofs.merge_into.Goals as goal
 

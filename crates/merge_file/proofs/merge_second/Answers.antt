@@ -1,5 +1,4 @@
 -- `merge_file::merge_second` is safe: what was read lies within the buffers.
-use borrow.Author.Rules.{rules}
 use Rattle.text.specs.Files.{read_count}
 use Rattle.merge_file.proofs.merge_second.Goals as goal
 

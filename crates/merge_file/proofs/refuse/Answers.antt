@@ -1,5 +1,4 @@
 -- `merge_file::refuse` is safe: what is left to say is a refusal of the table.
-use borrow.Author.Rules.{rules}
 use Rattle.merge_file.proofs.Refusing.{table-refusal}
 use Rattle.merge_file.proofs.refuse.Goals as goal
 

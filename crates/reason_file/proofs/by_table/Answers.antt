@@ -1,5 +1,4 @@
 -- `reason_file::by_table` is safe: the words that were read lie within the table's buffer.
-use borrow.Author.Rules.{rules}
 use Rattle.text.specs.Files.{read_count}
 use Rattle.reason_file.proofs.by_table.Goals as goal
 

@@ -1,5 +1,4 @@
 -- `reason_file::explain_files` is safe: what was read lies within the buffers.
-use borrow.Author.Rules.{rules}
 use Rattle.text.specs.Files.{read_count}
 use Rattle.reason_file.proofs.explain_files.Goals as goal
 

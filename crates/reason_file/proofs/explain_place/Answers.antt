@@ -1,5 +1,4 @@
 -- `reason_file::explain_place` is safe: the reason's list lies within its buffer.
-use borrow.Author.Rules.{rules}
 use Rattle.reason_file.proofs.Listed.{list-within, list_counts}
 use Rattle.reason_file.proofs.Refusing.{refused-some}
 use Rattle.reason_file.proofs.explain_place.Goals as goal

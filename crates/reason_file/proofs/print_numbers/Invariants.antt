@@ -1,7 +1,5 @@
 -- `reason_file::print_numbers` is safe: the index lies within the list.
 use Prim.Native.Nat.{◌-◌, ◌≤◌}
-use borrow.Author.Rules.{rules}
-use native.Mathlib.Omega.{arith}
 use lib.ListN.{length}
 use Rattle.reason_file.proofs.print_numbers.Given as goal
 
