@@ -21,12 +21,12 @@ fn refuse<R: Runtime, P: Print>(
     block: &[u8],
 ) -> std::io::Result<()> {
     if refusal == NONE_AGREES {
-        Print::write_all(
+        let said = Print::write_all(
             err,
             b"refused 8: no codeword agrees with the received packets\n",
-        )?;
+        );
         text::write_argument(rt, err, 2, block)?;
-        return Ok(());
+        return said;
     }
     text::say_refused(err, refusal)
 }

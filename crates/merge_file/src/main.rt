@@ -80,9 +80,9 @@ fn merge_into<R: Runtime, P: Print>(
         return Ok(());
     }
     if answer.refusal == 8 {
-        say_contradict(err, answer)?;
+        let said = say_contradict(err, answer);
         write_files(rt, err, block, map)?;
-        return Ok(());
+        return said;
     }
     refuse(err, answer.refusal)
 }

@@ -64,9 +64,9 @@ fn refuse<R: Runtime, P: Print>(
     block: &[u8],
 ) -> std::io::Result<()> {
     if answer.refusal == CONTRADICT {
-        say_contradict(err, answer)?;
+        let said = say_contradict(err, answer);
         text::write_argument(rt, err, 2, block)?;
-        return Ok(());
+        return said;
     }
     text::say_refused(err, answer.refusal)
 }
