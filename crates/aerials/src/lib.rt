@@ -22,12 +22,10 @@ fn same(x: &[u8], y: &[u8]) -> bool
     ensures { result ≡ same_list x.now y.now }
 {
     let mut all = true;
-    let mut i = 0;
-    while i < x.len() {
+    for i in 0..x.len() {
         if x[i] != y[i] {
             all = false;
         }
-        i += 1;
     }
     all
 }
@@ -95,10 +93,8 @@ pub fn hear_all(
         (held block2.now map2.now)
         n }
 {
-    let mut p = 0;
-    while p < n {
+    for p in 0..n {
         map3[p] = hear(map1[p], map2[p], block1, block2, block3, p * s, s);
-        p += 1;
     }
 }
 
@@ -106,13 +102,11 @@ pub fn hear_all(
 pub fn mark_lost(map: &mut [u8])
     ensures { map.new ≡ each (λ k. cond (ltb 1 k) 1 0) map.old }
 {
-    let mut p = 0;
-    while p < map.len() {
+    for p in 0..map.len() {
         if map[p] > SINGLE {
             map[p] = 1;
         } else {
             map[p] = 0;
         }
-        p += 1;
     }
 }

@@ -21,12 +21,10 @@ fn is_blank(board: &[u64]) -> bool
     requires { length board.now ≡ 16384 }
     ensures { Decides result (Blank board.now) }
 {
-    let mut i = 0;
-    while i < BOARD_WORDS {
+    for i in 0..BOARD_WORDS {
         if board[i] != 0 {
             return false;
         }
-        i += 1;
     }
     true
 }

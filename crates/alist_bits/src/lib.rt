@@ -6,8 +6,6 @@ ghost use Rattle.table.specs.Accepted.{Accepted};
 ghost use Rattle.table.specs.Table.{places, size};
 ghost use Rattle.alist_bits.specs.Loaded.{Flipped, Loaded};
 
-use table::wide;
-
 // check j is flipped in the row of each of its places
 fn turn_check(columns: &mut [u64], j: usize, t: &[u16], at: usize, weight: usize)
     requires { (length columns.old ≡ 16384)
@@ -16,10 +14,8 @@ fn turn_check(columns: &mut [u64], j: usize, t: &[u16], at: usize, weight: usize
         × ((i : ℕ) → i < weight → get_or t.now (at + i) 0 < 1024) }
     ensures { Flipped j (take weight (drop at t.now)) columns.old columns.new }
 {
-    let mut i = 0;
-    while i < weight {
-        bits::flip(columns, wide(t[at + i]), j);
-        i += 1;
+    for i in 0..weight {
+        bits::flip(columns, usize::from(t[at + i]), j);
     }
 }
 
@@ -32,12 +28,10 @@ pub fn load(t: &[u16], m: usize, columns: &mut [u64], rows: &mut [u64])
     ensures { Loaded t.now m columns.new rows.new }
 {
     let mut at = 5 + m;
-    let mut j = 0;
-    while j < m {
-        let weight = wide(t[4 + j]);
+    for j in 0..m {
+        let weight = usize::from(t[4 + j]);
         bits::load(rows, j, t, at, weight);
         turn_check(columns, j, t, at, weight);
         at += weight;
-        j += 1;
     }
 }

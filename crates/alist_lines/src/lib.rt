@@ -33,10 +33,8 @@ fn put_weights(text: &mut [u8], at: usize, w: &[u64], count: usize) -> usize
         × (result ≤ at + 5121) }
 {
     let mut next = at;
-    let mut c = 0;
-    while c < count {
+    for c in 0..count {
         next = put_next(text, at, next, bits::ones_of(w, c));
-        c += 1;
     }
     end_line(text, next)
 }
@@ -64,10 +62,8 @@ fn put_lists(text: &mut [u8], at: usize, w: &[u64], count: usize, most: usize) -
         × (result ≤ at + 10241 * count) }
 {
     let mut next = at;
-    let mut c = 0;
-    while c < count {
+    for c in 0..count {
         next = put_list(text, next, w, c, most);
-        c += 1;
     }
     next
 }

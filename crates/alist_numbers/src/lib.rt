@@ -95,10 +95,8 @@ pub fn put_row(text: &mut [u8], start: usize, at: usize, w: &[u64], r: usize) ->
         × (result ≤ at + 5120) }
 {
     let mut k = at;
-    let mut i = 0;
-    while i < 16 {
+    for i in 0..16 {
         k = put_word(text, start, k, w[r * 16 + i], i * 64);
-        i += 1;
     }
     k
 }
@@ -112,10 +110,8 @@ pub fn put_zeros(text: &mut [u8], start: usize, at: usize, k: usize, most: usize
         × (result ≤ at + 5120) }
 {
     let mut next = at;
-    let mut i = k;
-    while i < most {
+    for i in k..most {
         next = put_next(text, start, next, 0);
-        i += 1;
     }
     next
 }

@@ -72,8 +72,7 @@ fn good_lists(
 {
     let mut weight = weights;
     let mut next = at;
-    let mut i = 0;
-    while i < count {
+    for i in 0..count {
         let spot = numbers::read(text, weight);
         let list = good_list(board, text, next, spot.value, width, most);
         if !list.good {
@@ -81,7 +80,6 @@ fn good_lists(
         }
         weight = spot.next;
         next = list.next;
-        i += 1;
     }
     true
 }

@@ -12,7 +12,7 @@ ghost use Rattle.alist_write.specs.Rows.{bits_text, Answered};
 use alist_bits::load;
 use alist_lines::put_text;
 use making::Made;
-use table::{MOST_CHECKS, MOST_PLACES, wide};
+use table::{MOST_CHECKS, MOST_PLACES};
 
 // the words of the rows of bits, 16 a row
 const COLUMN_WORDS: usize = MOST_PLACES * 16;
@@ -36,10 +36,8 @@ fn heaviest(w: &[u64], count: usize) -> usize
         × (result ≤ 1024) }
 {
     let mut most = 0;
-    let mut c = 0;
-    while c < count {
+    for c in 0..count {
         most = larger(most, bits::ones_of(w, c));
-        c += 1;
     }
     most
 }
@@ -81,8 +79,8 @@ fn write(t: &[u16], text: &mut [u8]) -> Made
     ensures answer { make_answer_of result ≡ alist_write_answer t.now text.old }
     ensures text { text.new ≡ alist_write_text_after t.now text.old }
 {
-    let n = wide(t[1]);
-    let m = wide(t[3]);
+    let n = usize::from(t[1]);
+    let m = usize::from(t[3]);
     let mut columns = [0u64; COLUMN_WORDS];
     let mut rows = [0u64; ROW_WORDS];
     load(t, m, &mut columns, &mut rows);

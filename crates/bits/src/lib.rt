@@ -6,12 +6,6 @@ ghost use Rattle.std.specs.Int.Bits.{bit_xor};
 ghost use Rattle.gf2.specs.Gf2.{bit, Short, Bits, row_of};
 ghost use Rattle.bits.specs.Row.{row, places_in, RowPut};
 
-pub fn wide(x: u16) -> usize
-    ensures { result ≡ x }
-{
-    x as usize
-}
-
 // place p of row r is flipped
 pub fn flip(w: &mut [u64], r: usize, p: usize)
     requires { (r * 16 + 16 ≤ length w.old)
@@ -38,10 +32,8 @@ pub fn ones_of(w: &[u64], r: usize) -> usize
         × (result ≤ 1024) }
 {
     let mut n = 0;
-    let mut i = 0;
-    while i < 16 {
+    for i in 0..16 {
         n += u64::count_ones(w[r * 16 + i]) as usize;
-        i += 1;
     }
     n
 }
@@ -51,10 +43,8 @@ pub fn clear(w: &mut [u64], r: usize)
     requires { r * 16 + 16 ≤ length w.old }
     ensures { RowPut w.old r 0 w.new }
 {
-    let mut i = 0;
-    while i < 16 {
+    for i in 0..16 {
         w[r * 16 + i] = 0;
-        i += 1;
     }
 }
 
@@ -66,10 +56,8 @@ pub fn load(w: &mut [u64], r: usize, t: &[u16], at: usize, n: usize)
     ensures { RowPut w.old r (row_of (take n (drop at t.now))) w.new }
 {
     clear(w, r);
-    let mut i = 0;
-    while i < n {
-        flip(w, r, wide(t[at + i]));
-        i += 1;
+    for i in 0..n {
+        flip(w, r, usize::from(t[at + i]));
     }
 }
 
@@ -100,10 +88,8 @@ pub fn add_low(w: &mut [u64], a: usize, b: usize, l: usize)
     ensures { RowPut w.old b (bit_xor (row w.old a) (row w.old b)) w.new }
 {
     let words = (l + 63) / 64;
-    let mut i = 0;
-    while i < words {
+    for i in 0..words {
         w[b * 16 + i] = w[a * 16 + i] ^ w[b * 16 + i];
-        i += 1;
     }
 }
 
@@ -113,10 +99,8 @@ pub fn add_from(w: &mut [u64], b: usize, from: &[u64], a: usize)
         × (a * 16 + 16 ≤ length from.now) }
     ensures { RowPut w.old b (bit_xor (row from.now a) (row w.old b)) w.new }
 {
-    let mut i = 0;
-    while i < 16 {
+    for i in 0..16 {
         w[b * 16 + i] = from[a * 16 + i] ^ w[b * 16 + i];
-        i += 1;
     }
 }
 
@@ -124,9 +108,7 @@ pub fn add_from(w: &mut [u64], b: usize, from: &[u64], a: usize)
 pub fn clear_work(work: &mut [u64])
     ensures { work.new ≡ replicate (length work.old) 0 }
 {
-    let mut i = 0;
-    while i < work.len() {
+    for i in 0..work.len() {
         work[i] = 0;
-        i += 1;
     }
 }

@@ -67,12 +67,10 @@ fn next_suspect(
     ensures map { map.new ≡ map.old }
     ensures column { column.new ≡ column.old }
 {
-    let mut p = first;
-    while p < n {
+    for p in first..n {
         if is_suspect(t, m, n, s, block, map, small, column, p) {
             return p;
         }
-        p += 1;
     }
     n
 }
@@ -83,10 +81,8 @@ fn narrow_table(t: &[u16], small: &mut [u16])
         × (3 ≤ length t.now) }
     ensures { small.new ≡ at_size 1 t.now }
 {
-    let mut i = 0;
-    while i < t.len() {
+    for i in 0..t.len() {
         small[i] = t[i];
-        i += 1;
     }
     small[2] = 1;
 }
@@ -98,10 +94,8 @@ fn take_column(block: &[u8], n: usize, s: usize, byte: usize, column: &mut [u8])
         × (byte < s) }
     ensures { column.new ≡ bytes_at s n byte block.now }
 {
-    let mut p = 0;
-    while p < n {
+    for p in 0..n {
         column[p] = block[p * s + byte];
-        p += 1;
     }
 }
 

@@ -7,8 +7,6 @@ ghost use Rattle.table.specs.Accepted.{Accepted};
 ghost use Rattle.erasure.specs.Restoring.{lost_places};
 ghost use Rattle.chains.specs.Linked.{Links, with_check, Counted, Walk, Walked, LowestOne, holders};
 
-use table::wide;
-
 // the number of lost places of a check
 fn lost_in(t: &[u16], at: usize, weight: usize, map: &[u8]) -> usize
     requires { Places t.now at weight (length map.now) }
@@ -16,12 +14,10 @@ fn lost_in(t: &[u16], at: usize, weight: usize, map: &[u8]) -> usize
 {
     let end = at + weight;
     let mut k = 0;
-    let mut i = at;
-    while i < end {
-        if map[wide(t[i])] == 1 {
+    for i in at..end {
+        if map[usize::from(t[i])] == 1 {
             k += 1;
         }
-        i += 1;
     }
     k
 }
@@ -42,10 +38,8 @@ pub fn count_all(
         × (m ≤ length count.old) }
     ensures { Counted t.now m map.now count.new }
 {
-    let mut j = 0;
-    while j < m {
-        count[j] = lost_in(t, wide(starts[j]), wide(t[4 + j]), map) as u16;
-        j += 1;
+    for j in 0..m {
+        count[j] = lost_in(t, usize::from(starts[j]), usize::from(t[4 + j]), map) as u16;
     }
 }
 
@@ -71,13 +65,11 @@ fn link_check(
         → Links next.new owner.new head.new (at + weight) (with_check j (take weight (drop at t.now)) L)) }
 {
     let end = at + weight;
-    let mut i = at;
-    while i < end {
-        let p = wide(t[i]);
+    for i in at..end {
+        let p = usize::from(t[i]);
         next[i] = head[p];
         owner[i] = j;
         head[p] = i as u16 + 1;
-        i += 1;
     }
 }
 
@@ -104,18 +96,16 @@ pub fn link_all(
         × (length owner.new ≡ length owner.old)
         × Links next.new owner.new head.new (length t.now) (λ p. holders (check t.now m) p m) }
 {
-    let mut j = 0;
-    while j < m {
+    for j in 0..m {
         link_check(
             head,
             next,
             owner,
             t,
-            wide(starts[j]),
-            wide(t[4 + j]),
+            usize::from(starts[j]),
+            usize::from(t[4 + j]),
             j as u16,
         );
-        j += 1;
     }
 }
 
@@ -127,7 +117,7 @@ pub fn walk(next: &[u16], owner: &[u16], count: &mut [u16], first: usize, bound:
     let mut low = bound;
     let mut i = first;
     while 0 < i {
-        let j = wide(owner[i - 1]);
+        let j = usize::from(owner[i - 1]);
         let left = count[j] - 1;
         count[j] = left;
         if left == 1 {
@@ -135,7 +125,7 @@ pub fn walk(next: &[u16], owner: &[u16], count: &mut [u16], first: usize, bound:
                 low = j;
             }
         }
-        i = wide(next[i - 1]);
+        i = usize::from(next[i - 1]);
     }
     low
 }
@@ -146,12 +136,10 @@ pub fn lowest_one(count: &[u16], low: usize, m: usize) -> usize
         × (m ≤ length count.now) }
     ensures { LowestOne count.now low m result }
 {
-    let mut j = low;
-    while j < m {
+    for j in low..m {
         if count[j] == 1 {
             return j;
         }
-        j += 1;
     }
     m
 }

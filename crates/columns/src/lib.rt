@@ -19,11 +19,9 @@ fn spread(col: &mut [u32], t: &[u16], at: usize, weight: usize, c: u32)
     requires { Places t.now at weight (length col.old) }
     ensures { Upd (λ a. bit_xor a c) col.old (take weight (drop at t.now)) col.new }
 {
-    let mut i = 0;
-    while i < weight {
-        let p = table::wide(t[at + i]);
+    for i in 0..weight {
+        let p = usize::from(t[at + i]);
         col[p] = col[p] ^ c;
-        i += 1;
     }
 }
 
@@ -34,17 +32,15 @@ pub fn fill_columns(col: &mut [u32], t: &[u16], m: usize, starts: &[u16], aside:
     requires empty { Columns [] col.old }
     ensures { Columns (map row_of (map (check t.now m) (take g aside.now))) col.new }
 {
-    let mut i = 0;
-    while i < g {
-        let j = table::wide(aside[i]);
+    for i in 0..g {
+        let j = usize::from(aside[i]);
         spread(
             col,
             t,
-            table::wide(starts[j]),
-            table::wide(t[4 + j]),
+            usize::from(starts[j]),
+            usize::from(t[4 + j]),
             1 << i,
         );
-        i += 1;
     }
 }
 
@@ -73,17 +69,15 @@ pub fn push_all(
     ensures { (E : List ℕ) → Columns E col.old
         → Columns (map (put_in_all (solved (check t.now m) order.now owns.now taken)) E) col.new }
 {
-    let mut k = 0;
-    while k < taken {
-        let j = table::wide(order[k]);
+    for k in 0..taken {
+        let j = usize::from(order[k]);
         push(
             col,
             t,
-            table::wide(starts[j]),
-            table::wide(t[4 + j]),
-            table::wide(owns[k]),
+            usize::from(starts[j]),
+            usize::from(t[4 + j]),
+            usize::from(owns[k]),
         );
-        k += 1;
     }
 }
 

@@ -9,7 +9,7 @@ ghost use Rattle.lists.specs.Lists.{Wrote};
 ghost use Rattle.emit.specs.Emit.{WroteSteps, Room, marked, Below};
 ghost use Rattle.compose.specs.Compose.{gap_steps_in, plan_steps_in, clear_count, free_places, info_places, Phases, Composed};
 
-use table::{MOST_PLACES, wide};
+use table::MOST_PLACES;
 
 // ---- the steps, from plan[at] on; the place behind them is returned
 
@@ -37,7 +37,7 @@ fn gap_steps(
     emit::mark(&mut skip, fitted, g);
     let a = emit::solve_all(plan, at, t, starts, order, owns, taken, &skip);
     let b = emit::set_aside(plan, a, t, starts, aside, g, &skip);
-    let e = emit::fit_all(plan, b, wide(t[1]), g, fitted, rows);
+    let e = emit::fit_all(plan, b, usize::from(t[1]), g, fitted, rows);
     emit::solve_whole(plan, e, t, starts, order, owns, taken)
 }
 
@@ -117,13 +117,11 @@ fn unmarked(plan: &mut [u32], at: usize, n: usize, used: &[u8]) -> usize
     ensures { Wrote plan.old at (free_places n (marked used.now)) plan.new result }
 {
     let mut k = at;
-    let mut p = 0;
-    while p < n {
+    for p in 0..n {
         if used[p] != 1 {
             plan[k] = p as u32;
             k += 1;
         }
-        p += 1;
     }
     k
 }
@@ -193,7 +191,7 @@ pub fn write_plan(
     requires room { least_plan ≤ length plan.old }
     ensures { Composed t.now plan.old plan.new result.length result.additions }
 {
-    let n = wide(t[1]);
+    let n = usize::from(t[1]);
     plan::write_head(plan, n, g, kept);
     let k = info_section(plan, plan::INFO_COUNT_AT, n, owns, taken, fitted, g);
     let e = step_section(

@@ -13,7 +13,7 @@ ghost use Rattle.rows.specs.Leads.{leads, Owners, Lowered};
 ghost use Rattle.decided.specs.Decided.{lost_row};
 ghost use Rattle.eliminate.specs.Eliminating.{received_places, Summed, NoneLost, Eliminated};
 
-use table::{MOST_PLACES, MOST_WEIGHT, wide};
+use table::{MOST_PLACES, MOST_WEIGHT};
 
 // room for the places of a check and of all rows that reduce it
 pub const MOST_NOTED: usize = MOST_PLACES + MOST_WEIGHT;
@@ -37,17 +37,15 @@ fn part_check(
 {
     bits::clear(w, r);
     let mut k = 0;
-    let mut i = 0;
-    while i < weight {
+    for i in 0..weight {
         let p = t[at + i];
-        let q = wide(p);
+        let q = usize::from(p);
         if map[q] == 1 {
             bits::flip(w, r, q);
         } else {
             noted[k] = p;
             k += 1;
         }
-        i += 1;
     }
     k
 }
@@ -133,10 +131,9 @@ pub fn take_all(
 {
     let mut noted = [0u16; MOST_NOTED];
     let mut k = 0;
-    let mut i = 0;
     let mut at = 5 + m;
-    while i < m {
-        let weight = wide(t[4 + i]);
+    for i in 0..m {
+        let weight = usize::from(t[4 + i]);
         let r = take_check(t, at, weight, n, s, block, map, w, owner, k, &mut noted);
         if r.clash {
             return false;
@@ -147,7 +144,6 @@ pub fn take_all(
             k += 1;
         }
         at += weight;
-        i += 1;
     }
     true
 }

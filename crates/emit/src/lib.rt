@@ -10,7 +10,7 @@ ghost use Rattle.emit.specs.Emit.{Room, WroteSteps, marking, Readable, Numbers, 
 ghost use Rattle.emit.specs.Emit.{sum_steps, check_steps, solve_steps, whole_steps, aside_steps, fit_steps, fitting_rows};
 
 use plan::Step;
-use table::{MOST_PLACES, wide};
+use table::MOST_PLACES;
 
 // ---- marks, a byte a place
 
@@ -19,11 +19,9 @@ pub fn mark(marks: &mut [u8], places: &[u16], count: usize)
     requires { Below (length marks.old) places.now count }
     ensures { marks.new ≡ marking marks.old (take count places.now) }
 {
-    let mut i = 0;
-    while i < count {
-        let p = wide(places[i]);
+    for i in 0..count {
+        let p = usize::from(places[i]);
         marks[p] = 1;
-        i += 1;
     }
 }
 
@@ -49,16 +47,14 @@ fn sum_check(
 {
     plan[at] = Step::Clear(to).pack();
     let mut k = at + 1;
-    let mut i = 0;
-    while i < weight {
-        let p = wide(t[start + i]);
+    for i in 0..weight {
+        let p = usize::from(t[start + i]);
         if p != to {
             if skip[p] != 1 {
                 plan[k] = Step::Add(to, p).pack();
                 k += 1;
             }
         }
-        i += 1;
     }
     k
 }
@@ -81,7 +77,15 @@ fn check_into(
         (check_steps t.now j to skip.now)
         plan.new result }
 {
-    sum_check(plan, at, t, wide(starts[j]), wide(t[4 + j]), to, skip)
+    sum_check(
+        plan,
+        at,
+        t,
+        usize::from(starts[j]),
+        usize::from(t[4 + j]),
+        to,
+        skip,
+    )
 }
 
 // the solved checks, the last taken first, without the marked places
@@ -107,7 +111,15 @@ pub fn solve_all(
     let mut i = taken;
     while 0 < i {
         i -= 1;
-        k = check_into(plan, k, t, starts, wide(order[i]), wide(owns[i]), skip);
+        k = check_into(
+            plan,
+            k,
+            t,
+            starts,
+            usize::from(order[i]),
+            usize::from(owns[i]),
+            skip,
+        );
     }
     k
 }
@@ -152,12 +164,10 @@ pub fn set_aside(
         (aside_steps t.now aside.now g skip.now)
         plan.new result }
 {
-    let n = wide(t[1]);
+    let n = usize::from(t[1]);
     let mut k = at;
-    let mut i = 0;
-    while i < g {
-        k = check_into(plan, k, t, starts, wide(aside[i]), n + i, skip);
-        i += 1;
+    for i in 0..g {
+        k = check_into(plan, k, t, starts, usize::from(aside[i]), n + i, skip);
     }
     k
 }
@@ -172,13 +182,11 @@ fn fit_place(plan: &mut [u32], at: usize, n: usize, g: usize, to: usize, row: u3
 {
     plan[at] = Step::Clear(to).pack();
     let mut k = at + 1;
-    let mut i = 0;
-    while i < g {
+    for i in 0..g {
         if (row >> i) & 1 == 1 {
             plan[k] = Step::Add(to, n + i).pack();
             k += 1;
         }
-        i += 1;
     }
     k
 }
@@ -202,10 +210,8 @@ pub fn fit_all(
         plan.new result }
 {
     let mut k = at;
-    let mut j = 0;
-    while j < g {
-        k = fit_place(plan, k, n, g, wide(fitted[j]), rows[j]);
-        j += 1;
+    for j in 0..g {
+        k = fit_place(plan, k, n, g, usize::from(fitted[j]), rows[j]);
     }
     k
 }

@@ -101,7 +101,7 @@ fn size_for<R: Runtime, P: Print>(rt: &R, err: &P, table: &[u16]) -> std::io::Re
     if text::has_argument(rt, 4) && !text::has_argument(rt, 5) {
         return text::number_argument(rt, err, 4, b"SIZE");
     }
-    Ok(Number::Is(table::wide(table[2])))
+    Ok(Number::Is(usize::from(table[2])))
 }
 
 fn encode_file<R: Runtime, P: Print>(rt: &R, err: &P, table: &[u16]) -> std::io::Result<()> {

@@ -67,10 +67,8 @@ pub fn enter_all(
         (held arrivals.now arrived.now)
         k).map }
 {
-    let mut p = 0;
-    while p < k {
+    for p in 0..k {
         let mark = carried(map, n, p);
         map[p] = enter(mark, arrived[p], block, arrivals, p * s, s);
-        p += 1;
     }
 }

@@ -109,8 +109,7 @@ fn columns(
     let mut t = 0;
     let mut x = raw;
     let mut l = left;
-    let mut j = 0;
-    while j < k {
+    for j in 0..k {
         let r = column(w, u, t, e, m, j, ones, x, l);
         if !r.ok {
             return r;
@@ -118,7 +117,6 @@ fn columns(
         t = r.used;
         x = r.raw;
         l = r.left;
-        j += 1;
     }
     Turn {
         ok: true,
@@ -191,15 +189,13 @@ fn extras(w: &mut [u64], m: usize, k: usize, raw: usize, left: usize) -> bool
 {
     let mut x = raw;
     let mut l = left;
-    let mut i = 0;
-    while i < m {
+    for i in 0..m {
         let d = two_ones(w, i, k, x, l);
         if !d.found {
             return false;
         }
         x = d.raw;
         l = d.left;
-        i += 1;
     }
     true
 }

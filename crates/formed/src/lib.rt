@@ -21,8 +21,7 @@ fn mark_places(w: &[u32], n: usize, marks: &mut [u8]) -> bool
 {
     let count = info_count(w);
     let mut low = 0;
-    let mut i = 0;
-    while i < count {
+    for i in 0..count {
         let p = info_place(w, i);
         if p < low {
             return false;
@@ -32,7 +31,6 @@ fn mark_places(w: &[u32], n: usize, marks: &mut [u8]) -> bool
         }
         marks[p] = 1;
         low = p + 1;
-        i += 1;
     }
     true
 }
@@ -84,12 +82,10 @@ fn good_steps(k: usize, marks: &[u8], w: &[u32], at: usize) -> bool
     requires start { at ≤ length w.now }
     ensures { result ≡ all_pass (λ x. good_step_by k (is_marked marks.now) (unpack x)) (drop at w.now) }
 {
-    let mut i = at;
-    while i < w.len() {
+    for i in at..w.len() {
         if !good_number(k, marks, w[i]) {
             return false;
         }
-        i += 1;
     }
     true
 }

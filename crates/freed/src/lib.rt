@@ -13,13 +13,11 @@ fn freed_in(count: &[u16], t: &[u16], at: usize, weight: usize) -> usize
     ensures most { result ≤ weight }
 {
     let mut r = 0;
-    let mut i = 0;
-    while i < weight {
-        let p = table::wide(t[at + i]);
+    for i in 0..weight {
+        let p = usize::from(t[at + i]);
         if count[p] == 2 {
             r += 1;
         }
-        i += 1;
     }
     r
 }
@@ -32,16 +30,14 @@ pub fn most_freed_of(t: &[u16], m: usize, starts: &[u16], live: &[u8], count: &[
 {
     let mut best = m;
     let mut w = 0;
-    let mut i = 0;
-    while i < m {
+    for i in 0..m {
         if live[i] == 1 {
-            let k = freed_in(count, t, table::wide(starts[i]), table::wide(t[4 + i]));
+            let k = freed_in(count, t, usize::from(starts[i]), usize::from(t[4 + i]));
             if w <= k {
                 best = i;
                 w = k + 1;
             }
         }
-        i += 1;
     }
     best
 }

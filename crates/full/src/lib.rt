@@ -6,7 +6,7 @@ ghost use Rattle.table.specs.Accepted.{Accepted};
 ghost use Rattle.full.specs.Full.{Answers, FittingAll, full_answer_of, full_answer_at, full_refused};
 ghost use Rattle.full.specs.Deciding.{Decides};
 
-use table::{MOST_PLACES, WORK_WORDS, wide};
+use table::{MOST_PLACES, WORK_WORDS};
 
 // What full repair reports: the refusal, 0 for none, and the counts; check and byte are 0.
 #[derive(Drop)]
@@ -102,8 +102,8 @@ pub fn full_repair(t: &[u16], block: &mut [u8], map: &mut [u8], work: &mut [u64]
     if refusal != 0 {
         return refused(refusal);
     }
-    let n = wide(t[1]);
-    let s = wide(t[2]);
+    let n = usize::from(t[1]);
+    let s = usize::from(t[2]);
     if block.len() != n * s {
         return refused(5);
     }
@@ -116,5 +116,5 @@ pub fn full_repair(t: &[u16], block: &mut [u8], map: &mut [u8], work: &mut [u64]
     if marks::over_one(map) {
         return refused(7);
     }
-    full_packets(t, wide(t[3]), n, s, block, map, work)
+    full_packets(t, usize::from(t[3]), n, s, block, map, work)
 }

@@ -46,10 +46,9 @@ fn keep(t: &[u16], m: usize, n: usize, w: &mut [u64], owner: &mut [u16], ids: &m
 {
     let mut noted = [0u16; MOST_PLACES];
     let mut k = 0;
-    let mut i = 0;
     let mut at = 5 + m;
-    while i < m {
-        let weight = table::wide(t[4 + i]);
+    for i in 0..m {
+        let weight = usize::from(t[4 + i]);
         let l = eliminate(w, k, owner, t, at, weight, n, &mut noted);
         if 0 < l {
             owner[l - 1] = (k + 1) as u16;
@@ -57,7 +56,6 @@ fn keep(t: &[u16], m: usize, n: usize, w: &mut [u64], owner: &mut [u16], ids: &m
             k += 1;
         }
         at += weight;
-        i += 1;
     }
     k
 }

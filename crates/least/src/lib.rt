@@ -11,7 +11,7 @@ ghost use Rattle.reasons.specs.LeastBits.{even_bits};
 ghost use Rattle.reasons.specs.Noting.{places_of};
 ghost use Rattle.least.specs.Solved.{in_set, Solved};
 
-use table::{MOST_PLACES, wide};
+use table::MOST_PLACES;
 
 // row r has an odd number of the set's bits below l
 fn meets_set(w: &[u64], r: usize, set: &[u8], l: usize) -> bool
@@ -21,14 +21,12 @@ fn meets_set(w: &[u64], r: usize, set: &[u8], l: usize) -> bool
     ensures { result ≡ meets (in_set set.now) l (row w.now r) }
 {
     let mut odd = false;
-    let mut q = 0;
-    while q < l {
+    for q in 0..l {
         if set[q] == 1 {
             if bits::has_place(w, r, q) {
                 odd = !odd;
             }
         }
-        q += 1;
     }
     odd
 }
@@ -42,9 +40,8 @@ fn solve_set(w: &[u64], owner: &[u16], n: usize, set: &mut [u8])
         × (n ≤ 1024) }
     ensures { Solved (leads w.now owner.now) n set.old set.new }
 {
-    let mut q = 0;
-    while q < n {
-        let o = wide(owner[q]);
+    for q in 0..n {
+        let o = usize::from(owner[q]);
         if o != 0 {
             if meets_set(w, o - 1, set, q) {
                 set[q] = 1;
@@ -52,7 +49,6 @@ fn solve_set(w: &[u64], owner: &[u16], n: usize, set: &mut [u8])
                 set[q] = 0;
             }
         }
-        q += 1;
     }
 }
 
@@ -64,13 +60,11 @@ fn write_places(set: &[u8], n: usize, list: &mut [u16]) -> usize
     ensures { Front (places_of n (in_set set.now)) list.old list.new result }
 {
     let mut c = 0;
-    let mut p = 0;
-    while p < n {
+    for p in 0..n {
         if set[tracing::bit_of(p, n)] == 1 {
             list[c] = p as u16;
             c += 1;
         }
-        p += 1;
     }
     c
 }

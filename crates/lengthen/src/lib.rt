@@ -7,7 +7,6 @@ ghost use Rattle.lengthen.specs.Lengthen.{Answers, LengthenFitting, offer_causes
 ghost use Rattle.table.specs.FirstCause.{first_cause};
 
 use report::{Repaired, accepted, refused};
-use table::wide;
 
 // the first cause but 8 that holds, 0 for none
 fn look(old: &[u16], new: &[u16], block: &[u8], map: &[u8], arrivals: &[u8], arrived: &[u8]) -> u32
@@ -24,8 +23,8 @@ fn look(old: &[u16], new: &[u16], block: &[u8], map: &[u8], arrivals: &[u8], arr
     if second != 0 {
         return second;
     }
-    let k = wide(new[1]);
-    let s = wide(new[2]);
+    let k = usize::from(new[1]);
+    let s = usize::from(new[2]);
     if marks::wrong_lengths(block, map, k, s) {
         return 5;
     }
@@ -35,7 +34,7 @@ fn look(old: &[u16], new: &[u16], block: &[u8], map: &[u8], arrivals: &[u8], arr
     if !longer::is_lengthening(old, new) {
         return 15;
     }
-    let n = wide(old[1]);
+    let n = usize::from(old[1]);
     if marks::over(&map[0..n], 2) {
         return 16;
     }
@@ -62,11 +61,11 @@ fn go_on(
         (held arrivals.now arrived.now)
         result block.new map.new }
 {
-    let n = wide(old[1]);
-    let k = wide(new[1]);
-    let s = wide(new[2]);
+    let n = usize::from(old[1]);
+    let k = usize::from(new[1]);
+    let s = usize::from(new[2]);
     entering::enter_all(n, k, s, block, map, arrivals, arrived);
-    let done = restore::restore_packets(new, wide(new[3]), k, s, block, map);
+    let done = restore::restore_packets(new, usize::from(new[3]), k, s, block, map);
     if done.agrees {
         return accepted(done.restored, done.lost, done.additions);
     }

@@ -23,7 +23,7 @@ fn list_table(out: &mut [u8], table: &[u16]) -> usize
         return plan_text::put_refused(out, 0, planned.refusal);
     }
     let length = planned.length as usize;
-    let s = table::wide(table[2]);
+    let s = usize::from(table[2]);
     plan_text::put_plan(out, &plan[..length], s, planned.ones, planned.additions)
 }
 

@@ -20,12 +20,10 @@ pub fn note(count: &mut [u16], names: &mut [u16], t: &[u16], at: usize, weight: 
     ensures { Noted count.old names.old (take weight (drop at t.now)) j
         count.new names.new }
 {
-    let mut i = 0;
-    while i < weight {
-        let p = table::wide(t[at + i]);
+    for i in 0..weight {
+        let p = usize::from(t[at + i]);
         count[p] = count[p] + 1;
         names[p] = names[p] ^ j;
-        i += 1;
     }
 }
 
@@ -37,12 +35,10 @@ pub fn forget(count: &mut [u16], names: &mut [u16], t: &[u16], at: usize, weight
     ensures { Forgot count.old names.old (take weight (drop at t.now)) j
         count.new names.new }
 {
-    let mut i = 0;
-    while i < weight {
-        let p = table::wide(t[at + i]);
+    for i in 0..weight {
+        let p = usize::from(t[at + i]);
         count[p] = count[p] - 1;
         names[p] = names[p] ^ j;
-        i += 1;
     }
 }
 
@@ -70,15 +66,13 @@ pub fn raise(count: &[u16], t: &[u16], at: usize, weight: usize, top: usize) -> 
     ensures { Raised count.now t.now at weight top result }
 {
     let mut r = top;
-    let mut i = 0;
-    while i < weight {
-        let p = table::wide(t[at + i]);
+    for i in 0..weight {
+        let p = usize::from(t[at + i]);
         if count[p] == 1 {
             if r <= p {
                 r = p + 1;
             }
         }
-        i += 1;
     }
     r
 }

@@ -7,19 +7,15 @@ ghost use Rattle.longer.specs.Longer.{are_first, lengthens};
 ghost use Rattle.table.specs.Accepted.{Accepted};
 ghost use Rattle.table.specs.Table.{places, size, checks, refusal};
 
-use table::wide;
-
 // whether two lists of words are the same
 fn same(x: &[u16], y: &[u16]) -> bool
     requires { length x.now ≡ length y.now }
     ensures { result ≡ same_list x.now y.now }
 {
-    let mut i = 0;
-    while i < x.len() {
+    for i in 0..x.len() {
         if x[i] != y[i] {
             return false;
         }
-        i += 1;
     }
     true
 }
@@ -54,8 +50,8 @@ pub fn is_lengthening(old: &[u16], new: &[u16]) -> bool
     if old[1] > new[1] {
         return false;
     }
-    let m = wide(old[3]);
-    let k = wide(new[3]);
+    let m = usize::from(old[3]);
+    let k = usize::from(new[3]);
     if m > k {
         return false;
     }

@@ -103,7 +103,7 @@ fn draw_order(w: &[u64], u: &[u16], t: usize, e: usize, j: usize, raw: usize, le
     while 0 < l {
         let d = draws::draw(e - t, x, l);
         let i = t + d.value;
-        if vacant(w, bits::wide(u[i]), j) {
+        if vacant(w, usize::from(u[i]), j) {
             return found(d);
         }
         x = d.raw;
@@ -156,12 +156,10 @@ pub fn scan(w: &[u64], u: &[u16], t: usize, e: usize, j: usize) -> bool
         × (length w.now ≡ 8192) }
     ensures { result ≡ any_of (free w.now j) (drop t (take e u.now)) }
 {
-    let mut i = t;
-    while i < e {
-        if vacant(w, bits::wide(u[i]), j) {
+    for i in t..e {
+        if vacant(w, usize::from(u[i]), j) {
             return true;
         }
-        i += 1;
     }
     false
 }
@@ -173,10 +171,8 @@ pub fn start_order(u: &mut [u16], e: usize, m: usize)
         × (m ≤ 512) }
     ensures { u.new ≡ map (λ h. h % m) (from 0 e) ++ drop e u.old }
 {
-    let mut h = 0;
-    while h < e {
+    for h in 0..e {
         u[h] = (h % m) as u16;
-        h += 1;
     }
 }
 
@@ -221,7 +217,7 @@ pub fn by_order(
     let d = draw_order(w, u, t, e, j, raw, left);
     if d.found {
         let i = t + d.value;
-        put(w, bits::wide(u[i]), j);
+        put(w, usize::from(u[i]), j);
         u[i] = u[t];
     }
     d

@@ -23,8 +23,8 @@ fn print_counts<P: Print>(
 fn print_table<P: Print>(out: &P, table: &[u16]) -> std::io::Result<()>
     requires { refusal table.now ≡ 0 }
 {
-    let checks = table::wide(table[3]);
-    let ones = table::wide(table[4 + checks]);
+    let checks = usize::from(table[3]);
+    let ones = usize::from(table[4 + checks]);
     print_counts(out, table.len(), checks, ones)
 }
 

@@ -36,14 +36,12 @@ pub fn weigh(w: &[u64], m: usize) -> usize
     ensures { result ≡ weighed (map length (rows_in w.now m)) }
 {
     let mut sum = 0;
-    let mut i = 0;
-    while i < m {
+    for i in 0..m {
         let x = bits::ones_of(w, i);
         if MOST_WEIGHT < x {
             return 65536;
         }
         sum += x;
-        i += 1;
     }
     sum
 }
@@ -68,10 +66,8 @@ fn write_weights(table: &mut [u16], w: &[u64], m: usize)
         × (m * 16 ≤ length w.now) }
     ensures { Wrote table.old 4 (map length (rows_in w.now m)) table.new (4 + m) }
 {
-    let mut i = 0;
-    while i < m {
+    for i in 0..m {
         table[4 + i] = bits::ones_of(w, i) as u16;
-        i += 1;
     }
 }
 
@@ -98,10 +94,8 @@ fn write_row(table: &mut [u16], at: usize, w: &[u64], r: usize) -> usize
     ensures { Wrote table.old at (places_in (row w.now r)) table.new result }
 {
     let mut k = at;
-    let mut i = 0;
-    while i < 16 {
+    for i in 0..16 {
         k = write_word(table, k, w[r * 16 + i], i * 64);
-        i += 1;
     }
     k
 }
@@ -113,10 +107,8 @@ fn write_rows(table: &mut [u16], at: usize, w: &[u64], m: usize) -> usize
     ensures { Wrote table.old at (flat (rows_in w.now m)) table.new result }
 {
     let mut k = at;
-    let mut i = 0;
-    while i < m {
+    for i in 0..m {
         k = write_row(table, k, w, i);
-        i += 1;
     }
     k
 }

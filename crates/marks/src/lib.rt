@@ -24,12 +24,10 @@ pub fn wrong_lengths(block: &[u8], map: &[u8], n: usize, s: usize) -> bool
 pub fn over(map: &[u8], most: u8) -> bool
     ensures { result ≡ any_of (ltb most) map.now }
 {
-    let mut p = 0;
-    while p < map.len() {
+    for p in 0..map.len() {
         if map[p] > most {
             return true;
         }
-        p += 1;
     }
     false
 }
@@ -47,12 +45,10 @@ pub fn tally_of(map: &[u8], v: u8) -> u32
     ensures { result ≡ tally v map.now }
 {
     let mut k = 0;
-    let mut p = 0;
-    while p < map.len() {
+    for p in 0..map.len() {
         if map[p] == v {
             k += 1;
         }
-        p += 1;
     }
     k
 }
@@ -63,12 +59,10 @@ pub fn zero_lost(block: &mut [u8], map: &[u8], n: usize, s: usize)
         × (length map.now ≡ n) }
     ensures { block.new ≡ joined (zero_lost s map.now (packets s n block.old)) }
 {
-    let mut p = 0;
-    while p < n {
+    for p in 0..n {
         if map[p] == 1 {
             packets::clear(block, p * s, s);
         }
-        p += 1;
     }
 }
 

@@ -18,10 +18,8 @@ pub fn units(masks: &mut [u32], g: usize)
         × (g ≤ 32) }
     ensures { Units g masks.new }
 {
-    let mut i = 0;
-    while i < g {
+    for i in 0..g {
         masks[i] = 1 << i;
-        i += 1;
     }
 }
 
@@ -52,10 +50,8 @@ fn mend(masks: &mut [u32], g: usize, v: u32, c: u32)
     requires { g ≤ length masks.old }
     ensures { Mended g v c masks.old masks.new }
 {
-    let mut i = 0;
-    while i < g {
+    for i in 0..g {
         masks[i] = mend_one(masks[i], v, c);
-        i += 1;
     }
 }
 
@@ -110,11 +106,9 @@ pub fn fit(col: &[u32], n: usize, g: usize, masks: &mut [u32], fitted: &mut [u16
         → Scan f W g n g masks.old fitted.old → Scan f W g 0 result masks.new fitted.new }
 {
     let mut free = g;
-    let mut k = 0;
-    while k < n {
+    for k in 0..n {
         let p = from_top(n, k);
         free = fit_one(masks, fitted, g, free, p, col[p]);
-        k += 1;
     }
     free
 }

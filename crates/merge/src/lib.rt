@@ -8,7 +8,6 @@ ghost use Rattle.erasure.specs.Offered.{held};
 ghost use Rattle.merge.specs.Merge.{Answers, FittingThree, merge_answer_of, merged_with, refused_with};
 
 use aerials::{AGREED, CLASH, SILENT, SINGLE};
-use table::wide;
 
 // What merging reports: the refusal, 0 for none; how many places are agreed, heard by one, heard by
 // none, and in clash; the repair's counts; and with refusal 8 the lowest check that fails with its byte.
@@ -132,8 +131,8 @@ pub fn merge(
     if refusal != 0 {
         return refused(refusal, 0, 0);
     }
-    let n = wide(t[1]);
-    let s = wide(t[2]);
+    let n = usize::from(t[1]);
+    let s = usize::from(t[2]);
     if marks::wrong_lengths(block1, map1, n, s) {
         return refused(5, 0, 0);
     }
@@ -151,7 +150,7 @@ pub fn merge(
     }
     merge_packets(
         t,
-        wide(t[3]),
+        usize::from(t[3]),
         n,
         s,
         block1,

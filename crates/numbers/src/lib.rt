@@ -62,8 +62,7 @@ pub fn count(text: &[u8]) -> Counted
 {
     let mut k = 0;
     let mut d = 0;
-    let mut i = 0;
-    while i < text.len() {
+    for i in 0..text.len() {
         let e = digits_after(d, text[i]);
         if e == 7 {
             return Counted {
@@ -73,7 +72,6 @@ pub fn count(text: &[u8]) -> Counted
         }
         k += ends_here(d, e);
         d = e;
-        i += 1;
     }
     Counted {
         good: true,

@@ -26,8 +26,7 @@ pub fn number_of(text: &[u8]) -> Number
         return Number::Nothing;
     }
     let mut x = 0;
-    let mut i = 0;
-    while i < text.len() {
+    for i in 0..text.len() {
         let byte = text[i];
         if !is_digit(byte) {
             return Number::Nothing;
@@ -37,7 +36,6 @@ pub fn number_of(text: &[u8]) -> Number
             return Number::Nothing;
         }
         x = x * 10 + digit;
-        i += 1;
     }
     Number::Is(x)
 }

@@ -7,17 +7,13 @@ ghost use Rattle.table.specs.Checks.{CheckIn, others_sum};
 ghost use Rattle.table.specs.Packets.{packets, joined, mixed};
 ghost use Rattle.lists.specs.Lists.{written};
 
-use table::wide;
-
 // s zeros are written at at.
 pub fn clear(b: &mut [u8], at: usize, s: usize)
     requires { at + s ≤ length b.old }
     ensures { b.new ≡ written b.old at (replicate s 0) }
 {
-    let mut i = 0;
-    while i < s {
+    for i in 0..s {
         b[at + i] = 0;
-        i += 1;
     }
 }
 
@@ -26,10 +22,8 @@ fn store(b: &mut [u8], at: usize, t: &[u8])
     requires { at + length t.now ≤ length b.old }
     ensures { b.new ≡ written b.old at t.now }
 {
-    let mut i = 0;
-    while i < t.len() {
+    for i in 0..t.len() {
         b[at + i] = t[i];
-        i += 1;
     }
 }
 
@@ -38,10 +32,8 @@ fn mix(b: &mut [u8], at: usize, t: &[u8])
     requires { at + length t.now ≤ length b.old }
     ensures { b.new ≡ mixed b.old at t.now }
 {
-    let mut i = 0;
-    while i < t.len() {
+    for i in 0..t.len() {
         b[at + i] = b[at + i] ^ t[i];
-        i += 1;
     }
 }
 
@@ -84,13 +76,11 @@ fn gather_others(
         (take (length acc.old) (drop off (others_sum t.now at weight block.now n s skip))) }
 {
     let k = acc.len();
-    let mut m = 0;
-    while m < weight {
-        let q = wide(t[at + m]);
+    for m in 0..weight {
+        let q = usize::from(t[at + m]);
         if q != skip {
             add_from(acc, 0, block, q * s + off, k);
         }
-        m += 1;
     }
 }
 

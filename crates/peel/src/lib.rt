@@ -39,7 +39,7 @@ fn pick(
     ensures { Picked (check t.now m) (lives live.now 0 m) n result }
 {
     match live::single(count, top) {
-        Found::At(p) => Event::Took(p, table::wide(names[p])),
+        Found::At(p) => Event::Took(p, usize::from(names[p])),
         Found::Nothing => Event::Aside(freed::most_freed_of(t, m, starts, live, count)),
     }
 }
@@ -63,8 +63,8 @@ fn remove(
         live.new count.new names.new }
     ensures calm { Calm count.new result }
 {
-    let at = table::wide(starts[j]);
-    let weight = table::wide(t[4 + j]);
+    let at = usize::from(starts[j]);
+    let weight = usize::from(t[4 + j]);
     live[j] = 0;
     live::forget(count, names, t, at, weight, j as u16);
     live::raise(count, t, at, weight, top)
@@ -148,8 +148,8 @@ fn enter(
         count,
         names,
         t,
-        table::wide(starts[j]),
-        table::wide(t[4 + j]),
+        usize::from(starts[j]),
+        usize::from(t[4 + j]),
         j as u16,
     );
 }
@@ -173,7 +173,7 @@ fn first_tally(
     let mut i = k;
     while 0 < i {
         i -= 1;
-        let j = table::wide(ids[i]);
+        let j = usize::from(ids[i]);
         enter(live, count, names, t, m, starts, j);
     }
 }
@@ -188,8 +188,8 @@ fn ones_of(t: &[u16], m: usize, ids: &[u16], k: usize) -> usize
     let mut i = k;
     while 0 < i {
         i -= 1;
-        let j = table::wide(ids[i]);
-        sum += table::wide(t[4 + j]);
+        let j = usize::from(ids[i]);
+        sum += usize::from(t[4 + j]);
     }
     sum
 }

@@ -11,7 +11,6 @@ ghost use Rattle.planning.specs.Planning.{planning_answer_of, planning_answer_at
 
 use peel::Choice;
 use planning::Planned;
-use table::wide;
 
 // the bits of a row of the inverse
 const MASK_WIDTH: usize = 32;
@@ -33,8 +32,8 @@ pub fn write_out(
     ensures answer { planning_answer_of result ≡ planning_answer_at 0 t.now }
     ensures plan { plan.new ≡ with_numbers t.now plan.old }
 {
-    let n = wide(t[1]);
-    let m = wide(t[3]);
+    let n = usize::from(t[1]);
+    let m = usize::from(t[3]);
     let g = c.aside;
     let mut fitted = [0u16; MASK_WIDTH];
     let mut rows = [0u32; MASK_WIDTH];

@@ -49,10 +49,8 @@ fn put_places(out: &mut [u8], at: usize, plan: &[u32]) -> usize
     ensures { Appended out.old at (words_after_blanks (map decimal (info_in plan.now))) out.new result }
 {
     let mut end = at;
-    let mut k = 0;
-    while k < plan::info_count(plan) {
+    for k in 0..plan::info_count(plan) {
         end = text::put_count(out, end, b" ", plan::info_place(plan, k) as u64);
-        k += 1;
     }
     text::put(out, end, b"\n")
 }
@@ -105,10 +103,8 @@ fn put_steps(out: &mut [u8], at: usize, plan: &[u32]) -> usize
     ensures { Appended out.old at (step_lines (steps_of plan.now)) out.new result }
 {
     let mut end = at;
-    let mut i = plan::steps_at(plan);
-    while i < plan.len() {
+    for i in (plan::steps_at(plan))..plan.len() {
         end = put_number(out, end, plan[i]);
-        i += 1;
     }
     end
 }

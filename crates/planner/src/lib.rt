@@ -7,7 +7,7 @@ ghost use Rattle.plan.specs.Layout.{least_plan};
 ghost use Rattle.planning.specs.Planning.{work_words, planning_answer_of, refused_by, planning_answer, planning_plan_after, planning_work_after};
 
 use planning::Planned;
-use table::{MOST_CHECKS, WORK_WORDS, wide};
+use table::{MOST_CHECKS, WORK_WORDS};
 
 // the least length of the plan's buffer
 pub const LEAST_PLAN: usize = 15360;
@@ -34,8 +34,8 @@ fn plan_table(t: &[u16], plan: &mut [u32], work: &mut [u64]) -> Planned
     ensures plan { plan.new ≡ planning_plan_after t.now plan.old work.old }
     ensures work { work.new ≡ planning_work_after t.now plan.old work.old }
 {
-    let n = wide(t[1]);
-    let m = wide(t[3]);
+    let n = usize::from(t[1]);
+    let m = usize::from(t[3]);
     let mut starts = [0u16; MOST_CHECKS];
     let mut order = [0u16; MOST_CHECKS];
     let mut owns = [0u16; MOST_CHECKS];

@@ -55,10 +55,8 @@ fn refuse<P: Print>(err: &P, refusal: u32) -> std::io::Result<()>
 
 // Prints numbers, each after a blank.
 fn print_numbers<P: Print>(out: &P, list: &[u16]) -> std::io::Result<()> {
-    let mut i = 0;
-    while i < list.len() {
+    for i in 0..list.len() {
         text::print_count(out, b" ", list[i] as u64, b"")?;
-        i += 1;
     }
     Ok(())
 }

@@ -11,7 +11,6 @@ ghost use Rattle.repair.specs.Parts.{Without};
 
 use blame::Suspected;
 use report::{Repaired, accepted, refused};
-use table::wide;
 
 // the repair with place p marked lost too, by which nothing contradicts; p is marked 3
 fn repair_without(
@@ -67,8 +66,8 @@ pub fn repair(t: &[u16], block: &mut [u8], map: &mut [u8]) -> Repaired
     if refusal != 0 {
         return refused(refusal, 0, 0);
     }
-    let n = wide(t[1]);
-    let s = wide(t[2]);
+    let n = usize::from(t[1]);
+    let s = usize::from(t[2]);
     if block.len() != n * s {
         return refused(5, 0, 0);
     }
@@ -78,5 +77,5 @@ pub fn repair(t: &[u16], block: &mut [u8], map: &mut [u8]) -> Repaired
     if marks::over_one(map) {
         return refused(7, 0, 0);
     }
-    repair_packets(t, wide(t[3]), n, s, block, map)
+    repair_packets(t, usize::from(t[3]), n, s, block, map)
 }

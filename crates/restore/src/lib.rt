@@ -11,7 +11,7 @@ ghost use Rattle.erasure.specs.States.{Restored, state_of};
 ghost use Rattle.turns.specs.Spent.{Spent};
 ghost use Rattle.restore.specs.Mending.{Tells, Mends};
 
-use table::{MOST_CHECKS, MOST_PLACES, MOST_WORDS, wide};
+use table::{MOST_CHECKS, MOST_PLACES, MOST_WORDS};
 
 // What restoring comes to: whether every check without a lost place sums to zero, and the counts. If
 // not, counts are 0, and check and byte tell the lowest that doesn't; else these are 0.
@@ -70,9 +70,8 @@ fn judge(
     ensures { Tells result (contradiction s (checks t.now) (state_of s n block.now map.now 0)) }
 {
     let mut at = 5 + m;
-    let mut j = 0;
-    while j < m {
-        let w = wide(t[4 + j]);
+    for j in 0..m {
+        let w = usize::from(t[4 + j]);
         if marks::to_sum(count[j], used[j]) {
             let low = sums::sum_of_check(t, at, w, block, n, s);
             if low != s {
@@ -80,7 +79,6 @@ fn judge(
             }
         }
         at += w;
-        j += 1;
     }
     Judged {
         agrees: true,

@@ -23,7 +23,7 @@ pub fn reduce(w: &mut [u64], owner: &[u16], k: usize, n: usize, noted: &mut [u16
     let mut count = 0;
     let mut l = bits::bits_of(w, k, n);
     while 0 < l {
-        let o = bits::wide(owner[l - 1]);
+        let o = usize::from(owner[l - 1]);
         if o == 0 {
             break;
         }

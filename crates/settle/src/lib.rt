@@ -6,7 +6,7 @@ ghost use Rattle.table.specs.Accepted.{Accepted};
 ghost use Rattle.eliminate.specs.Eliminating.{NoneLost, ZeroLost, Led, Settled, SettledAll, Solves};
 
 use eliminate::MOST_NOTED;
-use table::{MOST_PLACES, wide};
+use table::MOST_PLACES;
 
 // the row that leads place p, without p, is reduced by the rows that lead lower places: if it vanishes, the packet at p is restored, and
 // else it is zero
@@ -29,7 +29,7 @@ fn settle(
     ensures { Settled s n p w.old owner.old block.old map.old
         w.new owner.new block.new map.new }
 {
-    let k = wide(owner[p]) - 1;
+    let k = usize::from(owner[p]) - 1;
     owner[p] = 0;
     bits::flip(w, k, p);
     noted[0] = p as u16;

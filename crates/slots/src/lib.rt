@@ -7,7 +7,6 @@ ghost use Rattle.slots.specs.Runs.{step_in, is_clear, target_of, source_into, so
 ghost use Rattle.slots.specs.Slots.{SlotIn, SlotsIn, PartAdded, PartsAdded, PartPut, BaseAdded};
 
 use plan::{Decoded, Step};
-use table::wide;
 
 // A number that is no slot's.
 const NO_SLOT: usize = Step::SLOT as usize;
@@ -88,10 +87,8 @@ pub fn add_sources(
     requires room { off + length acc.old ≤ s }
     ensures { PartsAdded n s sources.now off block.now scratch.now acc.old acc.new }
 {
-    let mut m = 0;
-    while m < sources.len() {
-        add_part(acc, wide(sources[m]), off, n, s, block, scratch);
-        m += 1;
+    for m in 0..sources.len() {
+        add_part(acc, usize::from(sources[m]), off, n, s, block, scratch);
     }
 }
 

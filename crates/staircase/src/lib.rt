@@ -71,10 +71,8 @@ fn put_stairs(w: &mut [u64], k: usize, m: usize)
         × (k + m ≤ 1024) }
     ensures { Staired k m w.old w.new }
 {
-    let mut i = 0;
-    while i < m {
+    for i in 0..m {
         put_stair(w, k, i);
-        i += 1;
     }
 }
 

@@ -120,12 +120,10 @@ fn clear_gaps(plan: &[u32], s: usize, marks: &[u8], block: &mut [u8]) -> usize
 {
     let count = plan::info_count(plan);
     let mut low = 0;
-    let mut i = 0;
-    while i < count {
+    for i in 0..count {
         let place = plan::info_place(plan, i);
         clear_gap(block, marks, 0, low, place, s);
         low = place + 1;
-        i += 1;
     }
     low
 }

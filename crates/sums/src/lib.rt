@@ -6,17 +6,13 @@ ghost use Rattle.gf2.specs.Gf2.{xor_group, add as add_vectors};
 ghost use Rattle.table.specs.Checks.{CheckIn, check_sum};
 ghost use Rattle.table.specs.Packets.{lowest_nonzero};
 
-use table::wide;
-
 // Zero only where every byte is.
 fn or_of(a: &[u8]) -> u8
     ensures { result ≡ 0 → lowest_nonzero a.now ≡ length a.now }
 {
     let mut o = 0;
-    let mut i = 0;
-    while i < a.len() {
+    for i in 0..a.len() {
         o = o | a[i];
-        i += 1;
     }
     o
 }
@@ -62,10 +58,8 @@ fn gather(
         ≡ add_vectors xor_group acc.old (take (length acc.old) (drop off (check_sum t.now at weight block.now n s))) }
 {
     let k = acc.len();
-    let mut m = 0;
-    while m < weight {
-        packets::add_from(acc, 0, block, wide(t[at + m]) * s + off, k);
-        m += 1;
+    for m in 0..weight {
+        packets::add_from(acc, 0, block, usize::from(t[at + m]) * s + off, k);
     }
 }
 
@@ -114,10 +108,8 @@ fn or_into(o: &mut [u8], a: &[u8])
     ensures { lowest_nonzero o.new ≡ length a.now
         → (lowest_nonzero o.old ≡ length a.now) × (lowest_nonzero a.now ≡ length a.now) }
 {
-    let mut i = 0;
-    while i < o.len() {
+    for i in 0..o.len() {
         o[i] = o[i] | a[i];
-        i += 1;
     }
 }
 

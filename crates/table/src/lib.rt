@@ -29,12 +29,6 @@ pub const MOST_WORDS: usize = 6661;
 // the words of a work buffer: 512 checks of 1,024 bits
 pub const WORK_WORDS: usize = 8192;
 
-pub fn wide(x: u16) -> usize
-    ensures { result ≡ x }
-{
-    x as usize
-}
-
 // below 1 or above most
 pub fn outside(most: usize, x: usize) -> bool
     ensures { result ≡ is_outside most x }
@@ -66,7 +60,7 @@ fn beyond_limits(t: &[u16]) -> bool
     if t[0] != 2 {
         return true;
     }
-    beyond(wide(t[1]), wide(t[2]), wide(t[3]))
+    beyond(usize::from(t[1]), usize::from(t[2]), usize::from(t[3]))
 }
 
 // the sum of the m weights; 65,536, which no word is, if one is over 64
@@ -76,14 +70,12 @@ fn weigh(t: &[u16], m: usize) -> usize
     ensures { result ≡ weighed (take m (drop 4 t.now)) }
 {
     let mut sum = 0;
-    let mut j = 0;
-    while j < m {
-        let w = wide(t[4 + j]);
+    for j in 0..m {
+        let w = usize::from(t[4 + j]);
         if MOST_WEIGHT < w {
             return 65536;
         }
         sum += w;
-        j += 1;
     }
     sum
 }
@@ -94,11 +86,11 @@ fn bad_lengths(t: &[u16]) -> bool
         × (number t.now ≤ 512) }
     ensures { result ≡ bad_lengths t.now }
 {
-    let m = wide(t[3]);
+    let m = usize::from(t[3]);
     if t.len() < 5 + m {
         return true;
     }
-    let ones = wide(t[4 + m]);
+    let ones = usize::from(t[4 + m]);
     if MOST_ONES < ones {
         return true;
     }
@@ -115,14 +107,12 @@ fn rises(t: &[u16], at: usize, weight: usize, n: usize) -> bool
 {
     let end = at + weight;
     let mut low = 0;
-    let mut i = at;
-    while i < end {
-        let p = wide(t[i]);
+    for i in at..end {
+        let p = usize::from(t[i]);
         if p < low {
             return false;
         }
         low = p + 1;
-        i += 1;
     }
     low <= n
 }
@@ -133,14 +123,12 @@ fn all_rise(t: &[u16], m: usize, n: usize) -> bool
     ensures { result ≡ all_pass (rising n 0) (cut_up (take m (drop 4 t.now)) (drop (5 + m) t.now)) }
 {
     let mut at = 5 + m;
-    let mut j = 0;
-    while j < m {
-        let w = wide(t[4 + j]);
+    for j in 0..m {
+        let w = usize::from(t[4 + j]);
         if !rises(t, at, w, n) {
             return false;
         }
         at += w;
-        j += 1;
     }
     true
 }
@@ -150,8 +138,8 @@ fn bad_places(t: &[u16]) -> bool
     requires { 5 + number t.now + total (weights t.now) ≤ length t.now }
     ensures { result ≡ bad_places t.now }
 {
-    let n = wide(t[1]);
-    let m = wide(t[3]);
+    let n = usize::from(t[1]);
+    let m = usize::from(t[3]);
     !all_rise(t, m, n)
 }
 
@@ -181,11 +169,9 @@ pub fn fill_starts(t: &[u16], m: usize, starts: &mut [u16])
     ensures { Starts t.now m starts.new }
 {
     let mut at = 5 + m;
-    let mut j = 0;
-    while j < m {
+    for j in 0..m {
         starts[j] = at as u16;
-        at += wide(t[4 + j]);
-        j += 1;
+        at += usize::from(t[4 + j]);
     }
 }
 

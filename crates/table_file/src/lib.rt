@@ -28,10 +28,8 @@ fn fill_words(file: &[u8], words: &mut [u16])
     requires { length file.now ≡ 2 * length words.old }
     ensures { words.new ≡ words_of file.now }
 {
-    let mut i = 0;
-    while i < words.len() {
+    for i in 0..words.len() {
         words[i] = word(file[2 * i], file[2 * i + 1]);
-        i += 1;
     }
 }
 
@@ -71,10 +69,8 @@ pub fn bytes_of(words: &[u16], file: &mut [u8])
     requires { length file.old ≡ 2 * length words.now }
     ensures { file.new ≡ bytes_of words.now }
 {
-    let mut i = 0;
-    while i < words.len() {
+    for i in 0..words.len() {
         file[2 * i] = low(words[i]);
         file[2 * i + 1] = high(words[i]);
-        i += 1;
     }
 }

@@ -29,10 +29,8 @@ pub fn put(line: &mut [u8], at: usize, word: &[u8]) -> usize
     requires { at + length word.now ≤ length line.old }
     ensures { Appended line.old at word.now line.new result }
 {
-    let mut i = 0;
-    while i < word.len() {
+    for i in 0..word.len() {
         line[at + i] = word[i];
-        i += 1;
     }
     at + word.len()
 }

@@ -27,8 +27,7 @@ pub fn mark(board: &mut [u64], text: &[u8], at: usize, count: usize, most: usize
     ensures marks { Marks text.now at count most board.old result board.new }
 {
     let mut next = at;
-    let mut i = 0;
-    while i < count {
+    for i in 0..count {
         let spot = numbers::read(text, next);
         let x = spot.value;
         if x == 0 {
@@ -42,7 +41,6 @@ pub fn mark(board: &mut [u64], text: &[u8], at: usize, count: usize, most: usize
         }
         bits::flip(board, x / SIDE, x % SIDE);
         next = spot.next;
-        i += 1;
     }
     true
 }
@@ -54,12 +52,10 @@ pub fn unmark(board: &mut [u64], text: &[u8], at: usize, count: usize) -> usize
     ensures flips { Unmarks text.now at count board.old result board.new }
 {
     let mut next = at;
-    let mut i = 0;
-    while i < count {
+    for i in 0..count {
         let spot = numbers::read(text, next);
         bits::flip(board, spot.value / SIDE, spot.value % SIDE);
         next = spot.next;
-        i += 1;
     }
     next
 }
@@ -105,12 +101,10 @@ fn flip_list(
     ensures flips { FlipsList text.now at weight low span j columns board.old result board.new }
 {
     let mut next = at;
-    let mut i = 0;
-    while i < weight {
+    for i in 0..weight {
         let spot = numbers::read(text, next);
         flip_entry(board, spot.value, low, span, j, columns);
         next = spot.next;
-        i += 1;
     }
     next
 }
@@ -135,13 +129,11 @@ pub fn flip_lists(
 {
     let mut weight = weights;
     let mut next = at;
-    let mut j = 0;
-    while j < count {
+    for j in 0..count {
         let spot = numbers::read(text, weight);
         let padding = flip_list(board, text, next, spot.value, low, span, j, columns);
         next = walks::skip_numbers(text, padding, walks::rest(width, spot.value));
         weight = spot.next;
-        j += 1;
     }
     Cursors {
         weights: weight,

@@ -14,7 +14,7 @@ ghost use Rattle.reasons.specs.Trace.{trace as traced};
 ghost use Rattle.reasons.specs.Noting.{bits_below};
 ghost use Rattle.tracing.specs.Tracing.{number_in, feeders, Led, Taken};
 
-use table::{MOST_PLACES, wide};
+use table::MOST_PLACES;
 
 // the bit at which place p stands, the highest place lowest
 pub fn bit_of(p: usize, n: usize) -> usize
@@ -35,13 +35,11 @@ fn load_lost(w: &mut [u64], k: usize, t: &[u16], at: usize, weight: usize, lost:
     ensures { RowPut w.old k (mirror_row n lost.now (take weight (drop at t.now))) w.new }
 {
     bits::clear(w, k);
-    let mut i = 0;
-    while i < weight {
-        let p = wide(t[at + i]);
+    for i in 0..weight {
+        let p = usize::from(t[at + i]);
         if lost[p] == 1 {
             bits::flip(w, k, bit_of(p, n));
         }
-        i += 1;
     }
 }
 
@@ -53,11 +51,9 @@ pub fn note_feeders(feed: &mut [u64], k: usize, owner: &[u16], noted: &[u16], co
     ensures { RowPut feed.old k (row_of (map (number_in owner.now) (take count noted.now))) feed.new }
 {
     bits::clear(feed, k);
-    let mut i = 0;
-    while i < count {
-        let o = wide(owner[wide(noted[i])]);
+    for i in 0..count {
+        let o = usize::from(owner[usize::from(noted[i])]);
         bits::flip(feed, k, o - 1);
-        i += 1;
     }
 }
 
@@ -118,10 +114,9 @@ pub fn take_checks(
 {
     let mut noted = [0u16; MOST_PLACES];
     let mut k = 0;
-    let mut i = 0;
     let mut at = 5 + m;
-    while i < m {
-        let weight = wide(t[4 + i]);
+    for i in 0..m {
+        let weight = usize::from(t[4 + i]);
         let l = take_check(t, at, weight, n, lost, w, owner, k, feed, &mut noted);
         if 0 < l {
             owner[l - 1] = (k + 1) as u16;
@@ -129,7 +124,6 @@ pub fn take_checks(
             k += 1;
         }
         at += weight;
-        i += 1;
     }
     k
 }
@@ -161,13 +155,11 @@ fn write_checks(need: &[u64], ids: &[u16], k: usize, list: &mut [u16]) -> usize
     ensures { Front (named (bits_below k (row need.now 0)) (take k ids.now)) list.old list.new result }
 {
     let mut c = 0;
-    let mut i = 0;
-    while i < k {
+    for i in 0..k {
         if bits::has_place(need, 0, i) {
             list[c] = ids[i];
             c += 1;
         }
-        i += 1;
     }
     c
 }

@@ -10,21 +10,17 @@ ghost use Rattle.erasure.specs.Restoring.{lost_places, turn};
 ghost use Rattle.erasure.specs.States.{Holds, Restored, state_of};
 ghost use Rattle.turns.specs.Spent.{Spent};
 
-use table::wide;
-
 // the first lost place of a check, 0 if there is none
 fn first_lost(t: &[u16], at: usize, weight: usize, map: &[u8]) -> usize
     requires { Places t.now at weight (length map.now) }
     ensures { result ≡ get_or (lost_places map.now (take weight (drop at t.now))) 0 0 }
 {
     let end = at + weight;
-    let mut i = at;
-    while i < end {
-        let p = wide(t[i]);
+    for i in at..end {
+        let p = usize::from(t[i]);
         if map[p] == 1 {
             return p;
         }
-        i += 1;
     }
     0
 }
@@ -85,9 +81,9 @@ pub fn restore_all(
         if j == m {
             return adds;
         }
-        let w = wide(t[4 + j]);
-        let p = restore_one(t, wide(starts[j]), w, n, s, block, map);
-        low = chains::walk(next, owner, count, wide(head[p]), j);
+        let w = usize::from(t[4 + j]);
+        let p = restore_one(t, usize::from(starts[j]), w, n, s, block, map);
+        low = chains::walk(next, owner, count, usize::from(head[p]), j);
         used[j] = 1;
         adds += w - 1;
     }

@@ -8,8 +8,6 @@ ghost use Rattle.table.specs.Accepted.{Accepted};
 ghost use Rattle.faults.specs.Faults.{failing, every_check};
 ghost use Rattle.verify.specs.Verify.{values_of, verdict, verify_answer};
 
-use table::wide;
-
 // What verification says: a refusal, a codeword, or the lowest check that fails and the lowest byte
 // of its sum that isn't zero.
 #[derive(Drop)]
@@ -26,15 +24,13 @@ fn look_at_checks(t: &[u16], m: usize, n: usize, s: usize, block: &[u8]) -> Veri
     ensures { values_of result ≡ verdict (failing every_check s (packets s n block.now) 0 (checks t.now)) }
 {
     let mut at = 5 + m;
-    let mut j = 0;
-    while j < m {
-        let w = wide(t[4 + j]);
+    for j in 0..m {
+        let w = usize::from(t[4 + j]);
         let low = sums::sum_of_check(t, at, w, block, n, s);
         if low != s {
             return Verified::Fails(j, low);
         }
         at += w;
-        j += 1;
     }
     Verified::Codeword
 }
@@ -47,10 +43,10 @@ pub fn verify(t: &[u16], block: &[u8]) -> Verified
     if refusal != 0 {
         return Verified::Refused(refusal);
     }
-    let n = wide(t[1]);
-    let s = wide(t[2]);
+    let n = usize::from(t[1]);
+    let s = usize::from(t[2]);
     if block.len() != n * s {
         return Verified::Refused(5);
     }
-    look_at_checks(t, wide(t[3]), n, s, block)
+    look_at_checks(t, usize::from(t[3]), n, s, block)
 }

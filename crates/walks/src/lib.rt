@@ -30,11 +30,9 @@ pub fn skip_numbers(text: &[u8], at: usize, count: usize) -> usize
     ensures { Skips text.now at count result }
 {
     let mut next = at;
-    let mut i = 0;
-    while i < count {
+    for i in 0..count {
         let spot = numbers::read(text, next);
         next = spot.next;
-        i += 1;
     }
     next
 }
@@ -45,12 +43,10 @@ pub fn greatest(text: &[u8], at: usize, count: usize) -> usize
 {
     let mut most = 0;
     let mut next = at;
-    let mut i = 0;
-    while i < count {
+    for i in 0..count {
         let spot = numbers::read(text, next);
         most = larger(most, spot.value);
         next = spot.next;
-        i += 1;
     }
     most
 }
@@ -60,14 +56,12 @@ pub fn all_zero(text: &[u8], at: usize, count: usize) -> bool
     ensures { Tells text.now at count (all_pass (λ x. eqb x 0)) result }
 {
     let mut next = at;
-    let mut i = 0;
-    while i < count {
+    for i in 0..count {
         let spot = numbers::read(text, next);
         if spot.value != 0 {
             return false;
         }
         next = spot.next;
-        i += 1;
     }
     true
 }

@@ -9,7 +9,7 @@ ghost use Rattle.table.specs.Table.{checks};
 ghost use Rattle.why.specs.Telling.{Tells};
 ghost use Rattle.why.specs.Why.{Explains, early_causes, why_answer_of, why_refused};
 
-use table::{MOST_PLACES, WORK_WORDS, wide};
+use table::{MOST_PLACES, WORK_WORDS};
 
 // the numbers of a reason buffer
 pub const REASON_NUMBERS: usize = 1024;
@@ -50,8 +50,8 @@ fn look(t: &[u16], block: &[u8], map: &[u8], work: &[u64], place: usize, reason:
     if refusal != 0 {
         return refusal;
     }
-    let n = wide(t[1]);
-    if block.len() != n * wide(t[2]) {
+    let n = usize::from(t[1]);
+    if block.len() != n * usize::from(t[2]) {
         return 5;
     }
     if map.len() != n {
@@ -76,10 +76,8 @@ fn look(t: &[u16], block: &[u8], map: &[u8], work: &[u64], place: usize, reason:
 fn clear_numbers(list: &mut [u16])
     ensures { list.new ≡ replicate (length list.old) 0 }
 {
-    let mut i = 0;
-    while i < list.len() {
+    for i in 0..list.len() {
         list[i] = 0;
-        i += 1;
     }
 }
 
@@ -175,9 +173,9 @@ pub fn why(
     }
     why_packets(
         t,
-        wide(t[3]),
-        wide(t[1]),
-        wide(t[2]),
+        usize::from(t[3]),
+        usize::from(t[1]),
+        usize::from(t[2]),
         block,
         map,
         work,

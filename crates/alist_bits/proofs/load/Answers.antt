@@ -1,7 +1,7 @@
 -- `load` meets its contract: check after check.
 use mathlib.Core.Path.{◌≡◌, refl, subst, ◌∙◌}
 use native.Mathlib.Omega.{arith}
-use Rattle.table.specs.Accepted.{few-checks, has-weights, check-is, check-fits, places-wide, few-places, few_words, offset-more}
+use Rattle.table.specs.Accepted.{few-checks, has-weights, check-is, check-fits, places-from, few-places, few_words, offset-more}
 use Rattle.table.specs.ChecksLaws.{offset-none}
 use Rattle.alist_bits.proofs.Turning.{Turned, turned_none, turned_more, Listed, listed-none, listed_more, loaded}
 use Rattle.alist_bits.proofs.load.Goals as goal
@@ -30,7 +30,7 @@ load-requires c =
     let f = few-checks _ _ _ _ k in
     let l = s.invariant.3 in
     let r = c.requires.room.1 in
-    let p = places-wide _ _ _ _ k s.j c.loop-j-test.true s.at _ s.invariant.1 c.wide-weight.ensures 1024 (few-places _ _ _ _ k) in
+    let p = places-from _ _ _ _ k s.j c.loop-j-test.true s.at _ s.invariant.1 c.from-weight.ensures 1024 (few-places _ _ _ _ k) in
     (omega arith, p.room, p.below)
 
 pub turn_check-requires : goal.turn_check-requires
@@ -38,7 +38,7 @@ turn_check-requires c =
     let s = c.loop-j in
     let k = c.requires.table in
     let f = few-checks _ _ _ _ k in
-    let p = places-wide _ _ _ _ k s.j c.loop-j-test.true s.at _ s.invariant.1 c.wide-weight.ensures 1024 (few-places _ _ _ _ k) in
+    let p = places-from _ _ _ _ k s.j c.loop-j-test.true s.at _ s.invariant.1 c.from-weight.ensures 1024 (few-places _ _ _ _ k) in
     (s.invariant.2 ∙ c.requires.room.0, omega arith, p.room, p.below)
 
 pub overflow_add-at-in-loop-j : goal.overflow_add-at-in-loop-j
@@ -46,7 +46,7 @@ overflow_add-at-in-loop-j c =
     let k = c.requires.table in
     let s = c.loop-j in
     let f = few_words _ _ _ _ k in
-    let p = check-fits _ _ _ _ k s.j c.loop-j-test.true s.at _ s.invariant.1 c.wide-weight.ensures in
+    let p = check-fits _ _ _ _ k s.j c.loop-j-test.true s.at _ s.invariant.1 c.from-weight.ensures in
     omega arith
 
 pub loop-j-preserved : goal.loop-j-preserved
@@ -54,7 +54,7 @@ loop-j-preserved c =
     let a = c.args in
     let k = c.requires.table in
     let s = c.loop-j in
-    let w = c.wide-weight.ensures in
+    let w = c.from-weight.ensures in
     let f = few-checks _ _ _ _ k in
     let e = check-is _ _ _ _ k s.j c.loop-j-test.true s.at _ s.invariant.1 w in
     let x = c.load.ensures in

@@ -11,7 +11,7 @@ loop-i-init c = (omega arith, flipped-none _ _)
 
 pub flip-requires : goal.flip-requires
 flip-requires c =
-    let v = c.wide.ensures in
+    let v = c.from.ensures in
     let h = c.requires.3 c.loop-i.i (omega arith) in
     let l = c.loop-i.invariant.1.len in
     (omega arith, omega arith)
@@ -20,7 +20,7 @@ pub loop-i-preserved : goal.loop-i-preserved
 loop-i-preserved c =
     let a = c.args in
     let s = c.loop-i in
-    (omega arith, flipped-more a.t.now a.at s.i _ (omega arith) c.wide.ensures s.invariant.1 c.flip.ensures)
+    (omega arith, flipped-more a.t.now a.at s.i _ (omega arith) c.from.ensures s.invariant.1 c.flip.ensures)
 
 pub shape_of-columns : goal.shape_of-columns
 shape_of-columns c = c.loop-i.invariant.1.len

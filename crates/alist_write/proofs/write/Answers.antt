@@ -16,13 +16,13 @@ bounds-t-3 c = let h = has-weights c.args.t.now c.requires in omega arith
 
 pub load-requires : goal.load-requires
 load-requires c =
-    record { table = record { accepted = c.requires; number_is = c.wide-m.ensures; places-are = refl; size_is = refl }; room = (length-replicate {A = ℕ} 16384 0, length-replicate {A = ℕ} 8192 0); zeros = get_d-zeros 16384 }
+    record { table = record { accepted = c.requires; number_is = c.from-m.ensures; places-are = refl; size_is = refl }; room = (length-replicate {A = ℕ} 16384 0, length-replicate {A = ℕ} 8192 0); zeros = get_d-zeros 16384 }
 
 pub write_bits-requires : goal.write_bits-requires
 write_bits-requires c =
     let l = limits c.args.t.now c.requires in
-    let n = c.wide-n.ensures in
-    let m = c.wide-m.ensures in
+    let n = c.from-n.ensures in
+    let m = c.from-m.ensures in
     let x = c.load.auto.columns ∙ length-replicate {A = ℕ} 16384 0 in
     let y = c.load.auto.rows ∙ length-replicate {A = ℕ} 8192 0 in
     (omega arith, omega arith, omega arith, omega arith)
@@ -31,6 +31,6 @@ pub returns : goal.returns
 returns c =
     let a = c.args in
     let p = c.write_bits.ensures in
-    let e = table-text _ c.load.ensures c.wide-n.ensures in
+    let e = table-text _ c.load.ensures c.from-n.ensures in
     let q = answer-room a.t.now a.text.now c.requires e p in
     record { answer = q.0; text = q.1 }

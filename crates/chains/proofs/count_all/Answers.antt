@@ -25,11 +25,11 @@ pub bounds-t-j : goal.bounds-t-j
 bounds-t-j c = omega (arith, has-weights c.args.t.now _ _ _ c.requires.0, c.requires.1.room)
 
 pub lost_in-requires : goal.lost_in-requires
-lost_in-requires c = places-at c.args.t.now _ _ _ c.requires.0 c.loop-j.j c.loop-j-test.true _ _ (c.wide.ensures ∙ c.requires.1.each _ c.loop-j-test.true) c.wide-in-loop-j.ensures _ c.requires.2
+lost_in-requires c = places-at c.args.t.now _ _ _ c.requires.0 c.loop-j.j c.loop-j-test.true _ _ (c.from.ensures ∙ c.requires.1.each _ c.loop-j-test.true) c.from-in-loop-j.ensures _ c.requires.2
 
 pub overflow_cast-count : goal.overflow_cast-count
 overflow_cast-count c =
-    let h = counted-small c.args.t.now _ _ _ c.requires.0 c.loop-j.j c.loop-j-test.true _ _ (c.wide.ensures ∙ c.requires.1.each _ c.loop-j-test.true) c.wide-in-loop-j.ensures c.args.map.now in
+    let h = counted-small c.args.t.now _ _ _ c.requires.0 c.loop-j.j c.loop-j-test.true _ _ (c.from.ensures ∙ c.requires.1.each _ c.loop-j-test.true) c.from-in-loop-j.ensures c.args.map.now in
     omega (arith, h, c.lost_in.ensures)
 
 pub offset_bounds-count-j : goal.offset_bounds-count-j
@@ -45,7 +45,7 @@ loop-j-preserved c =
     let a = c.args in (
       omega arith,
       simp length-set s.invariant.1,
-      counted-turn a.t.now _ _ _ p.0 c.loop-j.j c.loop-j-test.true _ _ (c.wide.ensures ∙ c.requires.1.each _ c.loop-j-test.true) c.wide-in-loop-j.ensures a.map.now s.count _ (omega (arith, s.invariant.1, p.3)) c.lost_in.ensures s.invariant.2,
+      counted-turn a.t.now _ _ _ p.0 c.loop-j.j c.loop-j-test.true _ _ (c.from.ensures ∙ c.requires.1.each _ c.loop-j-test.true) c.from-in-loop-j.ensures a.map.now s.count _ (omega (arith, s.invariant.1, p.3)) c.lost_in.ensures s.invariant.2,
     )
 
 pub shape_of-count : goal.shape_of-count

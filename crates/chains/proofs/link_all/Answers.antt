@@ -2,7 +2,7 @@
 use Rattle.table.specs.Checks.{check}
 use Rattle.chains.specs.Linked.{holders}
 use Rattle.chains.proofs.Linking.{links-none, links-more, links-all}
-use Rattle.table.specs.Accepted.{has-weights, few-checks, places-wide, check-fits}
+use Rattle.table.specs.Accepted.{has-weights, few-checks, places-from, check-fits}
 use mathlib.Core.Path.{refl, ◌∙◌}
 use native.Mathlib.Omega.{arith}
 use Rattle.chains.proofs.link_all.Goals as goal
@@ -34,10 +34,10 @@ link_check-requires c =
     let p = c.requires in
     let s = c.loop-j in
     let h = c.loop-j-test.true in
-    let e = c.wide.ensures ∙ p.1.each s.j h in
-    let w = c.wide-in-loop-j.ensures in
+    let e = c.from.ensures ∙ p.1.each s.j h in
+    let w = c.from-in-loop-j.ensures in
     let f = check-fits a.t.now a.m a.n a.s p.0 s.j h _ _ e w in
-    (places-wide a.t.now a.m a.n a.s p.0 s.j h _ _ e w _ (omega (arith, s.invariant.1, p.2)), omega (arith, f, s.invariant.2, p.3), omega (arith, f, s.invariant.3, p.4), omega (arith, s.invariant.2, p.5))
+    (places-from a.t.now a.m a.n a.s p.0 s.j h _ _ e w _ (omega (arith, s.invariant.1, p.2)), omega (arith, f, s.invariant.2, p.3), omega (arith, f, s.invariant.3, p.4), omega (arith, s.invariant.2, p.5))
 
 pub loop-j-preserved : goal.loop-j-preserved
 loop-j-preserved c =
@@ -45,8 +45,8 @@ loop-j-preserved c =
     let p = c.requires in
     let s = c.loop-j in
     let h = c.loop-j-test.true in
-    let e = c.wide.ensures ∙ p.1.each s.j h in
-    let w = c.wide-in-loop-j.ensures in
+    let e = c.from.ensures ∙ p.1.each s.j h in
+    let w = c.from-in-loop-j.ensures in
     let d = c.link_check.ensures in (
       omega arith,
       d.0 ∙ s.invariant.1,

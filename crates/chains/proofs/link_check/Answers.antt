@@ -23,14 +23,14 @@ offset_bounds-head-p c =
     let a = c.args in
     let s = c.loop-i in
     let h = place-below a.t.now a.at a.weight (length a.head.now) s.i c.requires.0 s.invariant.0 c.loop-i-test.true in
-    omega (arith, h, c.wide-p.ensures, s.invariant.2)
+    omega (arith, h, c.from-p.ensures, s.invariant.2)
 
 pub bounds-head-p : goal.bounds-head-p
 bounds-head-p c =
     let a = c.args in
     let s = c.loop-i in
     let h = place-below a.t.now a.at a.weight (length a.head.now) s.i c.requires.0 s.invariant.0 c.loop-i-test.true in
-    omega (arith, h, c.wide-p.ensures, s.invariant.2)
+    omega (arith, h, c.from-p.ensures, s.invariant.2)
 
 pub offset_bounds-next-i : goal.offset_bounds-next-i
 offset_bounds-next-i c = omega (arith, c.loop-i.invariant.2, c.loop-i.invariant.3, c.loop-i.invariant.4, c.requires.1, c.requires.2, c.requires.3)
@@ -55,14 +55,14 @@ offset_bounds-head-p-in-loop-i c =
     let a = c.args in
     let s = c.loop-i in
     let h = place-below a.t.now a.at a.weight (length a.head.now) s.i c.requires.0 s.invariant.0 c.loop-i-test.true in
-    omega (arith, h, c.wide-p.ensures, s.invariant.2)
+    omega (arith, h, c.from-p.ensures, s.invariant.2)
 
 pub bounds-head-p-in-loop-i : goal.bounds-head-p-in-loop-i
 bounds-head-p-in-loop-i c =
     let a = c.args in
     let s = c.loop-i in
     let h = place-below a.t.now a.at a.weight (length a.head.now) s.i c.requires.0 s.invariant.0 c.loop-i-test.true in
-    omega (arith, h, c.wide-p.ensures, s.invariant.2)
+    omega (arith, h, c.from-p.ensures, s.invariant.2)
 
 pub overflow_add-i : goal.overflow_add-i
 overflow_add-i c = omega (arith, c.loop-i.invariant.2, c.loop-i.invariant.3, c.loop-i.invariant.4, c.requires.1, c.requires.2, c.requires.3)
@@ -72,7 +72,7 @@ loop-i-preserved c =
     let a = c.args in
     let s = c.loop-i in
     let h = place-below a.t.now a.at a.weight (length a.head.now) s.i c.requires.0 s.invariant.0 c.loop-i-test.true in
-    let p = c.wide-p.ensures in (
+    let p = c.from-p.ensures in (
       omega arith,
       omega arith,
       simp length-set s.invariant.2,

@@ -17,19 +17,19 @@ pub bounds-owner-i : goal.bounds-owner-i
 bounds-owner-i c = let h = walk-in-owner _ _ _ _ _ _ _ _ c.loop-i.invariant c.loop-i-test.true in omega (arith, h)
 
 pub offset_bounds-count-j : goal.offset_bounds-count-j
-offset_bounds-count-j c = let h = walk-check _ _ _ _ _ _ _ _ c.loop-i.invariant c.loop-i-test.true _ c.wide-j.ensures in omega (arith, h)
+offset_bounds-count-j c = let h = walk-check _ _ _ _ _ _ _ _ c.loop-i.invariant c.loop-i-test.true _ c.from-j.ensures in omega (arith, h)
 
 pub bounds-count-j : goal.bounds-count-j
-bounds-count-j c = walk-check _ _ _ _ _ _ _ _ c.loop-i.invariant c.loop-i-test.true _ c.wide-j.ensures
+bounds-count-j c = walk-check _ _ _ _ _ _ _ _ c.loop-i.invariant c.loop-i-test.true _ c.from-j.ensures
 
 pub overflow_sub-left : goal.overflow_sub-left
-overflow_sub-left c = walk-some _ _ _ _ _ _ _ _ c.loop-i.invariant c.loop-i-test.true _ c.wide-j.ensures
+overflow_sub-left c = walk-some _ _ _ _ _ _ _ _ c.loop-i.invariant c.loop-i-test.true _ c.from-j.ensures
 
 pub offset_bounds-count-j-in-loop-i : goal.offset_bounds-count-j-in-loop-i
-offset_bounds-count-j-in-loop-i c = let h = walk-check _ _ _ _ _ _ _ _ c.loop-i.invariant c.loop-i-test.true _ c.wide-j.ensures in omega (arith, h)
+offset_bounds-count-j-in-loop-i c = let h = walk-check _ _ _ _ _ _ _ _ c.loop-i.invariant c.loop-i-test.true _ c.from-j.ensures in omega (arith, h)
 
 pub bounds-count-j-in-loop-i : goal.bounds-count-j-in-loop-i
-bounds-count-j-in-loop-i c = walk-check _ _ _ _ _ _ _ _ c.loop-i.invariant c.loop-i-test.true _ c.wide-j.ensures
+bounds-count-j-in-loop-i c = walk-check _ _ _ _ _ _ _ _ c.loop-i.invariant c.loop-i-test.true _ c.from-j.ensures
 
 pub offset_bounds-next-i : goal.offset_bounds-next-i
 offset_bounds-next-i c = let h = walk-in _ _ _ _ _ _ _ _ c.loop-i.invariant c.loop-i-test.true in omega (arith, h)
@@ -38,19 +38,19 @@ pub bounds-next-i : goal.bounds-next-i
 bounds-next-i c = let h = walk-in _ _ _ _ _ _ _ _ c.loop-i.invariant c.loop-i-test.true in omega (arith, h)
 
 pub loop-i-smaller : goal.loop-i-smaller
-loop-i-smaller c = let h = walk-falls _ _ _ _ _ _ _ _ c.loop-i.invariant c.loop-i-test.true in omega (arith, h, c.wide-i.ensures)
+loop-i-smaller c = let h = walk-falls _ _ _ _ _ _ _ _ c.loop-i.invariant c.loop-i-test.true in omega (arith, h, c.from-i.ensures)
 
 pub loop-i-preserved : goal.loop-i-preserved
 loop-i-preserved c =
     let s = c.loop-i in
-    let j = c.wide-j.result in
+    let j = c.from-j.result in
     let l : (get_or s.count j 0 - 1 ≡ 1 → c.if-left-eq1.low ≤ j) × (c.if-left-eq1.low ≤ s.low) =
     elim c.if-left-eq1.branch [
       | then-left-eq1+then-j-low u ↦ ((λ e. omega (arith, u.low-is)), omega (arith, u.low-is, u.if-j-low.true))
       | then-left-eq1+else-j-low u ↦ ((λ e. omega (arith, u.low-is, u.if-j-low.false)), omega (arith, u.low-is))
       | else-left-eq1 u ↦ ((λ e. absurd (u.if-left-eq1.false e)), omega (arith, u.low-is))
     ] in
-    walk_turn _ _ _ _ _ _ _ _ s.invariant c.loop-i-test.true _ c.wide-j.ensures _ _ _ refl l.0 l.1 c.wide-i.ensures
+    walk_turn _ _ _ _ _ _ _ _ s.invariant c.loop-i-test.true _ c.from-j.ensures _ _ _ refl l.0 l.1 c.from-i.ensures
 
 pub shape_of-count : goal.shape_of-count
 shape_of-count c = c.loop-i.invariant.len

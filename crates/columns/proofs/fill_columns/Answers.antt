@@ -1,5 +1,5 @@
 -- `columns::fill_columns` meets its contract: the columns are those of the first i set-aside checks.
-use Rattle.table.specs.Accepted.{has-weights, each-places, places-wide}
+use Rattle.table.specs.Accepted.{has-weights, each-places, places-from}
 use Rattle.table.specs.Checks.{offset}
 use Rattle.masks.specs.DotLaws.{unit-word}
 use Rattle.columns.proofs.Pushing.{fill-turn}
@@ -131,12 +131,12 @@ spread-requires c =
     let wts = has-weights _ _ _ _ v.located.table in
     let sr = v.located.starts-at.room in
     let a = c.args in
-    let j = c.wide-j.result in
-    let jl : j < a.m = omega (arith, c.wide-j.ensures) in
-    let e1 : c.wide.result ≡ 5 + a.m + offset a.t.now j = c.wide.ensures ∙ v.located.starts-at.each j jl in
-    let e2 : c.wide-in-loop-i.result ≡ get_or a.t.now (4 + j) 0 = c.wide-in-loop-i.ensures in
-    let wide = c.requires.room in
-    places-wide _ _ _ _ v.located.table j jl _ _ e1 e2 (length s.col) (omega (arith, s.invariant.1))
+    let j = c.from-j.result in
+    let jl : j < a.m = omega (arith, c.from-j.ensures) in
+    let e1 : c.from.result ≡ 5 + a.m + offset a.t.now j = c.from.ensures ∙ v.located.starts-at.each j jl in
+    let e2 : c.from-in-loop-i.result ≡ get_or a.t.now (4 + j) 0 = c.from-in-loop-i.ensures in
+    let from = c.requires.room in
+    places-from _ _ _ _ v.located.table j jl _ _ e1 e2 (length s.col) (omega (arith, s.invariant.1))
 
 pub loop-i-preserved : goal.loop-i-preserved
 loop-i-preserved c =
@@ -149,11 +149,11 @@ loop-i-preserved c =
     let wts = has-weights _ _ _ _ v.located.table in
     let sr = v.located.starts-at.room in
     let a = c.args in
-    let j = c.wide-j.result in
-    let jl : j < a.m = omega (arith, c.wide-j.ensures) in
-    let e1 : c.wide.result ≡ 5 + a.m + offset a.t.now j = c.wide.ensures ∙ v.located.starts-at.each j jl in
-    let e2 : c.wide-in-loop-i.result ≡ get_or a.t.now (4 + j) 0 = c.wide-in-loop-i.ensures in
-    (omega arith, c.col-1.given ∙ s.invariant.1, fill-turn _ _ _ j _ _ s.i _ _ (each-places _ _ _ _ v.located.table j jl) (omega arith) c.wide-j.ensures e1 e2 (unit-word s.i (omega arith)) s.invariant.2 c.spread.ensures)
+    let j = c.from-j.result in
+    let jl : j < a.m = omega (arith, c.from-j.ensures) in
+    let e1 : c.from.result ≡ 5 + a.m + offset a.t.now j = c.from.ensures ∙ v.located.starts-at.each j jl in
+    let e2 : c.from-in-loop-i.result ≡ get_or a.t.now (4 + j) 0 = c.from-in-loop-i.ensures in
+    (omega arith, c.col-1.given ∙ s.invariant.1, fill-turn _ _ _ j _ _ s.i _ _ (each-places _ _ _ _ v.located.table j jl) (omega arith) c.from-j.ensures e1 e2 (unit-word s.i (omega arith)) s.invariant.2 c.spread.ensures)
 
 pub shape_of-col : goal.shape_of-col
 shape_of-col c = c.loop-i.invariant.1

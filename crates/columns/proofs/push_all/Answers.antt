@@ -1,5 +1,5 @@
 -- `columns::push_all` meets its contract: k solved checks are put in.
-use Rattle.table.specs.Accepted.{has-weights, each-places, places-wide}
+use Rattle.table.specs.Accepted.{has-weights, each-places, places-from}
 use Rattle.table.specs.Checks.{offset}
 use Rattle.columns.proofs.Pushing.{start, turn}
 use Prim.Native.Nat.{◌+◌, ◌<◌}
@@ -160,12 +160,12 @@ push-requires c =
     let om = v.own s.k less in
     let ln = s.invariant.1 in
     let a = c.args in
-    let j = c.wide-j.result in
-    let jl : j < a.m = omega (arith, c.wide-j.ensures) in
-    let e1 : c.wide.result ≡ 5 + a.m + offset a.t.now j = c.wide.ensures ∙ v.located.starts-at.each j jl in
-    let e2 : c.wide-in-loop-k.result ≡ get_or a.t.now (4 + j) 0 = c.wide-in-loop-k.ensures in
-    let wide = c.requires.room in
-    (places-wide _ _ _ _ v.located.table j jl _ _ e1 e2 (length s.col) (omega arith), omega arith)
+    let j = c.from-j.result in
+    let jl : j < a.m = omega (arith, c.from-j.ensures) in
+    let e1 : c.from.result ≡ 5 + a.m + offset a.t.now j = c.from.ensures ∙ v.located.starts-at.each j jl in
+    let e2 : c.from-in-loop-k.result ≡ get_or a.t.now (4 + j) 0 = c.from-in-loop-k.ensures in
+    let from = c.requires.room in
+    (places-from _ _ _ _ v.located.table j jl _ _ e1 e2 (length s.col) (omega arith), omega arith)
 
 pub loop-k-preserved : goal.loop-k-preserved
 loop-k-preserved c =
@@ -181,11 +181,11 @@ loop-k-preserved c =
     let om = v.own s.k less in
     let ln = s.invariant.1 in
     let a = c.args in
-    let j = c.wide-j.result in
-    let jl : j < a.m = omega (arith, c.wide-j.ensures) in
-    let e1 : c.wide.result ≡ 5 + a.m + offset a.t.now j = c.wide.ensures ∙ v.located.starts-at.each j jl in
-    let e2 : c.wide-in-loop-k.result ≡ get_or a.t.now (4 + j) 0 = c.wide-in-loop-k.ensures in
-    (omega arith, c.col-1.given ∙ ln, λ E h. turn _ _ _ j _ _ _ _ _ E s.k (each-places _ _ _ _ v.located.table j jl) c.wide-j.ensures c.wide-in-loop-k-2.ensures e1 e2 (s.invariant.2 E h) c.push.ensures)
+    let j = c.from-j.result in
+    let jl : j < a.m = omega (arith, c.from-j.ensures) in
+    let e1 : c.from.result ≡ 5 + a.m + offset a.t.now j = c.from.ensures ∙ v.located.starts-at.each j jl in
+    let e2 : c.from-in-loop-k.result ≡ get_or a.t.now (4 + j) 0 = c.from-in-loop-k.ensures in
+    (omega arith, c.col-1.given ∙ ln, λ E h. turn _ _ _ j _ _ _ _ _ E s.k (each-places _ _ _ _ v.located.table j jl) c.from-j.ensures c.from-in-loop-k-2.ensures e1 e2 (s.invariant.2 E h) c.push.ensures)
 
 pub shape_of-col : goal.shape_of-col
 shape_of-col c = c.loop-k.invariant.1

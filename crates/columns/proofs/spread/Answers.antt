@@ -10,19 +10,19 @@ pub loop-i-init : goal.loop-i-init
 loop-i-init c = (omega arith, upd-none _ _)
 
 pub offset_bounds-col-p : goal.offset_bounds-col-p
-offset_bounds-col-p c = let r : c.wide-p.result < length c.loop-i.col = (let l = c.loop-i.invariant.1.len in let p = place-low c.requires c.loop-i-test.true _ c.wide-p.ensures in omega arith) in omega arith
+offset_bounds-col-p c = let r : c.from-p.result < length c.loop-i.col = (let l = c.loop-i.invariant.1.len in let p = place-low c.requires c.loop-i-test.true _ c.from-p.ensures in omega arith) in omega arith
 
 pub bounds-col-p : goal.bounds-col-p
-bounds-col-p c = let r : c.wide-p.result < length c.loop-i.col = (let l = c.loop-i.invariant.1.len in let p = place-low c.requires c.loop-i-test.true _ c.wide-p.ensures in omega arith) in omega arith
+bounds-col-p c = let r : c.from-p.result < length c.loop-i.col = (let l = c.loop-i.invariant.1.len in let p = place-low c.requires c.loop-i-test.true _ c.from-p.ensures in omega arith) in omega arith
 
 pub offset_bounds-col-p-in-loop-i : goal.offset_bounds-col-p-in-loop-i
-offset_bounds-col-p-in-loop-i c = let r : c.wide-p.result < length c.loop-i.col = (let l = c.loop-i.invariant.1.len in let p = place-low c.requires c.loop-i-test.true _ c.wide-p.ensures in omega arith) in omega arith
+offset_bounds-col-p-in-loop-i c = let r : c.from-p.result < length c.loop-i.col = (let l = c.loop-i.invariant.1.len in let p = place-low c.requires c.loop-i-test.true _ c.from-p.ensures in omega arith) in omega arith
 
 pub bounds-col-p-in-loop-i : goal.bounds-col-p-in-loop-i
-bounds-col-p-in-loop-i c = let r : c.wide-p.result < length c.loop-i.col = (let l = c.loop-i.invariant.1.len in let p = place-low c.requires c.loop-i-test.true _ c.wide-p.ensures in omega arith) in omega arith
+bounds-col-p-in-loop-i c = let r : c.from-p.result < length c.loop-i.col = (let l = c.loop-i.invariant.1.len in let p = place-low c.requires c.loop-i-test.true _ c.from-p.ensures in omega arith) in omega arith
 
 pub loop-i-preserved : goal.loop-i-preserved
-loop-i-preserved c = (omega arith, upd-turn c.requires c.loop-i-test.true _ c.wide-p.ensures _ (omega arith) refl c.loop-i.invariant.1)
+loop-i-preserved c = (omega arith, upd-turn c.requires c.loop-i-test.true _ c.from-p.ensures _ (omega arith) refl c.loop-i.invariant.1)
 
 pub shape_of-col : goal.shape_of-col
 shape_of-col c = c.loop-i.invariant.1.len

@@ -34,17 +34,17 @@ fit_all-e-requires c =
     let p = c.requires.phases in
     let m = c.mark in
     let n = few-places _ _ _ _ p.located.table in
-    let e = c.wide.ensures in record { room = rw e (room-C p m.new.marks m.ensures c.args.plan.now c.args.at c.requires.room c.solve_all-a.ensures c.set_aside-b.ensures); places = omega arith; few = aside-width p.few; fitted = rw e (fitted-below p); rows = p.fits.room.1 }
+    let e = c.from.ensures in record { room = rw e (room-C p m.new.marks m.ensures c.args.plan.now c.args.at c.requires.room c.solve_all-a.ensures c.set_aside-b.ensures); places = omega arith; few = aside-width p.few; fitted = rw e (fitted-below p); rows = p.fits.room.1 }
 
 pub solve_whole-requires : goal.solve_whole-requires
 solve_whole-requires c =
     let p = c.requires.phases in
     let m = c.mark in
-    let f = wrote-is c.fit_all-e.ensures (ap (λ n. map pack (fitting_rows n c.args.g c.args.fitted.now c.args.rows.now 0 c.args.g)) c.wide.ensures) in record { room = room-D p m.new.marks m.ensures c.args.plan.now c.args.at c.requires.room c.solve_all-a.ensures c.set_aside-b.ensures f; table = p.located; checks = solved-checks p; own = own-places p }
+    let f = wrote-is c.fit_all-e.ensures (ap (λ n. map pack (fitting_rows n c.args.g c.args.fitted.now c.args.rows.now 0 c.args.g)) c.from.ensures) in record { room = room-D p m.new.marks m.ensures c.args.plan.now c.args.at c.requires.room c.solve_all-a.ensures c.set_aside-b.ensures f; table = p.located; checks = solved-checks p; own = own-places p }
 
 pub returns : goal.returns
 returns c =
     let p = c.requires.phases in
     let m = c.mark in
-    let f = wrote-is c.fit_all-e.ensures (ap (λ n. map pack (fitting_rows n c.args.g c.args.fitted.now c.args.rows.now 0 c.args.g)) c.wide.ensures) in
+    let f = wrote-is c.fit_all-e.ensures (ap (λ n. map pack (fitting_rows n c.args.g c.args.fitted.now c.args.rows.now 0 c.args.g)) c.from.ensures) in
     all-parts p m.new.marks m.ensures c.args.plan.now c.args.at c.requires.room c.solve_all-a.ensures c.set_aside-b.ensures f c.solve_whole.ensures

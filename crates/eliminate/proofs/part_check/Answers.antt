@@ -15,12 +15,12 @@ pub loop-i-init : goal.loop-i-init
 loop-i-init c = (omega arith, omega arith, put_is (put_self _ _) c.clear.ensures.here, front-none _)
 
 pub bounds-map-q : goal.bounds-map-q
-bounds-map-q c = let h = c.requires.1.below c.loop-i.i c.loop-i-test.true in let e = c.wide-q.ensures in omega arith
+bounds-map-q c = let h = c.requires.1.below c.loop-i.i c.loop-i-test.true in let e = c.from-q.ensures in omega arith
 
 pub flip-requires : goal.flip-requires
 flip-requires c =
     let h = c.requires.1.below c.loop-i.i c.loop-i-test.true in
-    let e = c.wide-q.ensures in
+    let e = c.from-q.ensures in
     let few = c.requires.2 in
     let l = c.loop-i.invariant.2.len in
     let r = c.clear.ensures.len in
@@ -38,7 +38,7 @@ pub loop-i-preserved : goal.loop-i-preserved
 loop-i-preserved c =
     let l = c.loop-i in
     let h = c.loop-i-test.true in
-    let q = c.wide-q in
+    let q = c.from-q in
     let inside : c.args.at + l.i < length c.args.t.now = let r = c.requires.1.room in omega arith in
     let room = c.requires.3 in
     elim c.if-map-q-eq1.branch [

@@ -46,7 +46,7 @@ take_check-r-requires c =
     let l = c.loop-i in
     let p = c.requires in
     let less = c.loop-i-test.true in
-    let wd = c.wide-weight.ensures in
+    let wd = c.from-weight.ensures in
     let v = places-at _ _ _ _ p.table l.i less _ _ l.invariant.4.here wd _ refl in
     let is = check-is _ _ _ _ p.table l.i less _ _ l.invariant.4.here wd in
     let f = l.invariant.4.few in
@@ -74,7 +74,7 @@ returns-then-r c =
     let l = c.loop-i in
     let r = c.take_check-r in
     let less = c.loop-i-test.true in
-    let wd = c.wide-weight.ensures in
+    let wd = c.from-weight.ensures in
     let is = check-is _ _ _ _ p.table l.i less _ _ l.invariant.4.here wd in
     let low = checks-low _ _ _ _ p.table in
     let count = check-count _ _ _ _ p.table in
@@ -119,7 +119,7 @@ pub overflow_add-at-in-loop-i : goal.overflow_add-at-in-loop-i
 overflow_add-at-in-loop-i c =
     let l = c.loop-i in
     let p = c.requires in
-    let r = check-fits _ _ _ _ p.table l.i c.loop-i-test.true _ _ l.invariant.4.here c.wide-weight.ensures in
+    let r = check-fits _ _ _ _ p.table l.i c.loop-i-test.true _ _ l.invariant.4.here c.from-weight.ensures in
     omega arith
 
 pub overflow_add-i-in-loop-i : goal.overflow_add-i-in-loop-i
@@ -134,7 +134,7 @@ loop-i-preserved c =
     let l = c.loop-i in
     let r = c.take_check-r in
     let less = c.loop-i-test.true in
-    let wd = c.wide-weight.ensures in
+    let wd = c.from-weight.ensures in
     let is = check-is _ _ _ _ p.table l.i less _ _ l.invariant.4.here wd in
     let low = checks-low _ _ _ _ p.table in
     let count = check-count _ _ _ _ p.table in

@@ -34,7 +34,7 @@ bounds-t-j c =
 pub sum_check-requires : goal.sum_check-requires
 sum_check-requires c =
     let a = c.args in
-    let r = check-read c.wide.result c.wide-2.result a.j c.requires.table c.requires.check c.wide.ensures c.wide-2.ensures in
+    let r = check-read c.from.result c.from-2.result a.j c.requires.table c.requires.check c.from.ensures c.from-2.ensures in
     record { room = rw r.0 c.requires.room; check = r.1; marks = c.requires.table.all; slot = c.requires.slot }
 
 pub shape_of-plan : goal.shape_of-plan
@@ -43,5 +43,5 @@ shape_of-plan c = c.plan-1.given
 pub returns : goal.returns
 returns c =
     let a = c.args in
-    let r = check-read c.wide.result c.wide-2.result a.j c.requires.table c.requires.check c.wide.ensures c.wide-2.ensures in
+    let r = check-read c.from.result c.from-2.result a.j c.requires.table c.requires.check c.from.ensures c.from-2.ensures in
     wrote-is c.sum_check.ensures (ap (λ x. map pack (clear_and_add a.to (minus x (a.to ∷ marked a.skip.now)))) r.0)

@@ -31,11 +31,11 @@ fit_place-k-requires c =
     let all = ap length (fits_all a.n a.g fs rs) in
     let room : a.at + length (fits a.n a.g fs rs 0) ≤ length a.plan.now = omega (arith, packed-length (fitting_rows a.n a.g fs rs 0 a.g), c.requires.room) in
     let rest = fits a.n a.g fs rs (s.j + 1) in
-    let steps = clear_and_add c.wide.result (slots_named a.n (mask_bits a.g (get_or rs s.j 0))) in
-    let next = fits_next a.n a.g fs rs s.j c.loop-j-test.true ∙ ap (λ to. map pack (clear_and_add to (slots_named a.n (mask_bits a.g (get_or rs s.j 0)))) ++ rest) (sym c.wide.ensures) in
+    let steps = clear_and_add c.from.result (slots_named a.n (mask_bits a.g (get_or rs s.j 0))) in
+    let next = fits_next a.n a.g fs rs s.j c.loop-j-test.true ∙ ap (λ to. map pack (clear_and_add to (slots_named a.n (mask_bits a.g (get_or rs s.j 0)))) ++ rest) (sym c.from.ensures) in
     let w = left_is (map pack steps ++ rest) s.invariant.1 next in
     let o = c.requires.fitted.each s.j (omega arith) in
-    let e = c.wide.ensures in
+    let e = c.from.ensures in
     record { room = left-steps room steps rest w; places = omega arith; few = omega arith; slot = omega arith }
 
 pub loop-j-preserved : goal.loop-j-preserved
@@ -47,8 +47,8 @@ loop-j-preserved c =
     let all = ap length (fits_all a.n a.g fs rs) in
     let room : a.at + length (fits a.n a.g fs rs 0) ≤ length a.plan.now = omega (arith, packed-length (fitting_rows a.n a.g fs rs 0 a.g), c.requires.room) in
     let rest = fits a.n a.g fs rs (s.j + 1) in
-    let steps = clear_and_add c.wide.result (slots_named a.n (mask_bits a.g (get_or rs s.j 0))) in
-    let next = fits_next a.n a.g fs rs s.j c.loop-j-test.true ∙ ap (λ to. map pack (clear_and_add to (slots_named a.n (mask_bits a.g (get_or rs s.j 0)))) ++ rest) (sym c.wide.ensures) in
+    let steps = clear_and_add c.from.result (slots_named a.n (mask_bits a.g (get_or rs s.j 0))) in
+    let next = fits_next a.n a.g fs rs s.j c.loop-j-test.true ∙ ap (λ to. map pack (clear_and_add to (slots_named a.n (mask_bits a.g (get_or rs s.j 0)))) ++ rest) (sym c.from.ensures) in
     let w = left_is (map pack steps ++ rest) s.invariant.1 next in
     (omega arith, left-more room (map pack steps) rest w c.fit_place-k.ensures)
 

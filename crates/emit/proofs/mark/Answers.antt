@@ -16,7 +16,7 @@ pub bounds-places-i : goal.bounds-places-i
 bounds-places-i c = let r = c.requires.room in omega arith
 
 pub bounds-marks-p : goal.bounds-marks-p
-bounds-marks-p c = let b = c.requires.each c.loop-i.i (omega arith) in let e = c.wide-p.ensures in omega arith
+bounds-marks-p c = let b = c.requires.each c.loop-i.i (omega arith) in let e = c.from-p.ensures in omega arith
 
 pub loop-i-preserved : goal.loop-i-preserved
 loop-i-preserved c =
@@ -24,8 +24,8 @@ loop-i-preserved c =
     let s = c.loop-i in
     let P = take a.count a.places.now in
     let long : length P ≡ a.count = length-take-le a.count a.places.now c.requires.room in
-    let q : c.wide-p.result ≡ get_or P s.i 0 = c.wide-p.ensures ∙ sym (get_or-take a.count a.places.now s.i 0 (omega arith)) in
-    (omega arith, simp length-set (omega arith), s.invariant.2 ∙ marking-next s.marks P s.i c.wide-p.result (omega arith) q)
+    let q : c.from-p.result ≡ get_or P s.i 0 = c.from-p.ensures ∙ sym (get_or-take a.count a.places.now s.i 0 (omega arith)) in
+    (omega arith, simp length-set (omega arith), s.invariant.2 ∙ marking-next s.marks P s.i c.from-p.result (omega arith) q)
 
 pub shape_of-marks : goal.shape_of-marks
 shape_of-marks c = c.loop-i.invariant.1

@@ -28,7 +28,7 @@ pub bounds-aside-i : goal.bounds-aside-i
 bounds-aside-i c = let r = c.requires.checks.room in omega arith
 
 pub overflow_add-n : goal.overflow_add-n
-overflow_add-n c = let n = few-places _ _ _ _ c.requires.table.located.table in let e = c.wide-n.ensures in omega arith
+overflow_add-n c = let n = few-places _ _ _ _ c.requires.table.located.table in let e = c.from-n.ensures in omega arith
 
 pub check_into-k-requires : goal.check_into-k-requires
 check_into-k-requires c =
@@ -40,14 +40,14 @@ check_into-k-requires c =
     let all = ap length (scratches-all sk t ids a.g) in
     let room : a.at + length (scratches sk t ids a.g 0) ≤ length a.plan.now = omega (arith, packed-length (scratch_steps (places t) (marked sk) (aside_in t ids a.g)), c.requires.room) in
     let rest = scratches sk t ids a.g (s.i + 1) in
-    let j = c.wide.result in
-    let to = c.wide-n.result + s.i in
-    let next = scratches-next sk t ids a.g s.i c.requires.table.located.table c.requires.checks.room c.loop-i-test.true (c.requires.checks.each s.i c.loop-i-test.true) ∙ ap₂ (λ x y. one sk t x (y + s.i) ++ rest) (sym c.wide.ensures) (sym c.wide-n.ensures) in
+    let j = c.from.result in
+    let to = c.from-n.result + s.i in
+    let next = scratches-next sk t ids a.g s.i c.requires.table.located.table c.requires.checks.room c.loop-i-test.true (c.requires.checks.each s.i c.loop-i-test.true) ∙ ap₂ (λ x y. one sk t x (y + s.i) ++ rest) (sym c.from.ensures) (sym c.from-n.ensures) in
     let w = left_is (one sk t j to ++ rest) s.invariant.1 next in
     let b = c.requires.checks.each s.i (omega arith) in
     let n = few-places _ _ _ _ c.requires.table.located.table in
-    let e = c.wide-n.ensures in
-    let f = c.wide.ensures in
+    let e = c.from-n.ensures in
+    let f = c.from.ensures in
     record { room = left-steps room (clear_and_add to (minus (check t (number t) j) (to ∷ marked sk))) rest w; table = c.requires.table; check = omega arith; slot = omega arith }
 
 pub loop-i-preserved : goal.loop-i-preserved
@@ -60,9 +60,9 @@ loop-i-preserved c =
     let all = ap length (scratches-all sk t ids a.g) in
     let room : a.at + length (scratches sk t ids a.g 0) ≤ length a.plan.now = omega (arith, packed-length (scratch_steps (places t) (marked sk) (aside_in t ids a.g)), c.requires.room) in
     let rest = scratches sk t ids a.g (s.i + 1) in
-    let j = c.wide.result in
-    let to = c.wide-n.result + s.i in
-    let next = scratches-next sk t ids a.g s.i c.requires.table.located.table c.requires.checks.room c.loop-i-test.true (c.requires.checks.each s.i c.loop-i-test.true) ∙ ap₂ (λ x y. one sk t x (y + s.i) ++ rest) (sym c.wide.ensures) (sym c.wide-n.ensures) in
+    let j = c.from.result in
+    let to = c.from-n.result + s.i in
+    let next = scratches-next sk t ids a.g s.i c.requires.table.located.table c.requires.checks.room c.loop-i-test.true (c.requires.checks.each s.i c.loop-i-test.true) ∙ ap₂ (λ x y. one sk t x (y + s.i) ++ rest) (sym c.from.ensures) (sym c.from-n.ensures) in
     let w = left_is (one sk t j to ++ rest) s.invariant.1 next in
     (omega arith, left-more room (one sk t j to) rest w c.check_into-k.ensures)
 

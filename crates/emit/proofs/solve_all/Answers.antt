@@ -38,15 +38,15 @@ check_into-k-requires c =
     let t = a.t.now in
     let room : a.at + length (solves sk t a.order.now a.owns.now a.taken) ≤ length a.plan.now = omega (arith, packed-length (solving_steps (marked sk) (rev (solved_in t a.order.now a.owns.now a.taken))), c.requires.room) in
     let rest = solves sk t a.order.now a.owns.now (s.i - 1) in
-    let j = c.wide.result in
-    let to = c.wide-in-loop-i.result in
-    let next = solves-next sk t a.order.now a.owns.now s.i c.loop-i-test.true ∙ ap₂ (λ x y. one sk t x y ++ rest) (sym c.wide.ensures) (sym c.wide-in-loop-i.ensures) in
+    let j = c.from.result in
+    let to = c.from-in-loop-i.result in
+    let next = solves-next sk t a.order.now a.owns.now s.i c.loop-i-test.true ∙ ap₂ (λ x y. one sk t x y ++ rest) (sym c.from.ensures) (sym c.from-in-loop-i.ensures) in
     let w = left_is (one sk t j to ++ rest) s.invariant.1 next in
     let b = c.requires.checks.each (s.i - 1) (omega arith) in
     let o = c.requires.own.each (s.i - 1) (omega arith) in
     let n = few-places _ _ _ _ c.requires.table.located.table in
-    let e = c.wide.ensures in
-    let f = c.wide-in-loop-i.ensures in
+    let e = c.from.ensures in
+    let f = c.from-in-loop-i.ensures in
     record { room = left-steps room (clear_and_add to (minus (check t (number t) j) (to ∷ marked sk))) rest w; table = c.requires.table; check = omega arith; slot = omega arith }
 
 pub loop-i-preserved : goal.loop-i-preserved
@@ -57,9 +57,9 @@ loop-i-preserved c =
     let t = a.t.now in
     let room : a.at + length (solves sk t a.order.now a.owns.now a.taken) ≤ length a.plan.now = omega (arith, packed-length (solving_steps (marked sk) (rev (solved_in t a.order.now a.owns.now a.taken))), c.requires.room) in
     let rest = solves sk t a.order.now a.owns.now (s.i - 1) in
-    let j = c.wide.result in
-    let to = c.wide-in-loop-i.result in
-    let next = solves-next sk t a.order.now a.owns.now s.i c.loop-i-test.true ∙ ap₂ (λ x y. one sk t x y ++ rest) (sym c.wide.ensures) (sym c.wide-in-loop-i.ensures) in
+    let j = c.from.result in
+    let to = c.from-in-loop-i.result in
+    let next = solves-next sk t a.order.now a.owns.now s.i c.loop-i-test.true ∙ ap₂ (λ x y. one sk t x y ++ rest) (sym c.from.ensures) (sym c.from-in-loop-i.ensures) in
     let w = left_is (one sk t j to ++ rest) s.invariant.1 next in
     (omega arith, left-more room (one sk t j to) rest w c.check_into-k.ensures)
 

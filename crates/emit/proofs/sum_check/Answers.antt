@@ -22,13 +22,13 @@ bounds-t-start c = let p = c.requires.check.room in omega arith
 pub bounds-skip-p : goal.bounds-skip-p
 bounds-skip-p c =
     let b = c.requires.check.below c.loop-i.i (omega arith) in
-    let e = c.wide-p.ensures in
+    let e = c.from-p.ensures in
     omega arith
 
 pub pack-requires-then-skip-p-ne1 : goal.pack-requires-then-skip-p-ne1
 pack-requires-then-skip-p-ne1 c =
     let b = c.requires.check.below c.loop-i.i (omega arith) in
-    let e = c.wide-p.ensures in
+    let e = c.from-p.ensures in
     omega arith
 
 pub loop-i-preserved : goal.loop-i-preserved
@@ -38,10 +38,10 @@ loop-i-preserved c =
     let C = take a.weight (drop a.start a.t.now) in
     let room : a.at + 1 + length (adds a.to a.skip.now C) ≤ length (set a.plan.now a.at c.pack.result) = simp length-set (omega (arith, adds-length a.to a.skip.now C)) in
     let h : s.i < length C = rw (part_length a.t.now a.start a.weight c.requires.check.room) (omega arith) in
-    let q : c.wide-p.result ≡ get_or C s.i 0 = c.wide-p.ensures ∙ part_at a.t.now a.start a.weight s.i (omega arith) in
+    let q : c.from-p.result ≡ get_or C s.i 0 = c.from-p.ensures ∙ part_at a.t.now a.start a.weight s.i (omega arith) in
     let to = a.to in
     let sk = a.skip.now in
-    let p = c.wide-p.result in
+    let p = c.from-p.result in
     let rest = adds to sk (drop (s.i + 1) C) in
     let l = s.invariant.1 in (
       omega arith,
@@ -59,8 +59,8 @@ bounds-plan-k c =
     let C = take a.weight (drop a.start a.t.now) in
     let room : a.at + 1 + length (adds a.to a.skip.now C) ≤ length (set a.plan.now a.at c.pack.result) = simp length-set (omega (arith, adds-length a.to a.skip.now C)) in
     let h : s.i < length C = rw (part_length a.t.now a.start a.weight c.requires.check.room) (omega arith) in
-    let q : c.wide-p.result ≡ get_or C s.i 0 = c.wide-p.ensures ∙ part_at a.t.now a.start a.weight s.i (omega arith) in
-    let next = adds-next a.to a.skip.now C s.i c.wide-p.result h q c.if-p-to.true c.if-skip-p-ne1.true in
+    let q : c.from-p.result ≡ get_or C s.i 0 = c.from-p.ensures ∙ part_at a.t.now a.start a.weight s.i (omega arith) in
+    let next = adds-next a.to a.skip.now C s.i c.from-p.result h q c.if-p-to.true c.if-skip-p-ne1.true in
     let r = left-room room (left_is _ s.invariant.1 next) in
     let l = left-length room s.invariant.1 in
     omega arith
@@ -72,8 +72,8 @@ offset_bounds-plan-k c =
     let C = take a.weight (drop a.start a.t.now) in
     let room : a.at + 1 + length (adds a.to a.skip.now C) ≤ length (set a.plan.now a.at c.pack.result) = simp length-set (omega (arith, adds-length a.to a.skip.now C)) in
     let h : s.i < length C = rw (part_length a.t.now a.start a.weight c.requires.check.room) (omega arith) in
-    let q : c.wide-p.result ≡ get_or C s.i 0 = c.wide-p.ensures ∙ part_at a.t.now a.start a.weight s.i (omega arith) in
-    let next = adds-next a.to a.skip.now C s.i c.wide-p.result h q c.if-p-to.true c.if-skip-p-ne1.true in
+    let q : c.from-p.result ≡ get_or C s.i 0 = c.from-p.ensures ∙ part_at a.t.now a.start a.weight s.i (omega arith) in
+    let next = adds-next a.to a.skip.now C s.i c.from-p.result h q c.if-p-to.true c.if-skip-p-ne1.true in
     let r = left-room room (left_is _ s.invariant.1 next) in
     let l : length s.plan ≡ length a.plan.now = left-length room s.invariant.1 ∙ simp length-set in
     omega arith
@@ -85,8 +85,8 @@ overflow_add-k-then-skip-p-ne1 c =
     let C = take a.weight (drop a.start a.t.now) in
     let room : a.at + 1 + length (adds a.to a.skip.now C) ≤ length (set a.plan.now a.at c.pack.result) = simp length-set (omega (arith, adds-length a.to a.skip.now C)) in
     let h : s.i < length C = rw (part_length a.t.now a.start a.weight c.requires.check.room) (omega arith) in
-    let q : c.wide-p.result ≡ get_or C s.i 0 = c.wide-p.ensures ∙ part_at a.t.now a.start a.weight s.i (omega arith) in
-    let next = adds-next a.to a.skip.now C s.i c.wide-p.result h q c.if-p-to.true c.if-skip-p-ne1.true in
+    let q : c.from-p.result ≡ get_or C s.i 0 = c.from-p.ensures ∙ part_at a.t.now a.start a.weight s.i (omega arith) in
+    let next = adds-next a.to a.skip.now C s.i c.from-p.result h q c.if-p-to.true c.if-skip-p-ne1.true in
     let r = left-room room (left_is _ s.invariant.1 next) in
     let l : length s.plan ≡ length a.plan.now = left-length room s.invariant.1 ∙ simp length-set in
     omega arith

@@ -21,19 +21,19 @@ bounds-t-at c = let r = c.requires.places.room in omega arith
 pub offset_bounds-count-p : goal.offset_bounds-count-p
 offset_bounds-count-p c =
     let b = c.requires.places.below c.loop-i.i (omega arith) in
-    let w = c.wide-p.ensures in
+    let w = c.from-p.ensures in
     omega arith
 
 pub bounds-count-p : goal.bounds-count-p
 bounds-count-p c =
     let b = c.requires.places.below c.loop-i.i (omega arith) in
-    let w = c.wide-p.ensures in
+    let w = c.from-p.ensures in
     omega arith
 
 pub loop-i-preserved : goal.loop-i-preserved
 loop-i-preserved c =
     let s = c.loop-i in
-    let w = c.wide-p.ensures in
+    let w = c.from-p.ensures in
     let p = c.requires.places in
     let h = c.loop-i-test.true in
     let n = s.invariant.2 in

@@ -31,12 +31,12 @@ pub freed_in-k-requires : goal.freed_in-k-requires
 freed_in-k-requires c =
     let l = c.requires.located in
     let h = c.loop-i-test.true in
-    record { places = places-at _ _ _ _ l.table _ h _ _ (c.wide.ensures ∙ l.starts-at.each _ h) c.wide-then-live-i-eq1.ensures _ refl }
+    record { places = places-at _ _ _ _ l.table _ h _ _ (c.from.ensures ∙ l.starts-at.each _ h) c.from-then-live-i-eq1.ensures _ refl }
 
 pub overflow_add-w : goal.overflow_add-w
 overflow_add-w c =
     let w = light _ _ _ _ c.requires.located.table _ c.loop-i-test.true in
-    omega (arith, c.freed_in-k.ensures.most, c.wide-then-live-i-eq1.ensures)
+    omega (arith, c.freed_in-k.ensures.most, c.from-then-live-i-eq1.ensures)
 
 pub loop-i-preserved : goal.loop-i-preserved
 loop-i-preserved c =
@@ -44,9 +44,9 @@ loop-i-preserved c =
     let l = c.requires.located in
     let h = c.loop-i-test.true in
     elim c.if-live-i-eq1.branch [
-      | then-live-i-eq1+then-w-k u ↦ (let k = u.freed_in-k.ensures.freed ∙ freed-check _ _ _ _ l h u.wide.ensures u.wide-then-live-i-eq1.ensures in
+      | then-live-i-eq1+then-w-k u ↦ (let k = u.freed_in-k.ensures.freed ∙ freed-check _ _ _ _ l h u.from.ensures u.from-then-live-i-eq1.ensures in
           (omega arith, s.invariant.1 ∙ ap (most_from _ _ _) (lives-hit _ s.i _ h u.if-live-i-eq1.true) ∙ rw (u.best-is, u.w-is, k) (most-up _ _ s.w s.i _ (omega (arith, u.if-w-k.true, k)))))
-      | then-live-i-eq1+else-w-k u ↦ (let k = u.freed_in-k.ensures.freed ∙ freed-check _ _ _ _ l h u.wide.ensures u.wide-then-live-i-eq1.ensures in
+      | then-live-i-eq1+else-w-k u ↦ (let k = u.freed_in-k.ensures.freed ∙ freed-check _ _ _ _ l h u.from.ensures u.from-then-live-i-eq1.ensures in
           (omega arith, s.invariant.1 ∙ ap (most_from _ _ _) (lives-hit _ s.i _ h u.if-live-i-eq1.true) ∙ rw (u.best-is, u.w-is) (most-keep _ _ s.w s.i _ (omega (arith, u.if-w-k.false, k)))))
       | else-live-i-eq1 u ↦ (omega arith, s.invariant.1 ∙ ap (most_from _ _ _) (lives-miss _ s.i _ h u.if-live-i-eq1.false) ∙ rw (u.best-is, u.w-is))
     ]

@@ -32,7 +32,7 @@ eliminate-l-requires c =
     let s = c.loop-i in
     let p = c.requires in
     let less = c.loop-i-test.true in
-    let v = places-at _ _ _ _ p.table s.i less _ _ s.invariant.4.here c.wide-weight.ensures _ refl in
+    let v = places-at _ _ _ _ p.table s.i less _ _ s.invariant.4.here c.from-weight.ensures _ refl in
     let f = s.invariant.4.rows.few in
     let nar = few-places _ _ _ _ p.table in
     let room = p.room in
@@ -73,7 +73,7 @@ overflow_add-at-in-loop-i c =
     let s = c.loop-i in
     let less = c.loop-i-test.true in
     let p = c.requires in
-    let r = check-fits _ _ _ _ p.table s.i less _ _ s.invariant.4.here c.wide-weight.ensures in
+    let r = check-fits _ _ _ _ p.table s.i less _ _ s.invariant.4.here c.from-weight.ensures in
     omega arith
 
 pub overflow_add-i-in-loop-i : goal.overflow_add-i-in-loop-i
@@ -86,7 +86,7 @@ pub loop-i-preserved : goal.loop-i-preserved
 loop-i-preserved c =
     let s = c.loop-i in
     let p = c.requires in
-    let wd = c.wide-weight.ensures in
+    let wd = c.from-weight.ensures in
     let d = told _ _ _ s.invariant.4.here wd c.eliminate-l.ensures in
     let long = d.put.len ∙ s.invariant.1 in
     let less = c.loop-i-test.true in

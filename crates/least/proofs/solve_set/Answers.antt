@@ -24,7 +24,7 @@ pub meets_set-requires : goal.meets_set-requires
 meets_set-requires c =
     let p = c.requires in
     let r = p.rows.0 c.loop-q.q in
-    let e = c.wide-o.ensures in
+    let e = c.from-o.ensures in
     let z = pos_of_ne-zero c.if-o-ne0.true in
     let l = c.loop-q.invariant.1 in
     let room = p.room.1 in
@@ -42,10 +42,10 @@ loop-q-preserved c =
     let s = c.loop-q in
     let p = c.requires in
     let l = s.invariant.1 in
-    let e = c.wide-o.ensures in
+    let e = c.from-o.ensures in
     let F = leads a.w.now a.owner.now in
-    let at = lead-row a.w.now a.owner.now p.rows.1 s.q c.wide-o.result e in
-    let nz = lead-nonzero a.w.now a.owner.now p.rows.1 s.q c.wide-o.result e in
+    let at = lead-row a.w.now a.owner.now p.rows.1 s.q c.from-o.result e in
+    let nz = lead-nonzero a.w.now a.owner.now p.rows.1 s.q c.from-o.result e in
     let room : s.q < length s.set = let r = p.room.1 in omega arith in
     elim c.if-o-ne0.branch [
       | then-o-ne0+then-meets_set u ↦ (
@@ -60,7 +60,7 @@ loop-q-preserved c =
         rw u.set-is (written-lead F (in_set a.set.now) s.q s.set 0 room (nz u.if-o-ne0.true) s.invariant.2
             (sym u.if-meets_set.false ∙ u.meets_set.ensures ∙ ap (meets (in_set s.set) s.q) (sym (at u.if-o-ne0.true)))),
       )
-      | else-o-ne0 u ↦ (omega arith, ap length u.set-is ∙ l, rw u.set-is (λ j. s.invariant.2 j ∙ sym (next-free F (in_set a.set.now) s.q (free-zero a.w.now a.owner.now p.rows.1 s.q c.wide-o.result e u.if-o-ne0.false) j)))
+      | else-o-ne0 u ↦ (omega arith, ap length u.set-is ∙ l, rw u.set-is (λ j. s.invariant.2 j ∙ sym (next-free F (in_set a.set.now) s.q (free-zero a.w.now a.owner.now p.rows.1 s.q c.from-o.result e u.if-o-ne0.false) j)))
     ]
 
 pub shape_of-set : goal.shape_of-set

@@ -29,9 +29,9 @@ pub put_plan-requires : goal.put_plan-requires
 put_plan-requires c =
     let a = c.args in
     let p = c.plan_of-planned in
-    let z : p.result.refusal ≡ 0 = omega (arith, c.if-planned-ne0.false) in record { plan_value = (own a.table.now p.result p.ensures.answer _ p.ensures.plan z).formed; additions_value = plan-adds a.table.now p.result p.ensures.answer _ p.ensures.plan z; ones_in_bounds = plan-fits a.table.now p.result p.ensures.answer _ p.ensures.plan z c.wide-s.ensures a.out.now c.requires }
+    let z : p.result.refusal ≡ 0 = omega (arith, c.if-planned-ne0.false) in record { plan_value = (own a.table.now p.result p.ensures.answer _ p.ensures.plan z).formed; additions_value = plan-adds a.table.now p.result p.ensures.answer _ p.ensures.plan z; ones_in_bounds = plan-fits a.table.now p.result p.ensures.answer _ p.ensures.plan z c.from-s.ensures a.out.now c.requires }
 
 pub returns : goal.returns
 returns c =
     let p = c.plan_of-planned in
-    same_word (plan-put c.args.table.now p.result p.ensures.answer _ p.ensures.plan (omega (arith, c.if-planned-ne0.false)) c.wide-s.ensures) c.put_plan.ensures
+    same_word (plan-put c.args.table.now p.result p.ensures.answer _ p.ensures.plan (omega (arith, c.if-planned-ne0.false)) c.from-s.ensures) c.put_plan.ensures

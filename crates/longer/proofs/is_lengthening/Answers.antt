@@ -30,12 +30,12 @@ pub bounds-new-3 : goal.bounds-new-3
 bounds-new-3 c = omega (arith, words c.args.old.now _ refl c.requires.0, words c.args.new.now _ refl c.requires.1)
 
 pub returns-then-m-k : goal.returns-then-m-k
-returns-then-m-k c = sym (fewer-checks c.args.old.now c.args.new.now c.requires.0 c.requires.1 (omega (arith, c.if-m-k.true, c.wide-m.ensures, c.wide-k.ensures)))
+returns-then-m-k c = sym (fewer-checks c.args.old.now c.args.new.now c.requires.0 c.requires.1 (omega (arith, c.if-m-k.true, c.from-m.ensures, c.from-k.ensures)))
 
 pub same_checks-requires : goal.same_checks-requires
 same_checks-requires c = (
-  record { accepted = c.requires.0; number_is = c.wide-m.ensures; places-are = refl; size_is = refl },
-  record { accepted = c.requires.1; number_is = c.wide-k.ensures; places-are = refl; size_is = refl },
+  record { accepted = c.requires.0; number_is = c.from-m.ensures; places-are = refl; size_is = refl },
+  record { accepted = c.requires.1; number_is = c.from-k.ensures; places-are = refl; size_is = refl },
   c.if-m-k.false,
 )
 

@@ -21,7 +21,7 @@ put-requires c =
     let a = c.args in
     let p = c.requires in
     let d = c.draw_order-d in
-    let y = c.wide.ensures in
+    let y = c.from.ensures in
     let l = p.3 (a.t + d.result.value) in
     let f = drawn-passes {f = free_entry a.w.now a.u.now a.t a.j} d.ensures c.if-d.true in
     (omega arith, p.4, p.5, ap (free a.w.now a.j) y ∙ f)
@@ -44,7 +44,7 @@ shape_of-w-then-d c = c.put.ensures.len
 pub returns-then-d : goal.returns-then-d
 returns-then-d c =
     let t = c.if-d.true in
-    let p = put-at c.wide.ensures c.put.ensures in
+    let p = put-at c.from.ensures c.put.ensures in
     (c.draw_order-d.ensures, rw t p, rw t refl)
 
 pub returns-else-d : goal.returns-else-d

@@ -21,20 +21,20 @@ bounds-u-i c = let b = c.draw-d.ensures.below in omega arith
 pub vacant-requires : goal.vacant-requires
 vacant-requires c =
     let p = c.requires in
-    let y = c.wide.ensures in
+    let y = c.from.ensures in
     let l = p.3 (c.args.t + c.draw-d.result.value) in
     (omega arith, p.4, p.5)
 
 pub returns-then-vacant : goal.returns-then-vacant
 returns-then-vacant c =
     let a = c.args in
-    let t = ap (free a.w.now a.j) (sym c.wide.ensures) ∙ sym c.vacant.ensures ∙ c.if-vacant.true in
+    let t = ap (free a.w.now a.j) (sym c.from.ensures) ∙ sym c.vacant.ensures ∙ c.if-vacant.true in
     passes c.loop-l.invariant c.draw-d.ensures t c.found.ensures
 
 pub loop-l-preserved : goal.loop-l-preserved
 loop-l-preserved c =
     let a = c.args in
-    let t = ap (free a.w.now a.j) (sym c.wide.ensures) ∙ sym c.vacant.ensures ∙ c.if-vacant.false in
+    let t = ap (free a.w.now a.j) (sym c.from.ensures) ∙ sym c.vacant.ensures ∙ c.if-vacant.false in
     fails c.loop-l.invariant c.draw-d.ensures t
 
 pub loop-l-smaller : goal.loop-l-smaller

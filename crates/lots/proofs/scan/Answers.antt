@@ -11,7 +11,7 @@ loop-i-init c = (omega arith, omega arith, refl)
 pub vacant-requires : goal.vacant-requires
 vacant-requires c =
     let p = c.requires in
-    let y = c.wide.ensures in
+    let y = c.from.ensures in
     let l = p.2 c.loop-i.i in
     (omega arith, p.3, p.4)
 
@@ -21,7 +21,7 @@ returns-then-vacant c =
     let s = c.loop-i in
     let g = free a.w.now a.j in
     let l = c.loop-i-test.true in
-    let t = ap g (sym c.wide.ensures) ∙ sym c.vacant.ensures ∙ c.if-vacant.true in
+    let t = ap g (sym c.from.ensures) ∙ sym c.vacant.ensures ∙ c.if-vacant.true in
     sym (s.invariant.2 ∙ any-hit g a.u.now a.e c.requires.1 s.i l t)
 
 pub loop-i-preserved : goal.loop-i-preserved
@@ -30,7 +30,7 @@ loop-i-preserved c =
     let s = c.loop-i in
     let g = free a.w.now a.j in
     let l = c.loop-i-test.true in
-    let t = ap g (sym c.wide.ensures) ∙ sym c.vacant.ensures ∙ c.if-vacant.false in
+    let t = ap g (sym c.from.ensures) ∙ sym c.vacant.ensures ∙ c.if-vacant.false in
     (omega arith, omega arith, s.invariant.2 ∙ any-miss g a.u.now a.e c.requires.1 s.i l t)
 
 pub returns : goal.returns

@@ -9,17 +9,17 @@ bounds-table-3 g c = let l = (long c.args.table.now c.requires).head in omega ar
 pub overflow_add-checks : goal.overflow_add-checks
 overflow_add-checks g c =
     let l = long c.args.table.now c.requires in
-    let e = c.wide-checks.ensures in
+    let e = c.from-checks.ensures in
     omega arith
 
 pub offset_bounds-table-checks : goal.offset_bounds-table-checks
 offset_bounds-table-checks g c =
     let l = long c.args.table.now c.requires in
-    let e = c.wide-checks.ensures in
+    let e = c.from-checks.ensures in
     omega arith
 
 pub bounds-table-checks : goal.bounds-table-checks
 bounds-table-checks g c =
     let l = long c.args.table.now c.requires in
-    let e = c.wide-checks.ensures in
+    let e = c.from-checks.ensures in
     omega arith

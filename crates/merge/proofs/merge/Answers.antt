@@ -23,7 +23,7 @@ bounds-t-2 c = omega (arith, words c.args.t.now _ c.look_over-refusal.ensures c.
 pub wrong_lengths-requires : goal.wrong_lengths-requires
 wrong_lengths-requires c =
     let t = c.args.t.now in
-    block-small t _ _ _ (looked-over t _ _ _ _ c.look_over-refusal.ensures c.if-refusal-ne0.false refl c.wide-n.ensures c.wide-s.ensures)
+    block-small t _ _ _ (looked-over t _ _ _ _ c.look_over-refusal.ensures c.if-refusal-ne0.false refl c.from-n.ensures c.from-s.ensures)
 
 pub returns-then-wrong_lengths : goal.returns-then-wrong_lengths
 returns-then-wrong_lengths c =
@@ -31,12 +31,12 @@ returns-then-wrong_lengths c =
     let one = held a.block1.now a.map1.now in
     let two = held a.block2.now a.map2.now in
     let out = held a.block3.now a.map3.now in
-    answer-first a.t.now one two out _ _ _ c.look_over-refusal.ensures c.if-refusal-ne0.false c.wide-n.ensures c.wide-s.ensures _ c.wrong_lengths.ensures c.if-wrong_lengths.true _ c.refused-then-wrong_lengths.ensures
+    answer-first a.t.now one two out _ _ _ c.look_over-refusal.ensures c.if-refusal-ne0.false c.from-n.ensures c.from-s.ensures _ c.wrong_lengths.ensures c.if-wrong_lengths.true _ c.refused-then-wrong_lengths.ensures
 
 pub wrong_lengths-requires-2 : goal.wrong_lengths-requires-2
 wrong_lengths-requires-2 c =
     let t = c.args.t.now in
-    block-small t _ _ _ (looked-over t _ _ _ _ c.look_over-refusal.ensures c.if-refusal-ne0.false refl c.wide-n.ensures c.wide-s.ensures)
+    block-small t _ _ _ (looked-over t _ _ _ _ c.look_over-refusal.ensures c.if-refusal-ne0.false refl c.from-n.ensures c.from-s.ensures)
 
 pub returns-then-wrong_lengths-2 : goal.returns-then-wrong_lengths-2
 returns-then-wrong_lengths-2 c =
@@ -44,12 +44,12 @@ returns-then-wrong_lengths-2 c =
     let one = held a.block1.now a.map1.now in
     let two = held a.block2.now a.map2.now in
     let out = held a.block3.now a.map3.now in
-    answer-second a.t.now one two out _ _ _ c.look_over-refusal.ensures c.if-refusal-ne0.false c.wide-n.ensures c.wide-s.ensures _ c.wrong_lengths-2.ensures c.if-wrong_lengths-2.true _ c.refused-then-wrong_lengths-2.ensures
+    answer-second a.t.now one two out _ _ _ c.look_over-refusal.ensures c.if-refusal-ne0.false c.from-n.ensures c.from-s.ensures _ c.wrong_lengths-2.ensures c.if-wrong_lengths-2.true _ c.refused-then-wrong_lengths-2.ensures
 
 pub wrong_lengths-requires-3 : goal.wrong_lengths-requires-3
 wrong_lengths-requires-3 c =
     let t = c.args.t.now in
-    block-small t _ _ _ (looked-over t _ _ _ _ c.look_over-refusal.ensures c.if-refusal-ne0.false refl c.wide-n.ensures c.wide-s.ensures)
+    block-small t _ _ _ (looked-over t _ _ _ _ c.look_over-refusal.ensures c.if-refusal-ne0.false refl c.from-n.ensures c.from-s.ensures)
 
 pub returns-then-wrong_lengths-3 : goal.returns-then-wrong_lengths-3
 returns-then-wrong_lengths-3 c =
@@ -57,7 +57,7 @@ returns-then-wrong_lengths-3 c =
     let one = held a.block1.now a.map1.now in
     let two = held a.block2.now a.map2.now in
     let out = held a.block3.now a.map3.now in
-    answer-third a.t.now one two out _ _ _ c.look_over-refusal.ensures c.if-refusal-ne0.false c.wide-n.ensures c.wide-s.ensures _ c.wrong_lengths-3.ensures c.if-wrong_lengths-3.true _ c.refused-then-wrong_lengths-3.ensures
+    answer-third a.t.now one two out _ _ _ c.look_over-refusal.ensures c.if-refusal-ne0.false c.from-n.ensures c.from-s.ensures _ c.wrong_lengths-3.ensures c.if-wrong_lengths-3.true _ c.refused-then-wrong_lengths-3.ensures
 
 pub returns-then-over_one : goal.returns-then-over_one
 returns-then-over_one c =
@@ -65,7 +65,7 @@ returns-then-over_one c =
     let one = held a.block1.now a.map1.now in
     let two = held a.block2.now a.map2.now in
     let out = held a.block3.now a.map3.now in
-    answer-byte-first a.t.now one two out _ _ _ c.look_over-refusal.ensures c.if-refusal-ne0.false c.wide-n.ensures c.wide-s.ensures _ _ _ c.wrong_lengths.ensures c.wrong_lengths-2.ensures c.wrong_lengths-3.ensures c.if-wrong_lengths.false c.if-wrong_lengths-2.false c.if-wrong_lengths-3.false
+    answer-byte-first a.t.now one two out _ _ _ c.look_over-refusal.ensures c.if-refusal-ne0.false c.from-n.ensures c.from-s.ensures _ _ _ c.wrong_lengths.ensures c.wrong_lengths-2.ensures c.wrong_lengths-3.ensures c.if-wrong_lengths.false c.if-wrong_lengths-2.false c.if-wrong_lengths-3.false
     _ c.over_one.ensures c.if-over_one.true _ c.refused-then-over_one.ensures
 
 pub returns-then-over_one-2 : goal.returns-then-over_one-2
@@ -74,7 +74,7 @@ returns-then-over_one-2 c =
     let one = held a.block1.now a.map1.now in
     let two = held a.block2.now a.map2.now in
     let out = held a.block3.now a.map3.now in
-    answer-byte-second a.t.now one two out _ _ _ c.look_over-refusal.ensures c.if-refusal-ne0.false c.wide-n.ensures c.wide-s.ensures _ _ _ c.wrong_lengths.ensures c.wrong_lengths-2.ensures c.wrong_lengths-3.ensures c.if-wrong_lengths.false c.if-wrong_lengths-2.false c.if-wrong_lengths-3.false
+    answer-byte-second a.t.now one two out _ _ _ c.look_over-refusal.ensures c.if-refusal-ne0.false c.from-n.ensures c.from-s.ensures _ _ _ c.wrong_lengths.ensures c.wrong_lengths-2.ensures c.wrong_lengths-3.ensures c.if-wrong_lengths.false c.if-wrong_lengths-2.false c.if-wrong_lengths-3.false
     _ c.over_one-2.ensures c.if-over_one-2.true _ c.refused-then-over_one-2.ensures
 
 pub bounds-t-3 : goal.bounds-t-3
@@ -86,7 +86,7 @@ merge_packets-requires c =
     let one = held a.block1.now a.map1.now in
     let two = held a.block2.now a.map2.now in
     let out = held a.block3.now a.map3.now in record {
-      table = looked-over a.t.now _ _ _ _ c.look_over-refusal.ensures c.if-refusal-ne0.false c.wide.ensures c.wide-n.ensures c.wide-s.ensures;
-      fitting = fitting a.t.now one two out _ _ _ c.look_over-refusal.ensures c.if-refusal-ne0.false c.wide-n.ensures c.wide-s.ensures _ _ _ c.wrong_lengths.ensures c.wrong_lengths-2.ensures c.wrong_lengths-3.ensures c.if-wrong_lengths.false c.if-wrong_lengths-2.false c.if-wrong_lengths-3.false
+      table = looked-over a.t.now _ _ _ _ c.look_over-refusal.ensures c.if-refusal-ne0.false c.from.ensures c.from-n.ensures c.from-s.ensures;
+      fitting = fitting a.t.now one two out _ _ _ c.look_over-refusal.ensures c.if-refusal-ne0.false c.from-n.ensures c.from-s.ensures _ _ _ c.wrong_lengths.ensures c.wrong_lengths-2.ensures c.wrong_lengths-3.ensures c.if-wrong_lengths.false c.if-wrong_lengths-2.false c.if-wrong_lengths-3.false
           _ _ c.over_one.ensures c.over_one-2.ensures c.if-over_one.false c.if-over_one-2.false;
     }

@@ -19,23 +19,23 @@ offset_bounds-t-at c = omega (arith, c.requires.0.room)
 pub bounds-t-at : goal.bounds-t-at
 bounds-t-at c = omega (arith, c.requires.0.room)
 
-pub wide-q-requires : goal.wide-q-requires
-wide-q-requires c = tt
+pub from-q-requires : goal.from-q-requires
+from-q-requires c = tt
 
 pub overflow_mul-q : goal.overflow_mul-q
-overflow_mul-q c = omega (arith, place-room _ _ _ _ _ _ _ c.requires.0 _ _ _ c.requires.1 c.loop-m-test.true c.wide-q.ensures)
+overflow_mul-q c = omega (arith, place-room _ _ _ _ _ _ _ c.requires.0 _ _ _ c.requires.1 c.loop-m-test.true c.from-q.ensures)
 
 pub overflow_add-q : goal.overflow_add-q
-overflow_add-q c = omega (arith, place-room _ _ _ _ _ _ _ c.requires.0 _ _ _ c.requires.1 c.loop-m-test.true c.wide-q.ensures)
+overflow_add-q c = omega (arith, place-room _ _ _ _ _ _ _ c.requires.0 _ _ _ c.requires.1 c.loop-m-test.true c.from-q.ensures)
 
 pub add_from-requires : goal.add_from-requires
-add_from-requires c = (omega (arith, c.loop-m.invariant.1.len), place-room _ _ _ _ _ _ _ c.requires.0 _ _ _ c.requires.1 c.loop-m-test.true c.wide-q.ensures)
+add_from-requires c = (omega (arith, c.loop-m.invariant.1.len), place-room _ _ _ _ _ _ _ c.requires.0 _ _ _ c.requires.1 c.loop-m-test.true c.from-q.ensures)
 
 pub loop-m-preserved : goal.loop-m-preserved
 loop-m-preserved c =
     let l = c.loop-m in
     let h = c.loop-m-test.true in
-    let q = c.wide-q in
+    let q = c.from-q in
     elim c.if-q-skip.branch [
       | then-q-skip u ↦ (
         omega arith,

@@ -27,13 +27,13 @@ note-requires c =
     let p = c.requires in
     let few = few-checks _ _ _ _ p.located.table in
     let number = p.room.0 in
-    let e1 : c.wide.result ≡ 5 + a.m + offset a.t.now a.j = c.wide.ensures ∙ p.located.starts-at.each a.j number in
-    let e2 : c.wide-2.result ≡ get_or a.t.now (4 + a.j) 0 = c.wide-2.ensures in
+    let e1 : c.from.result ≡ 5 + a.m + offset a.t.now a.j = c.from.ensures ∙ p.located.starts-at.each a.j number in
+    let e2 : c.from-2.result ≡ get_or a.t.now (4 + a.j) 0 = c.from-2.ensures in
     rw (e1, e2) (record { places = each-places _ _ _ _ p.located.table a.j number; names = p.room.2; room = λ i h. omega (arith, p.counts (get_or a.t.now (5 + a.m + offset a.t.now a.j + i) 0)) })
 
 pub returns : goal.returns
 returns c =
     let a = c.args in
     let p = c.requires in
-    let e1 : c.wide.result ≡ 5 + a.m + offset a.t.now a.j = c.wide.ensures ∙ p.located.starts-at.each a.j p.room.0 in
-    record { flags = refl; noted = noted-check _ _ a.j e1 c.wide-2.ensures c.note.ensures }
+    let e1 : c.from.result ≡ 5 + a.m + offset a.t.now a.j = c.from.ensures ∙ p.located.starts-at.each a.j p.room.0 in
+    record { flags = refl; noted = noted-check _ _ a.j e1 c.from-2.ensures c.note.ensures }

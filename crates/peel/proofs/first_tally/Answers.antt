@@ -28,7 +28,7 @@ enter-requires c =
     let flags = p.fresh.flags in
     let named = p.fresh.named in
     let low = number-low (c.loop-i.i - 1) p.kept (omega arith) in
-    let w = c.wide-j.ensures in
+    let w = c.from-j.ensures in
     record { located = rw l1 p.located; room = (omega arith, omega arith, omega arith); counts = counts-few s.4 }
 
 pub loop-i-preserved : goal.loop-i-preserved
@@ -38,7 +38,7 @@ loop-i-preserved c =
     let l0 = s.0 in
     let n = p.kept.count in
     let flags = p.fresh.flags in
-    let e = c.wide-j.ensures ∙ number_at (c.loop-i.i - 1) p.kept (omega arith) in
+    let e = c.from-j.ensures ∙ number_at (c.loop-i.i - 1) p.kept (omega arith) in
     (c.live-1.given ∙ s.0, c.count-1.given ∙ s.1, c.names-1.given ∙ s.2, omega arith, noting-turn c.loop-i.i _ s.4 (omega arith) (omega arith) (omega arith) e c.enter.ensures)
 
 pub shape_of-live : goal.shape_of-live

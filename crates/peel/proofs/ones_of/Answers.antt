@@ -19,38 +19,38 @@ pub overflow_add-j : goal.overflow_add-j
 overflow_add-j c =
     let h = has-weights _ _ _ _ c.requires.table in
     let low = number-low (c.loop-i.i - 1) c.requires.kept (omega arith) in
-    let w = c.wide-j.ensures in
+    let w = c.from-j.ensures in
     omega arith
 
 pub offset_bounds-t-j : goal.offset_bounds-t-j
 offset_bounds-t-j c =
     let h = has-weights _ _ _ _ c.requires.table in
     let low = number-low (c.loop-i.i - 1) c.requires.kept (omega arith) in
-    let w = c.wide-j.ensures in
+    let w = c.from-j.ensures in
     omega arith
 
 pub bounds-t-j : goal.bounds-t-j
 bounds-t-j c =
     let h = has-weights _ _ _ _ c.requires.table in
     let low = number-low (c.loop-i.i - 1) c.requires.kept (omega arith) in
-    let w = c.wide-j.ensures in
+    let w = c.from-j.ensures in
     omega arith
 
 pub overflow_add-sum : goal.overflow_add-sum
 overflow_add-sum c =
     let few = few-checks _ _ _ _ c.requires.table in
     let r = (numbers-room c.requires.kept).1 in
-    let w = c.wide-sum.ensures in
-    omega (arith, c.shared_slice_known-in-loop-i-2-1.given (4 + c.wide-j.result))
+    let w = c.from-sum.ensures in
+    omega (arith, c.shared_slice_known-in-loop-i-2-1.given (4 + c.from-j.result))
 
 pub loop-i-preserved : goal.loop-i-preserved
 loop-i-preserved c =
     let p = c.requires in
     let s = c.loop-i in
     let n = p.kept.count in
-    let w = c.wide-sum.ensures in
-    let e = c.wide-j.ensures ∙ number_at (s.i - 1) p.kept (omega arith) in
-    (omega arith, omega (arith, c.shared_slice_known-in-loop-i-2-1.given (4 + c.wide-j.result)), ones-turn _ _ s.i c.wide-j.result s.sum c.wide-sum.result (omega arith) (omega arith) e w s.invariant.2)
+    let w = c.from-sum.ensures in
+    let e = c.from-j.ensures ∙ number_at (s.i - 1) p.kept (omega arith) in
+    (omega arith, omega (arith, c.shared_slice_known-in-loop-i-2-1.given (4 + c.from-j.result)), ones-turn _ _ s.i c.from-j.result s.sum c.from-sum.result (omega arith) (omega arith) e w s.invariant.2)
 
 pub returns : goal.returns
 returns c =

@@ -28,7 +28,7 @@ pub returns-in-At : goal.returns-in-At
 returns-in-At c =
     let p = c.requires in
     let q = calm-scan _ p.ready.counts p.calm ∙ found_at _ _ (sym c.single.ensures ∙ c.in-At.is) in
-    rw c.wide.ensures (picked-place _ _ _ p.ready.tally q)
+    rw c.from.ensures (picked-place _ _ _ p.ready.tally q)
 
 pub returns-in-Nothing : goal.returns-in-Nothing
 returns-in-Nothing c =

@@ -35,8 +35,8 @@ forget-requires c =
     let a = c.args in
     let p = c.requires in
     let f = (in-flag _ _ _ p.live).0 in
-    let e1 : c.wide-at.result ≡ 5 + a.m + offset a.t.now a.j = c.wide-at.ensures ∙ p.located.starts-at.each a.j f in
-    let e2 : c.wide-weight.result ≡ get_or a.t.now (4 + a.j) 0 = c.wide-weight.ensures in
+    let e1 : c.from-at.result ≡ 5 + a.m + offset a.t.now a.j = c.from-at.ensures ∙ p.located.starts-at.each a.j f in
+    let e2 : c.from-weight.result ≡ get_or a.t.now (4 + a.j) 0 = c.from-weight.ensures in
     rw (e1, e2) (record { places = each-places _ _ _ _ p.located.table a.j f; names = p.ready.named; live = λ i h. counted _ _ _ a.j i p.located.table p.ready.tally p.live f h })
 
 pub raise-requires : goal.raise-requires
@@ -46,8 +46,8 @@ raise-requires c =
     let f = (in-flag _ _ _ p.live).0 in
     let l = c.count-1.given in
     let top = p.calm.most in
-    let e1 : c.wide-at.result ≡ 5 + a.m + offset a.t.now a.j = c.wide-at.ensures ∙ p.located.starts-at.each a.j f in
-    let e2 : c.wide-weight.result ≡ get_or a.t.now (4 + a.j) 0 = c.wide-weight.ensures in
+    let e1 : c.from-at.result ≡ 5 + a.m + offset a.t.now a.j = c.from-at.ensures ∙ p.located.starts-at.each a.j f in
+    let e2 : c.from-weight.result ≡ get_or a.t.now (4 + a.j) 0 = c.from-weight.ensures in
     rw (e1, e2, l) (record { places = each-places _ _ _ _ p.located.table a.j f; top = omega arith })
 
 pub returns : goal.returns
@@ -55,6 +55,6 @@ returns c =
     let a = c.args in
     let p = c.requires in
     let f = (in-flag _ _ _ p.live).0 in
-    let e1 : c.wide-at.result ≡ 5 + a.m + offset a.t.now a.j = c.wide-at.ensures ∙ p.located.starts-at.each a.j f in
-    let e2 : c.wide-weight.result ≡ get_or a.t.now (4 + a.j) 0 = c.wide-weight.ensures in
+    let e1 : c.from-at.result ≡ 5 + a.m + offset a.t.now a.j = c.from-at.ensures ∙ p.located.starts-at.each a.j f in
+    let e2 : c.from-weight.result ≡ get_or a.t.now (4 + a.j) 0 = c.from-weight.ensures in
     record { removed = removed _ _ a.j p.ready p.live e1 e2 c.forget.ensures; calm = calm-less p.calm c.forget.ensures c.raise.ensures }

@@ -16,12 +16,12 @@ pub fit_places-requires : goal.fit_places-requires
 fit_places-requires c =
     let p = c.requires in
     let few = p.few in
-    record { ready = fit-ready p.table p.choice p.few c.wide-m.ensures c.wide-n.ensures; fitted = omega arith; rows = omega arith }
+    record { ready = fit-ready p.table p.choice p.few c.from-m.ensures c.from-n.ensures; fitted = omega arith; rows = omega arith }
 
 pub write_plan-w-requires : goal.write_plan-w-requires
 write_plan-w-requires c =
     let p = c.requires in
-    record { phases = plan-ready p.table p.choice p.few c.wide-m.ensures c.wide-n.ensures c.fit_places.ensures; kept = number-kept p.table p.choice p.few; room = p.room }
+    record { phases = plan-ready p.table p.choice p.few c.from-m.ensures c.from-n.ensures c.fit_places.ensures; kept = number-kept p.table p.choice p.few; room = p.room }
 
 pub overflow_cast-result : goal.overflow_cast-result
 overflow_cast-result c =

@@ -18,14 +18,14 @@ pub fill_starts-requires : goal.fill_starts-requires
 fill_starts-requires c =
     let t = c.args.t.now in
     let l = (limits t c.requires.table).few-checks in
-    let e : c.wide-m.result ≡ number t = c.wide-m.ensures in
+    let e : c.from-m.result ≡ number t = c.from-m.ensures in
     record { table = record { accepted = c.requires.table; number_is = e; places-are = refl; size_is = refl }; room = omega arith }
 
 pub choose_checks-c-requires : goal.choose_checks-c-requires
 choose_checks-c-requires c =
     let p = c.requires in record {
       located = record {
-        table = record { accepted = p.table; number_is = c.wide-m.ensures; places-are = c.wide-n.ensures; size_is = refl };
+        table = record { accepted = p.table; number_is = c.from-m.ensures; places-are = c.from-n.ensures; size_is = refl };
         starts-at = c.fill_starts.ensures;
       };
       work = p.work;
@@ -49,7 +49,7 @@ write_out-requires c =
     let p = c.requires in
     let t = c.args.t.now in
     let h = c.if-c-gt-MOST_ASIDE.false in
-    let e : c.wide-m.result ≡ number t = c.wide-m.ensures in
+    let e : c.from-m.result ≡ number t = c.from-m.ensures in
     record { table = record { table = record { accepted = p.table; number_is = refl; places-are = refl; size_is = refl }; starts-at = rw e at c.fill_starts.ensures }; choice = c.choose_checks-c.ensures.choice; few = omega arith; room = p.room }
 
 pub returns : goal.returns

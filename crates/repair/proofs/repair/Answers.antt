@@ -19,26 +19,26 @@ bounds-t-2 c = omega (arith, words c.args.t.now _ c.look_over-refusal.ensures c.
 
 pub overflow_mul-n : goal.overflow_mul-n
 overflow_mul-n c =
-    let k = looked-over c.args.t.now _ _ _ _ c.look_over-refusal.ensures c.if-refusal-ne0.false refl c.wide-n.ensures c.wide-s.ensures in
+    let k = looked-over c.args.t.now _ _ _ _ c.look_over-refusal.ensures c.if-refusal-ne0.false refl c.from-n.ensures c.from-s.ensures in
     omega (arith, block-small c.args.t.now _ _ _ k)
 
 pub returns-then-block-n : goal.returns-then-block-n
 returns-then-block-n c =
     let a = c.args in
     let e = c.refused-then-block-n.ensures in
-    answer-block a.t.now a.block.now a.map.now _ _ _ c.look_over-refusal.ensures _ c.if-refusal-ne0.false c.wide-n.ensures c.wide-s.ensures c.if-block-n.true e
+    answer-block a.t.now a.block.now a.map.now _ _ _ c.look_over-refusal.ensures _ c.if-refusal-ne0.false c.from-n.ensures c.from-s.ensures c.if-block-n.true e
 
 pub returns-then-map-n : goal.returns-then-map-n
 returns-then-map-n c =
     let a = c.args in
     let e = c.refused-then-map-n.ensures in
-    answer-map a.t.now a.block.now a.map.now _ _ _ c.look_over-refusal.ensures _ c.if-refusal-ne0.false c.wide-n.ensures c.wide-s.ensures c.if-block-n.false c.if-map-n.true e
+    answer-map a.t.now a.block.now a.map.now _ _ _ c.look_over-refusal.ensures _ c.if-refusal-ne0.false c.from-n.ensures c.from-s.ensures c.if-block-n.false c.if-map-n.true e
 
 pub returns-then-over_one : goal.returns-then-over_one
 returns-then-over_one c =
     let a = c.args in
     let e = c.refused-then-over_one.ensures in
-    answer-byte a.t.now a.block.now a.map.now _ _ _ c.look_over-refusal.ensures _ c.if-refusal-ne0.false c.wide-n.ensures c.wide-s.ensures c.if-block-n.false c.if-map-n.false (sym c.over_one.ensures ∙ c.if-over_one.true) e
+    answer-byte a.t.now a.block.now a.map.now _ _ _ c.look_over-refusal.ensures _ c.if-refusal-ne0.false c.from-n.ensures c.from-s.ensures c.if-block-n.false c.if-map-n.false (sym c.over_one.ensures ∙ c.if-over_one.true) e
 
 pub bounds-t-3 : goal.bounds-t-3
 bounds-t-3 c = omega (arith, words c.args.t.now _ c.look_over-refusal.ensures c.if-refusal-ne0.false)
@@ -46,6 +46,6 @@ bounds-t-3 c = omega (arith, words c.args.t.now _ c.look_over-refusal.ensures c.
 pub repair_packets-requires : goal.repair_packets-requires
 repair_packets-requires c =
     let a = c.args in (
-      looked-over a.t.now _ _ _ _ c.look_over-refusal.ensures c.if-refusal-ne0.false c.wide.ensures c.wide-n.ensures c.wide-s.ensures,
-      fitting a.t.now a.block.now a.map.now _ _ _ c.look_over-refusal.ensures c.if-refusal-ne0.false c.wide-n.ensures c.wide-s.ensures c.if-block-n.false c.if-map-n.false _ c.over_one.ensures c.if-over_one.false,
+      looked-over a.t.now _ _ _ _ c.look_over-refusal.ensures c.if-refusal-ne0.false c.from.ensures c.from-n.ensures c.from-s.ensures,
+      fitting a.t.now a.block.now a.map.now _ _ _ c.look_over-refusal.ensures c.if-refusal-ne0.false c.from-n.ensures c.from-s.ensures c.if-block-n.false c.if-map-n.false _ c.over_one.ensures c.if-over_one.false,
     )

@@ -47,7 +47,7 @@ pub sum_of_check-low-requires : goal.sum_of_check-low-requires
 sum_of_check-low-requires c =
     let p = c.requires in
     let s = c.loop-j in
-    check-in _ _ _ _ p.0 s.j c.loop-j-test.true _ _ s.invariant.1 c.wide-w.ensures _ p.1
+    check-in _ _ _ _ p.0 s.j c.loop-j-test.true _ _ s.invariant.1 c.from-w.ensures _ p.1
 
 pub fails-requires : goal.fails-requires
 fails-requires c =
@@ -55,7 +55,7 @@ fails-requires c =
     let a = c.args in
     let s = c.loop-j in
     let more = c.loop-j-test.true in
-    let inside = check-in a.t.now _ _ _ p.0 s.j more _ _ s.invariant.1 c.wide-w.ensures a.block.now p.1 in
+    let inside = check-in a.t.now _ _ _ p.0 s.j more _ _ s.invariant.1 c.from-w.ensures a.block.now p.1 in
     (omega (arith, few-checks _ _ _ _ p.0, more), omega (arith, byte_fits a.t.now a.m a.n a.s p.0 _ _ _ inside _ c.sum_of_check-low.ensures))
 
 pub returns-then-low-s : goal.returns-then-low-s
@@ -64,8 +64,8 @@ returns-then-low-s c =
     let a = c.args in
     let s = c.loop-j in
     let more = c.loop-j-test.true in
-    let is = check-is a.t.now _ _ _ p.0 s.j more _ _ s.invariant.1 c.wide-w.ensures in
-    let inside = check-in a.t.now _ _ _ p.0 s.j more _ _ s.invariant.1 c.wide-w.ensures a.block.now p.1 in
+    let is = check-is a.t.now _ _ _ p.0 s.j more _ _ s.invariant.1 c.from-w.ensures in
+    let inside = check-in a.t.now _ _ _ p.0 s.j more _ _ s.invariant.1 c.from-w.ensures a.block.now p.1 in
     let z = sum-nonzero a.t.now a.block.now a.n a.s _ _ inside _ is _ c.sum_of_check-low.ensures c.if-low-s.true in
     let y = sum-byte a.t.now a.block.now a.n a.s _ _ inside _ is _ c.sum_of_check-low.ensures in
     let l = p.3.each s.j more ∙ ap (λ l. length (lost_places a.map.now l)) (sym (at-check a.t.now a.m a.n a.s p.0 s.j more)) in
@@ -79,7 +79,7 @@ pub overflow_add-at-in-loop-j : goal.overflow_add-at-in-loop-j
 overflow_add-at-in-loop-j c =
     let p = c.requires in
     let s = c.loop-j in
-    let f = check-fits c.args.t.now _ _ _ p.0 s.j c.loop-j-test.true _ _ s.invariant.1 c.wide-w.ensures in
+    let f = check-fits c.args.t.now _ _ _ p.0 s.j c.loop-j-test.true _ _ s.invariant.1 c.from-w.ensures in
     omega (arith, f, c.well_formed)
 
 pub loop-j-preserved : goal.loop-j-preserved
@@ -88,13 +88,13 @@ loop-j-preserved c =
     let a = c.args in
     let s = c.loop-j in
     let more = c.loop-j-test.true in
-    let is = check-is a.t.now _ _ _ p.0 s.j more _ _ s.invariant.1 c.wide-w.ensures in
-    let inside = check-in a.t.now _ _ _ p.0 s.j more _ _ s.invariant.1 c.wide-w.ensures a.block.now p.1 in
+    let is = check-is a.t.now _ _ _ p.0 s.j more _ _ s.invariant.1 c.from-w.ensures in
+    let inside = check-in a.t.now _ _ _ p.0 s.j more _ _ s.invariant.1 c.from-w.ensures a.block.now p.1 in
     let at = at-check a.t.now a.m a.n a.s p.0 s.j more in
     let l = p.3.each s.j more ∙ ap (λ l. length (lost_places a.map.now l)) (sym at) in
     let in_list : s.j < length (checks a.t.now) = rw (check-count a.t.now _ _ _ p.0) more in (
       omega arith,
-      offset-more _ _ _ _ _ s.invariant.1 c.wide-w.ensures,
+      offset-more _ _ _ _ _ s.invariant.1 c.from-w.ensures,
       s.invariant.2 ∙ elim c.if-to_sum.branch [
         | then-to_sum+else-low-s u ↦ fault-zero (none_lost a.map.now) a.s (packets a.s a.n a.block.now) (checks a.t.now) s.j in_list (ap (λ k. eqb k 0) (sym l ∙ c.to_sum.ensures.0 u.if-to_sum.true))
             (sum-zero a.t.now a.block.now a.n a.s _ _ inside _ is _ u.sum_of_check-low.ensures u.if-low-s.false)

@@ -32,7 +32,7 @@ add_low-requires c =
     let m = s.invariant.most in
     let few = p.most in
     let in-w = p.inside in
-    let e = c.wide-o.ensures in
+    let e = c.from-o.ensures in
     let z = pos_of_ne-zero c.if-o-eq0.false in
     let f = p.owners.room (s.l - 1) in
     (omega arith, omega arith, omega arith, rw e (own_bits p.owners s.invariant (omega arith) (omega arith)).most)
@@ -79,20 +79,20 @@ bits_of-l-requires-in-loop-l c =
     let few = p.most in
     let in-w = p.inside in
     let g = c.w-1.given in
-    let e = c.wide-o.ensures in
+    let e = c.from-o.ensures in
     let z = pos_of_ne-zero c.if-o-eq0.false in
     (omega arith, omega arith, next-short p.owners s.invariant (omega (arith, c.loop-l-test.true)) (omega arith) (rw e at c.add_low.ensures))
 
 pub loop-l-smaller : goal.loop-l-smaller
 loop-l-smaller c =
-    let e = c.wide-o.ensures in
+    let e = c.from-o.ensures in
     let z = pos_of_ne-zero c.if-o-eq0.false in
     next-less c.requires.rows.owners c.loop-l.invariant (omega (arith, c.loop-l-test.true)) (omega arith) (rw e at c.add_low.ensures) c.bits_of-l-in-loop-l.ensures
 
 pub loop-l-preserved : goal.loop-l-preserved
 loop-l-preserved c =
     let p = c.requires in
-    let e = c.wide-o.ensures in
+    let e = c.from-o.ensures in
     let z = pos_of_ne-zero c.if-o-eq0.false in
     lower-turn p.rows.owners c.loop-l.invariant (omega (arith, c.loop-l-test.true)) p.room (omega arith) (rw e at c.add_low.ensures) c.bits_of-l-in-loop-l.ensures
 
@@ -117,7 +117,7 @@ shape_of-noted-then-o-eq0 c = let m = c.loop-l.invariant.most in let r = c.requi
 pub returns-then-o-eq0 : goal.returns-then-o-eq0
 returns-then-o-eq0 c =
     let s = c.loop-l.invariant in
-    let w = c.wide-o.ensures in
+    let w = c.from-o.ensures in
     let free : get_or c.args.owner.now (c.loop-l.l - 1) 0 ≡ 0 = omega (arith, c.if-o-eq0.true) in
     let end = stopped c.requires.rows.owners s (omega arith) free in
     record { row = lowered s end (λ _. free); path = told s end }

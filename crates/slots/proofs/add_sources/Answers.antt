@@ -8,19 +8,19 @@ use Rattle.slots.proofs.add_sources.Goals as goal
 pub loop-m-init : goal.loop-m-init
 loop-m-init c = (parts_none c.requires.room, omega arith, refl)
 
-pub wide-requires : goal.wide-requires
-wide-requires c = tt
+pub from-requires : goal.from-requires
+from-requires c = tt
 
 pub add_part-requires : goal.add_part-requires
 add_part-requires c =
     let p = c.requires in
-    record { slot = rw c.wide.ensures (p.slots.each c.loop-m.m c.loop-m-test.true); room = omega (arith, c.loop-m.invariant.2, p.room) }
+    record { slot = rw c.from.ensures (p.slots.each c.loop-m.m c.loop-m-test.true); room = omega (arith, c.loop-m.invariant.2, p.room) }
 
 pub loop-m-preserved : goal.loop-m-preserved
 loop-m-preserved c =
     let a = c.args in
     let l = c.loop-m in (
-      parts-as (take_more a.sources.now l.m c.loop-m-test.true) (parts_more l.invariant.2 l.invariant.0 (rw c.wide.ensures at c.add_part.ensures)),
+      parts-as (take_more a.sources.now l.m c.loop-m-test.true) (parts_more l.invariant.2 l.invariant.0 (rw c.from.ensures at c.add_part.ensures)),
       omega arith,
       c.add_part.auto.acc ∙ l.invariant.2,
     )

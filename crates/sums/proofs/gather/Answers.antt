@@ -18,20 +18,20 @@ offset_bounds-t-at c = omega (arith, c.requires.0.room)
 pub bounds-t-at : goal.bounds-t-at
 bounds-t-at c = omega (arith, c.requires.0.room)
 
-pub wide-requires : goal.wide-requires
-wide-requires c = tt
+pub from-requires : goal.from-requires
+from-requires c = tt
 
-pub overflow_mul-wide : goal.overflow_mul-wide
-overflow_mul-wide c = omega (arith, place-room _ _ _ _ _ _ _ c.requires.0 _ _ _ c.requires.1 c.loop-m-test.true c.wide.ensures)
+pub overflow_mul-from : goal.overflow_mul-from
+overflow_mul-from c = omega (arith, place-room _ _ _ _ _ _ _ c.requires.0 _ _ _ c.requires.1 c.loop-m-test.true c.from.ensures)
 
-pub overflow_add-wide : goal.overflow_add-wide
-overflow_add-wide c = omega (arith, place-room _ _ _ _ _ _ _ c.requires.0 _ _ _ c.requires.1 c.loop-m-test.true c.wide.ensures)
+pub overflow_add-from : goal.overflow_add-from
+overflow_add-from c = omega (arith, place-room _ _ _ _ _ _ _ c.requires.0 _ _ _ c.requires.1 c.loop-m-test.true c.from.ensures)
 
 pub add_from-requires : goal.add_from-requires
-add_from-requires c = (omega (arith, c.loop-m.invariant.1.len), place-room _ _ _ _ _ _ _ c.requires.0 _ _ _ c.requires.1 c.loop-m-test.true c.wide.ensures)
+add_from-requires c = (omega (arith, c.loop-m.invariant.1.len), place-room _ _ _ _ _ _ _ c.requires.0 _ _ _ c.requires.1 c.loop-m-test.true c.from.ensures)
 
 pub loop-m-preserved : goal.loop-m-preserved
-loop-m-preserved c = (omega arith, next_place _ _ _ _ _ _ _ c.requires.0 _ _ _ _ _ c.requires.1 c.loop-m-test.true c.wide.ensures c.loop-m.invariant.1 c.add_from.ensures)
+loop-m-preserved c = (omega arith, next_place _ _ _ _ _ _ _ c.requires.0 _ _ _ _ _ c.requires.1 c.loop-m-test.true c.from.ensures c.loop-m.invariant.1 c.add_from.ensures)
 
 pub shape_of-acc : goal.shape_of-acc
 shape_of-acc c = c.loop-m.invariant.1.len

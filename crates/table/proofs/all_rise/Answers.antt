@@ -20,7 +20,7 @@ rises-requires c =
     let a = c.args in
     let s = c.loop-j in
     let l = c.loop-j-test.true in
-    let e = c.wide-w.ensures in
+    let e = c.from-w.ensures in
     let p = part-cons a.t.now (4 + s.j) (4 + a.m) (4 + (s.j + 1)) (omega arith) (omega arith) (omega arith) in
     let q = ap total p in
     omega arith
@@ -30,7 +30,7 @@ returns-then-not-rises c =
     let a = c.args in
     let s = c.loop-j in
     let l = c.loop-j-test.true in
-    let e = c.wide-w.ensures in
+    let e = c.from-w.ensures in
     let p = part-cons a.t.now (4 + s.j) (4 + a.m) (4 + (s.j + 1)) (omega arith) (omega arith) (omega arith) in
     let q = ap total p in
     pass-not _ _ _ _ _ _ _ e p c.rises.ensures (not-true _ c.if-not-rises.true-raw) ∙ sym s.invariant.2
@@ -40,7 +40,7 @@ overflow_add-at-in-loop-j c =
     let a = c.args in
     let s = c.loop-j in
     let l = c.loop-j-test.true in
-    let e = c.wide-w.ensures in
+    let e = c.from-w.ensures in
     let p = part-cons a.t.now (4 + s.j) (4 + a.m) (4 + (s.j + 1)) (omega arith) (omega arith) (omega arith) in
     let q = ap total p in
     omega arith
@@ -50,7 +50,7 @@ loop-j-preserved c =
     let a = c.args in
     let s = c.loop-j in
     let l = c.loop-j-test.true in
-    let e = c.wide-w.ensures in
+    let e = c.from-w.ensures in
     let p = part-cons a.t.now (4 + s.j) (4 + a.m) (4 + (s.j + 1)) (omega arith) (omega arith) (omega arith) in
     let q = ap total p in
     (omega arith, omega arith, s.invariant.2 ∙ pass_on _ _ _ _ _ _ _ _ e p c.rises.ensures (not-false _ c.if-not-rises.false-raw))

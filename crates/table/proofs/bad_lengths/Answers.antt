@@ -3,13 +3,13 @@ use Rattle.table.proofs.Looking.{length-short, length-ones, length-sum, length-e
 use Rattle.table.proofs.bad_lengths.Goals as goal
 
 pub returns-then-t-m : goal.returns-then-t-m
-returns-then-t-m c = length-short c.args.t.now _ c.wide-m.ensures c.if-t-m.true
+returns-then-t-m c = length-short c.args.t.now _ c.from-m.ensures c.if-t-m.true
 
 pub returns-then-ones-gt-MOST_ONES : goal.returns-then-ones-gt-MOST_ONES
-returns-then-ones-gt-MOST_ONES c = length-ones c.args.t.now _ c.wide-m.ensures _ c.wide-ones.ensures c.if-ones-gt-MOST_ONES.true
+returns-then-ones-gt-MOST_ONES c = length-ones c.args.t.now _ c.from-m.ensures _ c.from-ones.ensures c.if-ones-gt-MOST_ONES.true
 
 pub returns-then-ones-weigh : goal.returns-then-ones-weigh
-returns-then-ones-weigh c = length-sum c.args.t.now _ c.wide-m.ensures _ c.wide-ones.ensures _ c.weigh.ensures c.if-ones-weigh.true
+returns-then-ones-weigh c = length-sum c.args.t.now _ c.from-m.ensures _ c.from-ones.ensures _ c.weigh.ensures c.if-ones-weigh.true
 
 pub returns : goal.returns
-returns c = length-exact c.args.t.now _ c.wide-m.ensures _ c.wide-ones.ensures _ c.weigh.ensures c.if-t-m.false c.if-ones-gt-MOST_ONES.false c.if-ones-weigh.false
+returns c = length-exact c.args.t.now _ c.from-m.ensures _ c.from-ones.ensures _ c.weigh.ensures c.if-t-m.false c.if-ones-gt-MOST_ONES.false c.if-ones-weigh.false

@@ -9,7 +9,7 @@ pub returns : goal.returns
 returns c =
     limit-rest c.args.t.now _ _ _ _
     c.if-t-ne2.false
-    c.wide.ensures
-    c.wide-2.ensures
-    c.wide-3.ensures
+    c.from.ensures
+    c.from-2.ensures
+    c.from-3.ensures
     c.beyond.ensures

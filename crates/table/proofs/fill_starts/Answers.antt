@@ -33,7 +33,7 @@ overflow_add-at-in-loop-j c =
     let a = c.args in
     let s = c.loop-j in
     let o = offset-more a.t.now s.j in
-    let e = c.wide-at.ensures in
+    let e = c.from-at.ensures in
     let r = start_fits a.t.now a.m (s.j + 1) (s.at + get_or a.t.now (4 + s.j) 0) c.requires.table (omega arith) (omega arith) in
     omega arith
 
@@ -42,7 +42,7 @@ loop-j-preserved c =
     let a = c.args in
     let s = c.loop-j in
     let o = offset-more a.t.now s.j in
-    let e = c.wide-at.ensures in
+    let e = c.from-at.ensures in
     (omega arith, omega arith, simp length-set s.invariant.2, written-more a.t.now a.m s.j s.at s.starts (omega arith) s.invariant.1 s.invariant.3)
 
 pub returns : goal.returns

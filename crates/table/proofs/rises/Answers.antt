@@ -15,18 +15,18 @@ returns-then-p-low c =
     let a = c.args in
     let s = c.loop-i in
     let p = part-cons a.t.now s.i (a.at + a.weight) (s.i + 1) refl (omega arith) (omega arith) in
-    let e = c.wide-p.ensures in
+    let e = c.from-p.ensures in
     rest-low _ _ _ _ _ _ e p c.if-p-low.true ∙ sym s.invariant.2
 
 pub overflow_add-low : goal.overflow_add-low
-overflow_add-low c = omega (arith, c.shared_slice_known-in-loop-i-1.given c.loop-i.i, c.wide-p.ensures)
+overflow_add-low c = omega (arith, c.shared_slice_known-in-loop-i-1.given c.loop-i.i, c.from-p.ensures)
 
 pub loop-i-preserved : goal.loop-i-preserved
 loop-i-preserved c =
     let a = c.args in
     let s = c.loop-i in
     let p = part-cons a.t.now s.i (a.at + a.weight) (s.i + 1) refl (omega arith) (omega arith) in
-    let e = c.wide-p.ensures in
+    let e = c.from-p.ensures in
     (omega arith, omega arith, s.invariant.2 ∙ rest-on _ _ _ _ _ _ e p c.if-p-low.false)
 
 pub returns : goal.returns

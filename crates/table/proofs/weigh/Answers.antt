@@ -15,7 +15,7 @@ returns-then-w-gt-MOST_WEIGHT c =
     let s = c.loop-j in
     let l = c.loop-j-test.true in
     let p = part-cons a.t.now (4 + s.j) (4 + a.m) (4 + (s.j + 1)) (omega arith) (omega arith) (omega arith) in
-    let e = c.wide-w.ensures in
+    let e = c.from-w.ensures in
     weigh-heavy s.sum _ _ _ _ e p c.if-w-gt-MOST_WEIGHT.true ∙ sym s.invariant.2
 
 pub loop-j-preserved : goal.loop-j-preserved
@@ -24,7 +24,7 @@ loop-j-preserved c =
     let s = c.loop-j in
     let l = c.loop-j-test.true in
     let p = part-cons a.t.now (4 + s.j) (4 + a.m) (4 + (s.j + 1)) (omega arith) (omega arith) (omega arith) in
-    let e = c.wide-w.ensures in
+    let e = c.from-w.ensures in
     (omega arith, omega arith, s.invariant.2 ∙ weigh-light s.sum _ _ _ _ e p c.if-w-gt-MOST_WEIGHT.false)
 
 pub returns : goal.returns

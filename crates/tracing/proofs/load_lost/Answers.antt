@@ -13,15 +13,15 @@ pub loop-i-init : goal.loop-i-init
 loop-i-init c = (omega arith, put_is (put_self _ _) c.clear.ensures.here)
 
 pub bounds-lost-p : goal.bounds-lost-p
-bounds-lost-p c = let h = c.requires.1.below c.loop-i.i c.loop-i-test.true in let e = c.wide-p.ensures in omega arith
+bounds-lost-p c = let h = c.requires.1.below c.loop-i.i c.loop-i-test.true in let e = c.from-p.ensures in omega arith
 
 pub bit_of-requires : goal.bit_of-requires
-bit_of-requires c = let h = c.requires.1.below c.loop-i.i c.loop-i-test.true in let e = c.wide-p.ensures in omega arith
+bit_of-requires c = let h = c.requires.1.below c.loop-i.i c.loop-i-test.true in let e = c.from-p.ensures in omega arith
 
 pub flip-requires : goal.flip-requires
 flip-requires c =
     let h = c.requires.1.below c.loop-i.i c.loop-i-test.true in
-    let e = c.wide-p.ensures in
+    let e = c.from-p.ensures in
     let b = c.bit_of.ensures in
     let few = c.requires.3 in
     let l = c.loop-i.invariant.1.len in
@@ -34,7 +34,7 @@ loop-i-preserved c =
     let a = c.args in
     let l = c.loop-i in
     let h = c.loop-i-test.true in
-    let q = c.wide-p in
+    let q = c.from-p in
     let inside : a.at + l.i < length a.t.now = let r = c.requires.1.room in omega arith in
     elim c.if-lost-p-eq1.branch [
       | then-lost-p-eq1 u ↦ (omega arith, rw u.w-is (flipped a.n a.lost.now a.t.now a.at l.i q.result inside q.ensures (eq-eqb _ 1 u.if-lost-p-eq1.true) u.bit_of.result u.bit_of.ensures l.invariant.1 u.flip.ensures))

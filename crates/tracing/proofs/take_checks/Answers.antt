@@ -36,7 +36,7 @@ pub take_check-l-requires : goal.take_check-l-requires
 take_check-l-requires c =
     let s = c.loop-i in
     let p = c.requires in
-    let v = places-at _ _ _ _ p.table.0 s.i c.loop-i-test.true _ _ s.invariant.5.here c.wide-weight.ensures _ refl in
+    let v = places-at _ _ _ _ p.table.0 s.i c.loop-i-test.true _ _ s.invariant.5.here c.from-weight.ensures _ refl in
     let f = s.invariant.5.rows.few in
     let nar = few-places _ _ _ _ p.table.0 in
     let most = few-checks _ _ _ _ p.table.0 in
@@ -78,7 +78,7 @@ overflow_add-k c = let s = c.loop-i in let few = s.invariant.5.rows.few in let r
 pub overflow_add-at-in-loop-i : goal.overflow_add-at-in-loop-i
 overflow_add-at-in-loop-i c =
     let s = c.loop-i in
-    let r = check-fits _ _ _ _ c.requires.table.0 s.i c.loop-i-test.true _ _ s.invariant.5.here c.wide-weight.ensures in
+    let r = check-fits _ _ _ _ c.requires.table.0 s.i c.loop-i-test.true _ _ s.invariant.5.here c.from-weight.ensures in
     omega arith
 
 pub overflow_add-i-in-loop-i : goal.overflow_add-i-in-loop-i
@@ -92,7 +92,7 @@ loop-i-preserved c =
     let s = c.loop-i in
     let p = c.requires in
     let a = c.args in
-    let wd = c.wide-weight.ensures in
+    let wd = c.from-weight.ensures in
     let r = c.take_check-l.ensures in
     let d = told-row p.table.0 a.lost.now s.i c.loop-i-test.true s.invariant.5.here wd r.row in
     let g = told-feed p.table.0 a.lost.now s.i c.loop-i-test.true s.invariant.5.here wd s.w s.owner r.feeders in

@@ -100,8 +100,8 @@ restore_one-p-requires c =
     let found = c.lowest_one-j.ensures in
     let number = lowest-ready a.t.now a.m a.n a.s p.0 s.map s.count s.low s.invariant.1 _ found in
     let more = c.if-j-m.false in
-    let at = c.wide.ensures in
-    let weight = c.wide-w.ensures in
+    let at = c.from.ensures in
+    let weight = c.from-w.ensures in
     let one = next_one a.t.now a.m a.n a.s p.0 s.map _ number more a.starts.now p.1 _ _ at weight in
     (next-places a.t.now a.m a.n a.s p.0 s.map _ number more a.starts.now p.1 _ _ at weight, s.invariant.0.bytes, s.invariant.0.places, one)
 
@@ -113,11 +113,11 @@ offset_bounds-head-p c =
     let found = c.lowest_one-j.ensures in
     let number = lowest-ready a.t.now a.m a.n a.s p.0 s.map s.count s.low s.invariant.1 _ found in
     let more = c.if-j-m.false in
-    let at = c.wide.ensures in
-    let weight = c.wide-w.ensures in
+    let at = c.from.ensures in
+    let weight = c.from-w.ensures in
     let one = next_one a.t.now a.m a.n a.s p.0 s.map _ number more a.starts.now p.1 _ _ at weight in
     let r = c.restore_one-p.ensures in
-    let run = take c.wide-w.result (drop c.wide.result a.t.now) in
+    let run = take c.from-w.result (drop c.from.result a.t.now) in
     let in-n = lost-place-in s.map run _ _ s.invariant.0.places one r.0 in
     omega (arith, in-n, few-places a.t.now a.m a.n a.s p.0)
 
@@ -129,11 +129,11 @@ bounds-head-p c =
     let found = c.lowest_one-j.ensures in
     let number = lowest-ready a.t.now a.m a.n a.s p.0 s.map s.count s.low s.invariant.1 _ found in
     let more = c.if-j-m.false in
-    let at = c.wide.ensures in
-    let weight = c.wide-w.ensures in
+    let at = c.from.ensures in
+    let weight = c.from-w.ensures in
     let one = next_one a.t.now a.m a.n a.s p.0 s.map _ number more a.starts.now p.1 _ _ at weight in
     let r = c.restore_one-p.ensures in
-    let run = take c.wide-w.result (drop c.wide.result a.t.now) in
+    let run = take c.from-w.result (drop c.from.result a.t.now) in
     let in-n = lost-place-in s.map run _ _ s.invariant.0.places one r.0 in
     omega (arith, in-n, p.2.room)
 
@@ -145,13 +145,13 @@ walk-low-requires c =
     let found = c.lowest_one-j.ensures in
     let number = lowest-ready a.t.now a.m a.n a.s p.0 s.map s.count s.low s.invariant.1 _ found in
     let more = c.if-j-m.false in
-    let at = c.wide.ensures in
-    let weight = c.wide-w.ensures in
+    let at = c.from.ensures in
+    let weight = c.from-w.ensures in
     let one = next_one a.t.now a.m a.n a.s p.0 s.map _ number more a.starts.now p.1 _ _ at weight in
     let r = c.restore_one-p.ensures in
-    let run = take c.wide-w.result (drop c.wide.result a.t.now) in
+    let run = take c.from-w.result (drop c.from.result a.t.now) in
     let in-n = lost-place-in s.map run _ _ s.invariant.0.places one r.0 in
-    walk-ready a.t.now a.m a.n a.s p.0 s.map s.count s.low s.invariant.1 _ found a.head.now a.next.now a.owner.now p.2 _ in-n (lost-place s.map run _ one r.0) _ c.wide-in-loop-m.ensures
+    walk-ready a.t.now a.m a.n a.s p.0 s.map s.count s.low s.invariant.1 _ found a.head.now a.next.now a.owner.now p.2 _ in-n (lost-place s.map run _ one r.0) _ c.from-in-loop-m.ensures
 
 pub bounds-used-j : goal.bounds-used-j
 bounds-used-j c =
@@ -161,8 +161,8 @@ bounds-used-j c =
     let found = c.lowest_one-j.ensures in
     let number = lowest-ready a.t.now a.m a.n a.s p.0 s.map s.count s.low s.invariant.1 _ found in
     let more = c.if-j-m.false in
-    let at = c.wide.ensures in
-    let weight = c.wide-w.ensures in
+    let at = c.from.ensures in
+    let weight = c.from-w.ensures in
     let one = next_one a.t.now a.m a.n a.s p.0 s.map _ number more a.starts.now p.1 _ _ at weight in
     omega (arith, next-in a.t.now a.m a.n a.s p.0 s.map _ number more, s.invariant.3.room)
 
@@ -174,8 +174,8 @@ overflow_sub-adds c =
     let found = c.lowest_one-j.ensures in
     let number = lowest-ready a.t.now a.m a.n a.s p.0 s.map s.count s.low s.invariant.1 _ found in
     let more = c.if-j-m.false in
-    let at = c.wide.ensures in
-    let weight = c.wide-w.ensures in
+    let at = c.from.ensures in
+    let weight = c.from-w.ensures in
     let one = next_one a.t.now a.m a.n a.s p.0 s.map _ number more a.starts.now p.1 _ _ at weight in
     omega (arith, next-some a.t.now a.m a.n a.s p.0 s.map _ number more a.starts.now p.1 _ _ at weight)
 
@@ -187,8 +187,8 @@ overflow_add-adds c =
     let found = c.lowest_one-j.ensures in
     let number = lowest-ready a.t.now a.m a.n a.s p.0 s.map s.count s.low s.invariant.1 _ found in
     let more = c.if-j-m.false in
-    let at = c.wide.ensures in
-    let weight = c.wide-w.ensures in
+    let at = c.from.ensures in
+    let weight = c.from-w.ensures in
     let one = next_one a.t.now a.m a.n a.s p.0 s.map _ number more a.starts.now p.1 _ _ at weight in
     omega (
       arith,
@@ -204,8 +204,8 @@ loop-m-smaller c =
     let found = c.lowest_one-j.ensures in
     let number = lowest-ready a.t.now a.m a.n a.s p.0 s.map s.count s.low s.invariant.1 _ found in
     let more = c.if-j-m.false in
-    let at = c.wide.ensures in
-    let weight = c.wide-w.ensures in
+    let at = c.from.ensures in
+    let weight = c.from-w.ensures in
     let one = next_one a.t.now a.m a.n a.s p.0 s.map _ number more a.starts.now p.1 _ _ at weight in
     next-fewer a.t.now a.m a.n a.s p.0 s.map _ number more a.starts.now p.1 _ _ at weight a.block.now a.map.now _ _ s.invariant.0 _ _ c.restore_one-p.ensures.1
 
@@ -217,14 +217,14 @@ loop-m-preserved c =
     let found = c.lowest_one-j.ensures in
     let number = lowest-ready a.t.now a.m a.n a.s p.0 s.map s.count s.low s.invariant.1 _ found in
     let more = c.if-j-m.false in
-    let at = c.wide.ensures in
-    let weight = c.wide-w.ensures in
+    let at = c.from.ensures in
+    let weight = c.from-w.ensures in
     let one = next_one a.t.now a.m a.n a.s p.0 s.map _ number more a.starts.now p.1 _ _ at weight in
     let r = c.restore_one-p.ensures in
-    let run = take c.wide-w.result (drop c.wide.result a.t.now) in
+    let run = take c.from-w.result (drop c.from.result a.t.now) in
     let in-n = lost-place-in s.map run _ _ s.invariant.0.places one r.0 in (
       next-turn a.t.now a.m a.n a.s p.0 s.map _ number more a.starts.now p.1 _ _ at weight a.block.now a.map.now _ _ s.invariant.0 _ _ r.1,
-      tracked-turn a.t.now a.m a.n a.s p.0 s.map s.count s.low s.invariant.1 _ found a.head.now a.next.now a.owner.now p.2 _ in-n (lost-place s.map run _ one r.0) _ c.wide-in-loop-m.ensures _ _ _ c.walk-low.ensures (r.1.map_is ∙ ap (λ q. set s.map q 2) (sym r.0)),
+      tracked-turn a.t.now a.m a.n a.s p.0 s.map s.count s.low s.invariant.1 _ found a.head.now a.next.now a.owner.now p.2 _ in-n (lost-place s.map run _ one r.0) _ c.from-in-loop-m.ensures _ _ _ c.walk-low.ensures (r.1.map_is ∙ ap (λ q. set s.map q 2) (sym r.0)),
       c.walk-low.ensures.len ∙ s.invariant.2,
       spent-turn a.t.now a.m a.n a.s p.0 s.map s.block s.used s.invariant.3 _ (next-in a.t.now a.m a.n a.s p.0 s.map _ number more) run (check-is a.t.now a.m a.n a.s p.0 _ (next-in a.t.now a.m a.n a.s p.0 s.map _ number more) _ _ (at ∙ p.1.each _ (next-in a.t.now a.m a.n a.s p.0 s.map _ number more)) weight ∙ at-check a.t.now a.m a.n a.s p.0 _ (next-in a.t.now a.m a.n a.s p.0 s.map _ number more)) one (lost-place-in s.map run _ _ s.invariant.0.places one refl) (next-long a.t.now a.m a.n a.s p.0 s.map _ number more a.starts.now p.1 _ _ at weight a.block.now a.map.now _ _ s.invariant.0 _ _ r.1) _ _ (next-packets a.t.now a.m a.n a.s p.0 s.map _ number more a.starts.now p.1 _ _ at weight a.block.now a.map.now _ _ s.invariant.0 _ _ r.1) r.1.map_is,
       length-set s.used _ 1 ∙ s.invariant.4,

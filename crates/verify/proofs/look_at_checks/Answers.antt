@@ -31,7 +31,7 @@ pub sum_of_check-low-requires : goal.sum_of_check-low-requires
 sum_of_check-low-requires c =
     let p = c.requires in
     let s = c.loop-j in
-    check-in _ _ _ _ p.0 s.j c.loop-j-test.true _ _ s.invariant.1 c.wide-w.ensures _ p.1
+    check-in _ _ _ _ p.0 s.j c.loop-j-test.true _ _ s.invariant.1 c.from-w.ensures _ p.1
 
 pub returns-then-low-s : goal.returns-then-low-s
 returns-then-low-s c =
@@ -39,8 +39,8 @@ returns-then-low-s c =
     let a = c.args in
     let s = c.loop-j in
     let more = c.loop-j-test.true in
-    let is = check-is a.t.now _ _ _ p.0 s.j more _ _ s.invariant.1 c.wide-w.ensures in
-    let inside = check-in a.t.now _ _ _ p.0 s.j more _ _ s.invariant.1 c.wide-w.ensures a.block.now p.1 in
+    let is = check-is a.t.now _ _ _ p.0 s.j more _ _ s.invariant.1 c.from-w.ensures in
+    let inside = check-in a.t.now _ _ _ p.0 s.j more _ _ s.invariant.1 c.from-w.ensures a.block.now p.1 in
     let z = sum-nonzero a.t.now a.block.now a.n a.s _ _ inside _ is _ c.sum_of_check-low.ensures c.if-low-s.true in
     let y = sum-byte a.t.now a.block.now a.n a.s _ _ inside _ is _ c.sum_of_check-low.ensures in
     ap (λ k. values_of (Fails s.j k)) y
@@ -50,7 +50,7 @@ pub overflow_add-at-in-loop-j : goal.overflow_add-at-in-loop-j
 overflow_add-at-in-loop-j c =
     let p = c.requires in
     let s = c.loop-j in
-    let f = check-fits c.args.t.now _ _ _ p.0 s.j c.loop-j-test.true _ _ s.invariant.1 c.wide-w.ensures in
+    let f = check-fits c.args.t.now _ _ _ p.0 s.j c.loop-j-test.true _ _ s.invariant.1 c.from-w.ensures in
     omega (arith, f, c.well_formed)
 
 pub loop-j-preserved : goal.loop-j-preserved
@@ -59,11 +59,11 @@ loop-j-preserved c =
     let a = c.args in
     let s = c.loop-j in
     let more = c.loop-j-test.true in
-    let is = check-is a.t.now _ _ _ p.0 s.j more _ _ s.invariant.1 c.wide-w.ensures in
-    let inside = check-in a.t.now _ _ _ p.0 s.j more _ _ s.invariant.1 c.wide-w.ensures a.block.now p.1 in
+    let is = check-is a.t.now _ _ _ p.0 s.j more _ _ s.invariant.1 c.from-w.ensures in
+    let inside = check-in a.t.now _ _ _ p.0 s.j more _ _ s.invariant.1 c.from-w.ensures a.block.now p.1 in
     let z = sum-zero a.t.now a.block.now a.n a.s _ _ inside _ is _ c.sum_of_check-low.ensures c.if-low-s.false in (
       omega arith,
-      offset-more _ _ _ _ _ s.invariant.1 c.wide-w.ensures,
+      offset-more _ _ _ _ _ s.invariant.1 c.from-w.ensures,
       s.invariant.2 ∙ fault-zero every_check a.s (packets a.s a.n a.block.now) (checks a.t.now) s.j (rw (check-count _ _ _ _ p.0) more) refl z,
     )
 

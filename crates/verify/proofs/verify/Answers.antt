@@ -21,25 +21,25 @@ bounds-t-2 c = omega (arith, words c.args.t.now _ c.look_over-refusal.ensures c.
 
 pub overflow_mul-n : goal.overflow_mul-n
 overflow_mul-n c =
-    let k = looked-over c.args.t.now _ _ _ _ c.look_over-refusal.ensures c.if-refusal-ne0.false refl c.wide-n.ensures c.wide-s.ensures in
+    let k = looked-over c.args.t.now _ _ _ _ c.look_over-refusal.ensures c.if-refusal-ne0.false refl c.from-n.ensures c.from-s.ensures in
     omega (arith, block-small c.args.t.now _ _ _ k)
 
 pub returns-then-block-n : goal.returns-then-block-n
 returns-then-block-n c =
     let a = c.args in
-    let en = c.wide-n.ensures in
-    let es = c.wide-s.ensures in
+    let en = c.from-n.ensures in
+    let es = c.from-s.ensures in
     sym (verification-short a.t.now a.block.now (sym c.look_over-refusal.ensures ∙ c.if-refusal-ne0.false) (λ z. c.if-block-n.true (z ∙ sym (ap₂ ◌*◌ en es))))
 
 pub bounds-t-3 : goal.bounds-t-3
 bounds-t-3 c = omega (arith, words c.args.t.now _ c.look_over-refusal.ensures c.if-refusal-ne0.false)
 
 pub look_at_checks-requires : goal.look_at_checks-requires
-look_at_checks-requires c = (looked-over _ _ _ _ _ c.look_over-refusal.ensures c.if-refusal-ne0.false c.wide.ensures c.wide-n.ensures c.wide-s.ensures, c.if-block-n.false)
+look_at_checks-requires c = (looked-over _ _ _ _ _ c.look_over-refusal.ensures c.if-refusal-ne0.false c.from.ensures c.from-n.ensures c.from-s.ensures, c.if-block-n.false)
 
 pub returns : goal.returns
 returns c =
     let a = c.args in
-    let en = c.wide-n.ensures in
-    let es = c.wide-s.ensures in
+    let en = c.from-n.ensures in
+    let es = c.from-s.ensures in
     c.look_at_checks.ensures ∙ rw (en, es) (sym (verification-is a.t.now a.block.now (sym c.look_over-refusal.ensures ∙ c.if-refusal-ne0.false) (c.if-block-n.false ∙ ap₂ ◌*◌ en es)))

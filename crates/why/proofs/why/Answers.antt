@@ -26,4 +26,4 @@ pub why_packets-requires : goal.why_packets-requires
 why_packets-requires c =
     let a = c.args in
     let f = early-fits a.t.now a.block.now a.map.now a.work.now a.place a.reason.now (sym c.look-refusal.ensures ∙ c.if-refusal-ne0.false) in
-    record { table = passed-table f c.wide.ensures c.wide-2.ensures c.wide-3.ensures; fitting = f.full; place = (passed-below f c.wide-2.ensures, f.room) }
+    record { table = passed-table f c.from.ensures c.from-2.ensures c.from-3.ensures; fitting = f.full; place = (passed-below f c.from-2.ensures, f.room) }
