@@ -1,14 +1,19 @@
 // The table of checks.
 #![tactic(auto)]
 
-ghost use Rattle.std.specs.Prelude.{◌≡◌, ◌+◌, ◌*◌, ◌≤◌, length, take, drop};
+ghost use Rattle.std.specs.Prelude.{◌≡◌, ◌+◌, ◌*◌, ◌≤◌, length, take, drop, unwrap_or, IfOk};
 ghost use Rattle.lists.specs.Lists.{all_pass};
-ghost use Rattle.table.specs.Accepted.{Accepted};
+ghost use Rattle.refusals.specs.Refusals.{refusal_of};
 ghost use Rattle.table.specs.Checks.{Starts};
 ghost use Rattle.table.specs.LookOver.{weighed};
 ghost use Rattle.table.specs.PacketCall.{packet_refusal, part_at, packet_part, part_start};
 ghost use Rattle.table.specs.Table.{places, size, number, weights, total, cut_up, rising, beyond_limits, bad_lengths, bad_places, refusal};
 ghost use Rattle.table.specs.Table.{outside as is_outside, beyond as is_beyond};
+
+mod accepted;
+
+pub use accepted::{Located, Table};
+use refusals::Refusal;
 
 // ---- the table
 
@@ -63,21 +68,29 @@ fn beyond_limits(t: &[u16]) -> bool
     beyond(usize::from(t[1]), usize::from(t[2]), usize::from(t[3]))
 }
 
-// the sum of the m weights; 65,536, which no word is, if one is over 64
-fn weigh(t: &[u16], m: usize) -> usize
-    requires { (m ≤ 512)
-        × (4 + m ≤ length t.now) }
-    ensures { result ≡ weighed (take m (drop 4 t.now)) }
+// so many words from one on
+fn run(t: &[u16], at: usize, count: usize) -> &[u16]
+    requires { at + count ≤ length t.now }
+    ensures { result.now ≡ take count (drop at t.now) }
+{
+    let end = at + count;
+    &t[at..end]
+}
+
+// the sum of weights, if none is over 64
+fn weigh(weights: &[u16]) -> Option<usize>
+    requires { length weights.now ≤ 512 }
+    ensures { unwrap_or result 65536 ≡ weighed weights.now }
 {
     let mut sum = 0;
-    for j in 0..m {
-        let w = usize::from(t[4 + j]);
+    for w in weights {
+        let w = usize::from(*w);
         if MOST_WEIGHT < w {
-            return 65536;
+            return None;
         }
         sum += w;
     }
-    sum
+    Some(sum)
 }
 
 // cause 3
@@ -94,21 +107,22 @@ fn bad_lengths(t: &[u16]) -> bool
     if MOST_ONES < ones {
         return true;
     }
-    if ones != weigh(t, m) {
+    let Some(sum) = weigh(run(t, 4, m)) else {
+        return true;
+    };
+    if ones != sum {
         return true;
     }
     t.len() != 5 + m + ones
 }
 
-// the weight places from at on ascend below n: the last tells whether all are below
-fn rises(t: &[u16], at: usize, weight: usize, n: usize) -> bool
-    requires { at + weight ≤ length t.now }
-    ensures { result ≡ rising n 0 (take weight (drop at t.now)) }
+// places ascend below n: the last tells whether all are below
+fn rises(places: &[u16], n: usize) -> bool
+    ensures { result ≡ rising n 0 places.now }
 {
-    let end = at + weight;
     let mut low = 0;
-    for i in at..end {
-        let p = usize::from(t[i]);
+    for p in places {
+        let p = usize::from(*p);
         if p < low {
             return false;
         }
@@ -125,7 +139,7 @@ fn all_rise(t: &[u16], m: usize, n: usize) -> bool
     let mut at = 5 + m;
     for j in 0..m {
         let w = usize::from(t[4 + j]);
-        if !rises(t, at, w, n) {
+        if !rises(run(t, at, w), n) {
             return false;
         }
         at += w;
@@ -143,58 +157,73 @@ fn bad_places(t: &[u16]) -> bool
     !all_rise(t, m, n)
 }
 
-// the number of the first cause that refuses the table, 0 for none
-pub fn look_over(t: &[u16]) -> u32
-    ensures { result ≡ refusal t.now }
+// the first cause that refuses the table, if there is one
+pub fn look_over(t: &[u16]) -> Result<(), Refusal>
+    ensures { refusal_of result ≡ refusal t.now }
 {
     if t.len() < 5 {
-        return 1;
+        return Err(Refusal::ShortTable);
     }
     if beyond_limits(t) {
-        return 2;
+        return Err(Refusal::Limits);
     }
     if bad_lengths(t) {
-        return 3;
+        return Err(Refusal::Lengths);
     }
     if bad_places(t) {
-        return 4;
+        return Err(Refusal::Places);
     }
-    0
+    Ok(())
 }
 
-// where the places of each of the m checks start
-pub fn fill_starts(t: &[u16], m: usize, starts: &mut [u16])
-    requires table { Accepted t.now m (places t.now) (size t.now) }
-    requires room { m ≤ length starts.old }
-    ensures { Starts t.now m starts.new }
+impl<'a> Table<'a> {
+    // the table of some words, unless a cause refuses them
+    pub fn new(words: &'a [u16]) -> Result<Self, Refusal>
+        ensures refusal { refusal_of result ≡ refusal words.now }
+        ensures words { IfOk result (λ t. t.words ≡ words.entry) }
+    {
+        look_over(words)?;
+        Ok(Table {
+            words,
+            checks: usize::from(words[3]),
+            places: usize::from(words[1]),
+            size: usize::from(words[2]),
+        })
+    }
+}
+
+// where the places of each check start
+pub fn fill_starts(table: &Table, starts: &mut [u16])
+    requires { table.now.checks ≤ length starts.old }
+    ensures { Starts table.now.words.now table.now.checks starts.new }
 {
-    let mut at = 5 + m;
-    for j in 0..m {
+    let mut at = 5 + table.checks;
+    for j in 0..table.checks {
         starts[j] = at as u16;
-        at += usize::from(t[4 + j]);
+        at += usize::from(table.words[4 + j]);
     }
 }
 
 // ---- the packet call
 
-// 2, 5 or 10: what refuses a packet call over a block of len bytes, 0 for nothing
-pub fn packet_refusal(n: usize, s: usize, place: usize, len: usize) -> u32
-    ensures { result ≡ packet_refusal n s place len }
+// what refuses a packet call over a block of len bytes, if anything does
+pub fn look_at_place(n: usize, s: usize, place: usize, len: usize) -> Result<(), Refusal>
+    ensures { refusal_of result ≡ packet_refusal n s place len }
 {
     if outside(MOST_PLACES, n) {
-        return 2;
+        return Err(Refusal::Limits);
     }
     if outside(MOST_BYTES, s) {
-        return 2;
+        return Err(Refusal::Limits);
     }
     let bytes = n * s;
     if len != bytes {
-        return 5;
+        return Err(Refusal::Buffer);
     }
     if n <= place {
-        return 10;
+        return Err(Refusal::NoPlace);
     }
-    0
+    Ok(())
 }
 
 // the packet at a place
@@ -213,32 +242,26 @@ pub fn packet_part(n: usize, s: usize, place: usize, block: &[u8]) -> &[u8]
     ensures { (result.now ≡ packet_part n s place block.now)
         × (result.ref_ptr ≡ (block.entry.ref_ptr.0, part_start n s place (length block.now) + block.entry.ref_ptr.1)) }
 {
-    if packet_refusal(n, s, place, block.len()) == 0 {
-        return part(block, place, s);
+    match look_at_place(n, s, place, block.len()) {
+        Ok(()) => part(block, place, s),
+        Err(_) => &block[..0],
     }
-    &block[..0]
 }
 
-// what refuses a packet call over a block
-fn packet_number(n: usize, s: usize, place: usize, block: &[u8]) -> u32
-    ensures { result ≡ packet_refusal n s place (length block.now) }
-{
-    packet_refusal(n, s, place, block.len())
-}
-
-// the answer of a packet call: 0 and the packet, or the number of a refusal and the empty part
+// the answer of a packet call: the packet, or a refusal and the empty part
 #[derive(Drop)]
 pub struct Packet<'a> {
-    pub refusal: u32,
+    pub look: Result<(), Refusal>,
     pub part: &'a [u8],
 }
 
 pub fn packet_call<'a>(n: usize, s: usize, place: usize, block: &'a [u8]) -> Packet<'a>
-    ensures { (result.refusal ≡ packet_refusal n s place (length block.now))
+    ensures { (refusal_of result.look ≡ packet_refusal n s place (length block.now))
         × (result.part.now ≡ packet_part n s place block.now)
         × (result.part.ref_ptr ≡ (block.entry.ref_ptr.0, part_start n s place (length block.now) + block.entry.ref_ptr.1)) }
 {
-    let part = packet_part(n, s, place, block);
-    let refusal = packet_number(n, s, place, block);
-    Packet { refusal, part }
+    Packet {
+        look: look_at_place(n, s, place, block.len()),
+        part: packet_part(n, s, place, block),
+    }
 }

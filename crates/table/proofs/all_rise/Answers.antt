@@ -15,8 +15,8 @@ loop-j-init c =
     let q = ap total p in
     (omega arith, omega arith, ap (λ ws. passes a.n ws (drop (5 + a.m) a.t.now)) (sym p))
 
-pub rises-requires : goal.rises-requires
-rises-requires c =
+pub run-requires : goal.run-requires
+run-requires c =
     let a = c.args in
     let s = c.loop-j in
     let l = c.loop-j-test.true in
@@ -33,7 +33,7 @@ returns-then-not-rises c =
     let e = c.from-w.ensures in
     let p = part-cons a.t.now (4 + s.j) (4 + a.m) (4 + (s.j + 1)) (omega arith) (omega arith) (omega arith) in
     let q = ap total p in
-    pass-not _ _ _ _ _ _ _ e p c.rises.ensures (not-true _ c.if-not-rises.true-raw) ∙ sym s.invariant.2
+    pass-not _ _ _ _ _ _ _ e p (rw c.run.ensures at c.rises.ensures) (not-true _ c.if-not-rises.true-raw) ∙ sym s.invariant.2
 
 pub overflow_add-at-in-loop-j : goal.overflow_add-at-in-loop-j
 overflow_add-at-in-loop-j c =
@@ -53,7 +53,7 @@ loop-j-preserved c =
     let e = c.from-w.ensures in
     let p = part-cons a.t.now (4 + s.j) (4 + a.m) (4 + (s.j + 1)) (omega arith) (omega arith) (omega arith) in
     let q = ap total p in
-    (omega arith, omega arith, s.invariant.2 ∙ pass_on _ _ _ _ _ _ _ _ e p c.rises.ensures (not-false _ c.if-not-rises.false-raw))
+    (omega arith, omega arith, s.invariant.2 ∙ pass_on _ _ _ _ _ _ _ _ e p (rw c.run.ensures at c.rises.ensures) (not-false _ c.if-not-rises.false-raw))
 
 pub returns : goal.returns
 returns c =

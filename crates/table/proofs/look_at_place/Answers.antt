@@ -1,7 +1,7 @@
 -- `packet_refusal` meets its contract: n times s is formed once n and s are within their limits.
 use native.Mathlib.Omega.{arith}
 use Rattle.table.proofs.Calling.{product, refuse-places, refuse-bytes, refuse-length, refuse-place, refuse-none}
-use Rattle.table.proofs.packet_refusal.Goals as goal
+use Rattle.table.proofs.look_at_place.Goals as goal
 
 pub returns-then-outside : goal.returns-then-outside
 returns-then-outside c = refuse-places c.args.n c.args.s c.args.place c.args.len _ c.outside.ensures c.if-outside.true
