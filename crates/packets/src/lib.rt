@@ -12,9 +12,7 @@ pub fn clear(b: &mut [u8], at: usize, s: usize)
     requires { at + s ≤ length b.old }
     ensures { b.new ≡ written b.old at (replicate s 0) }
 {
-    for i in 0..s {
-        b[at + i] = 0;
-    }
+    b[at..at + s].fill(0);
 }
 
 // t is written into b at at.
@@ -22,9 +20,7 @@ fn store(b: &mut [u8], at: usize, t: &[u8])
     requires { at + length t.now ≤ length b.old }
     ensures { b.new ≡ written b.old at t.now }
 {
-    for i in 0..t.len() {
-        b[at + i] = t[i];
-    }
+    b[at..at + t.len()].copy_from_slice(t);
 }
 
 // t is added into b at at.
@@ -32,8 +28,8 @@ fn mix(b: &mut [u8], at: usize, t: &[u8])
     requires { at + length t.now ≤ length b.old }
     ensures { b.new ≡ mixed b.old at t.now }
 {
-    for i in 0..t.len() {
-        b[at + i] = b[at + i] ^ t[i];
+    for (i, x) in t.iter().enumerate() {
+        b[at + i] ^= *x;
     }
 }
 

@@ -1,5 +1,5 @@
 -- `packets::mix` meets its contract: after i turns, i bytes are added.
-use Prim.Native.Nat.{◌-◌, ◌≤◌}
+use Prim.Native.Nat.{◌≤◌}
 use lib.ListN.{length}
 use Rattle.lists.specs.Buffers.{Patched}
 use Rattle.packets.proofs.Buffers.{sum_at}
@@ -7,6 +7,3 @@ use Rattle.packets.proofs.mix.Given as goal
 
 abbrev pub invariant-loop-i : goal.invariant-loop-i
 invariant-loop-i l = (l.i ≤ length l.t) × Patched l.initial.b l.at l.i (sum_at l.initial.b l.at l.t) l.b
-
-abbrev pub decreases-loop-i : goal.decreases-loop-i
-decreases-loop-i l = length l.t - l.i
