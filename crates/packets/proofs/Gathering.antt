@@ -6,7 +6,8 @@ use mathlib.Core.List.{List, [], ◌∷◌, ◌++◌}
 use Prim.Native.Nat.{ℕ, ◌+◌, ◌*◌, ◌-◌, ◌<◌, ◌≤◌}
 use native.Mathlib.Omega.{arith}
 use lib.ListN.{length, get_or, set, take, drop, replicate, length-drop}
-use lib.Seq.{take_all, get_or-drop, ext_get_or}
+use lib.Seq.{take_all, take-suc, get_or-drop, ext_get_or}
+use native.Mathlib.Numerals.{add-one}
 use Rattle.lists.specs.Tests.{side}
 use Rattle.gf2.specs.Gf2.{xor_group, add, sum_over}
 use Rattle.gf2.specs.RowValue.{sum-ext-in}
@@ -14,45 +15,48 @@ use Rattle.lists.specs.ListLaws.{all_filter, all_map}
 use Rattle.lists.specs.Lists.{has, minus, written, All}
 use Rattle.lists.specs.Buffers.{Patched, patched_same, written-bytes, part_length, get_d_part}
 use Rattle.table.specs.BufferLaws.{place-fits, set-written}
-use Rattle.table.specs.Checks.{CheckIn}
 use Rattle.table.specs.PacketLaws.{packets-length, packets-sized, packets-joined, packet-at, view, sum_view}
 use Rattle.table.specs.Packets.{packets, joined, packet_sum, mixed}
-use Rattle.table.specs.SumLaws.{check-below}
 use Rattle.table.specs.GatherLaws.{Gathered, gathered-as, from-zeros, last-part}
 use Rattle.packets.proofs.Buffers.{more}
 use Rattle.packets.proofs.Others.{minus-same, minus-other, others-length}
-use Rattle.packets.specs.PlaceLaws.{one_more, place-more}
+use Rattle.packets.specs.Given.{Given, sum_without}
+use Rattle.packets.specs.GivenLaws.{as-check, here}
+use Rattle.packets.specs.PlaceLaws.{place-more}
 
-module _ (t : List ℕ) (at weight : ℕ) (b : List ℕ) (n s skip : ℕ) (ok : CheckIn t at weight b n s) where
-  -- the sum over the other ones of the first m places
-  abbrev pub sum_of : ℕ → List ℕ
-  sum_of m = packet_sum s (packets s n b) (minus (take m (drop at t)) (skip ∷ []))
+module _ (places b : List ℕ) (n s skip : ℕ) (ok : Given places b n s) where
+  abbrev pub others : List ℕ
+  others = sum_without places b n s skip
 
-  sum-long : length (sum_of weight) ≡ s
-  sum-long = others-length t at weight b n s skip ok weight (omega arith)
+  sum-long : length others ≡ s
+  sum-long = others-length places b n s skip ok
+
+  -- one place more
+  one_more : (m : ℕ) → m < length places → take (m + 1) places ≡ take m places ++ (get_or places m 0 ∷ [])
+  one_more m h = rw add-one (take-suc places m 0 h)
 
   -- skip itself
-  pub place_same : (off : ℕ) (a₀ a a' : List ℕ) (m q : ℕ) → m < weight → q ≡ get_or t (at + m) 0 → q ≡ skip → Gathered s (packets s n b) off (minus (take m (drop at t)) (skip ∷ [])) a₀ a
-      → a' ≡ a → Gathered s (packets s n b) off (minus (take (m + 1) (drop at t)) (skip ∷ [])) a₀ a'
+  pub place_same : (off : ℕ) (a₀ a a' : List ℕ) (m q : ℕ) → m < length places → q ≡ get_or places m 0 → q ≡ skip → Gathered s (packets s n b) off (minus (take m places) (skip ∷ [])) a₀ a
+      → a' ≡ a → Gathered s (packets s n b) off (minus (take (m + 1) places) (skip ∷ [])) a₀ a'
   place_same off a₀ a a' m q h i same g e = gathered-as s (packets s n b) off (sym
-      (ap (λ c. minus c (skip ∷ [])) (one_more t at weight b n s off ok m h ∙ ap (λ v. take m (drop at t) ++ (v ∷ [])) (sym i ∙ same)) ∙ minus-same (take m (drop at t)) skip)) e g
+      (ap (λ c. minus c (skip ∷ [])) (one_more m h ∙ ap (λ v. take m places ++ (v ∷ [])) (sym i ∙ same)) ∙ minus-same (take m places) skip)) e g
 
   -- another place
-  pub place_other : (off : ℕ) (a₀ a r r' : List ℕ) (m q : ℕ) → off + length a₀ ≤ s → m < weight → q ≡ get_or t (at + m) 0 → (q ≡ skip → ⊥)
-      → Gathered s (packets s n b) off (minus (take m (drop at t)) (skip ∷ [])) a₀ a → r ≡ mixed a 0 (take (length a₀) (drop (q * s + off) b)) → r' ≡ r
-      → Gathered s (packets s n b) off (minus (take (m + 1) (drop at t)) (skip ∷ [])) a₀ r'
+  pub place_other : (off : ℕ) (a₀ a r r' : List ℕ) (m q : ℕ) → off + length a₀ ≤ s → m < length places → q ≡ get_or places m 0 → (q ≡ skip → ⊥)
+      → Gathered s (packets s n b) off (minus (take m places) (skip ∷ [])) a₀ a → r ≡ mixed a 0 (take (length a₀) (drop (q * s + off) b)) → r' ≡ r
+      → Gathered s (packets s n b) off (minus (take (m + 1) places) (skip ∷ [])) a₀ r'
   place_other off a₀ a r r' m q fits h e other g f same = gathered-as s (packets s n b) off (sym
-      (ap (λ c. minus c (skip ∷ [])) (one_more t at weight b n s off ok m h ∙ ap (λ v. take m (drop at t) ++ (v ∷ [])) (sym e)) ∙ minus-other (take m (drop at t)) skip q other))
-      same (place-more t at weight b n s off ok (minus (take m (drop at t)) (skip ∷ [])) a₀ a r m q fits h e g f)
+      (ap (λ c. minus c (skip ∷ [])) (one_more m h ∙ ap (λ v. take m places ++ (v ∷ [])) (sym e)) ∙ minus-other (take m places) skip q other))
+      same (place-more places 0 (length places) b n s off (as-check places b n s ok) (minus (take m places) (skip ∷ [])) a₀ a r m q fits h (here places m q e) g f)
 
   -- 64 bytes of the sum, and the last ones
-  pub others-chunk : (off : ℕ) (a : List ℕ) → off + 64 ≤ s → a ≡ add xor_group (replicate 64 0) (take 64 (drop off (sum_of weight))) → a ≡ take 64 (drop off (sum_of weight))
-  others-chunk off a fits g = from-zeros s (packets s n b) off (minus (take weight (drop at t)) (skip ∷ [])) sum-long 64 _ a refl fits g
+  pub others-chunk : (off : ℕ) (a : List ℕ) → off + 64 ≤ s → a ≡ add xor_group (replicate 64 0) (take 64 (drop off others)) → a ≡ take 64 (drop off others)
+  others-chunk off a fits g = from-zeros s (packets s n b) off (minus (places) (skip ∷ [])) sum-long 64 _ a refl fits g
 
   pub others-rest : (off : ℕ) → off ≤ s → (m : ℕ) (a : List ℕ) → s - off ≤ m → length a ≡ length (take (s - off) (replicate {A = ℕ} m 0))
-      → a ≡ add xor_group (take (s - off) (replicate m 0)) (take (length (take (s - off) (replicate {A = ℕ} m 0))) (drop off (sum_of weight)))
-      → take (s - off) (a ++ drop (s - off) (replicate m 0)) ≡ drop off (sum_of weight)
-  others-rest off le m a fits kept g = last-part s (packets s n b) off (minus (take weight (drop at t)) (skip ∷ [])) sum-long le m a fits kept g
+      → a ≡ add xor_group (take (s - off) (replicate m 0)) (take (length (take (s - off) (replicate {A = ℕ} m 0))) (drop off others))
+      → take (s - off) (a ++ drop (s - off) (replicate m 0)) ≡ drop off others
+  others-rest off le m a fits kept g = last-part s (packets s n b) off (minus (places) (skip ∷ [])) sum-long le m a fits kept g
 
   -- ---- writing
   module _ (p : ℕ) (in-n : p < n) where
@@ -60,7 +64,7 @@ module _ (t : List ℕ) (at weight : ℕ) (b : List ℕ) (n s skip : ℕ) (ok : 
     fits-p = omega (arith, place-fits p n s in-n, ok.bytes)
 
     pub bytes_of : ℕ → ℕ
-    bytes_of k = get_or (sum_of weight) k 0
+    bytes_of k = get_or others k 0
 
     -- a block in which only the first i bytes of the packet at p differ
     module _ (i : ℕ) (f : ℕ → ℕ) (e : List ℕ) (le : i ≤ s) (h : Patched b (p * s) i f e) where
@@ -77,18 +81,18 @@ module _ (t : List ℕ) (at weight : ℕ) (b : List ℕ) (n s skip : ℕ) (ok : 
       view-at x j q l hi = ap (λ v. get_or v j 0) (packet-at s n x q l) ∙ get_d_part x (q * s) s j hi
 
       summed : List ℕ
-      summed = minus (take weight (drop at t)) (skip ∷ [])
+      summed = minus (places) (skip ∷ [])
 
       low : All (λ q. q < n) summed
       unfolding summed
-      low = all_filter (λ q. not (has q (skip ∷ []))) (check-below t at weight b n s ok)
+      low = all_filter (λ q. not (has q (skip ∷ []))) ok.below
 
       view_of : (x : List ℕ) → length x ≡ n * s
           → (length (packet_sum s (packets s n x) summed) ≡ s) × ((j : ℕ) → get_or (packet_sum s (packets s n x) summed) j 0 ≡ sum_over xor_group (view (packets s n x) j) summed)
       view_of x l = sum_view s (packets-sized s n x l) {c = summed} (rw (packets-length s n x) low)
 
       -- so is the sum from byte i on
-      pub same_sum : drop i (packet_sum s (packets s n e) (minus (take weight (drop at t)) (skip ∷ []))) ≡ drop i (sum_of weight)
+      pub same_sum : drop i (packet_sum s (packets s n e) (minus (places) (skip ∷ []))) ≡ drop i others
       unfolding summed
       same_sum =
           let x = view_of e (h.len ∙ ok.bytes) in
@@ -97,30 +101,30 @@ module _ (t : List ℕ) (at weight : ℕ) (b : List ℕ) (n s skip : ℕ) (ok : 
           let hi : i + k < s = omega (arith, x.0, simp length-drop at l) in
           get_or-drop i (packet_sum s (packets s n e) summed) k 0 ∙ x.1 (i + k)
           ∙ sum-ext-in xor_group (all_map (λ q u. view-at e (i + k) q u hi ∙ byte-same (i + k) q (omega arith) hi ∙ sym (view-at b (i + k) q u hi)) low)
-          ∙ sym (y.1 (i + k)) ∙ sym (get_or-drop i (sum_of weight) k 0))
+          ∙ sym (y.1 (i + k)) ∙ sym (get_or-drop i others k 0))
 
     -- k bytes more
     pub piece-more : (i k : ℕ) (e r : List ℕ) → i + k ≤ s → Patched b (p * s) i bytes_of e
-        → r ≡ written e (p * s + i) (take k (drop i (packet_sum s (packets s n e) (minus (take weight (drop at t)) (skip ∷ [])))))
+        → r ≡ written e (p * s + i) (take k (drop i (packet_sum s (packets s n e) (minus (places) (skip ∷ [])))))
         → Patched b (p * s) (i + k) bytes_of r
     unfolding bytes_of
     piece-more i k e r fits h f =
-        let y = take k (drop i (sum_of weight)) in
-        let long : length y ≡ k = part_length (sum_of weight) i k (omega (arith, sum-long)) in
+        let y = take k (drop i others) in
+        let long : length y ≡ k = part_length others i k (omega (arith, sum-long)) in
         let g : r ≡ written e (p * s + i) y = f ∙ ap (λ x. written e (p * s + i) (take k x)) (same_sum i bytes_of e (omega arith) h) in
-        rw g (more h (written-bytes e (p * s + i) y k long (omega (arith, h.len, fits-p))) (λ j l. get_d_part (sum_of weight) i k j l))
+        rw g (more h (written-bytes e (p * s + i) y k long (omega (arith, h.len, fits-p))) (λ j l. get_d_part others i k j l))
 
     -- all of them
     pub all-written : (i : ℕ) (e r : List ℕ) → i ≤ s → Patched b (p * s) i bytes_of e
-        → r ≡ written e (p * s + i) (drop i (packet_sum s (packets s n e) (minus (take weight (drop at t)) (skip ∷ []))))
-        → r ≡ joined (set (packets s n b) p (sum_of weight))
+        → r ≡ written e (p * s + i) (drop i (packet_sum s (packets s n e) (minus (places) (skip ∷ []))))
+        → r ≡ joined (set (packets s n b) p others)
     unfolding bytes_of
     all-written i e r le h f =
-        let x = packet_sum s (packets s n e) (minus (take weight (drop at t)) (skip ∷ [])) in
-        let same : drop i x ≡ drop i (sum_of weight) = same_sum i bytes_of e le h in
-        let whole : take (s - i) (drop i x) ≡ drop i x = take_all (s - i) (drop i x) (omega (arith, length-drop i (sum_of weight), ap length same, sum-long)) in
+        let x = packet_sum s (packets s n e) (minus (places) (skip ∷ [])) in
+        let same : drop i x ≡ drop i others = same_sum i bytes_of e le h in
+        let whole : take (s - i) (drop i x) ≡ drop i x = take_all (s - i) (drop i x) (omega (arith, length-drop i others, ap length same, sum-long)) in
         let m = piece-more i (s - i) e r (omega arith) h (f ∙ ap (written e (p * s + i)) (sym whole)) in
         let q : i + (s - i) ≡ s = omega arith in
-        patched_same (λ k l. refl) (rw q at m) (written-bytes b (p * s) (sum_of weight) s sum-long fits-p)
-        ∙ ap (λ y. written y (p * s) (sum_of weight)) (sym (packets-joined s n b ok.bytes))
-        ∙ sym (set-written s (packets-sized s n b ok.bytes) p (sum_of weight) (rw (packets-length s n b) in-n) sum-long)
+        patched_same (λ k l. refl) (rw q at m) (written-bytes b (p * s) others s sum-long fits-p)
+        ∙ ap (λ y. written y (p * s) others) (sym (packets-joined s n b ok.bytes))
+        ∙ sym (set-written s (packets-sized s n b ok.bytes) p others (rw (packets-length s n b) in-n) sum-long)

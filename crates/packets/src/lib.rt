@@ -3,7 +3,7 @@
 
 ghost use Rattle.std.specs.Prelude.{◌≡◌, ◌+◌, ◌*◌, ◌≤◌, ◌<◌, length, set, take, drop, replicate};
 ghost use Rattle.gf2.specs.Gf2.{xor_group, add as add_vectors};
-ghost use Rattle.table.specs.Checks.{CheckIn, others_sum};
+ghost use Rattle.packets.specs.Given.{Given, sum_without};
 ghost use Rattle.table.specs.Packets.{packets, joined, mixed};
 ghost use Rattle.lists.specs.Lists.{written};
 
@@ -53,27 +53,25 @@ pub fn add_from(b: &mut [u8], to: usize, src: &[u8], from: usize, s: usize)
     mix(b, to, &src[from..end]);
 }
 
-// The bytes of the packets at a list's places other than skip, from off on, as many as acc has, are added into acc.
+// The bytes of the packets at some places other than skip, from off on, as many as acc has, are added into acc.
 fn gather_others(
     acc: &mut [u8],
-    t: &[u16],
-    at: usize,
-    weight: usize,
+    places: &[u16],
     block: &[u8],
     n: usize,
     s: usize,
     skip: usize,
     off: usize,
 )
-    requires { CheckIn t.now at weight block.now n s
+    requires { Given places.now block.now n s
         × (off + length acc.old ≤ s) }
     ensures { acc.new
         ≡ add_vectors xor_group acc.old
-        (take (length acc.old) (drop off (others_sum t.now at weight block.now n s skip))) }
+        (take (length acc.old) (drop off (sum_without places.now block.now n s skip))) }
 {
     let k = acc.len();
-    for m in 0..weight {
-        let q = usize::from(t[at + m]);
+    for q in places {
+        let q = usize::from(*q);
         if q != skip {
             add_from(acc, 0, block, q * s + off, k);
         }
@@ -82,9 +80,7 @@ fn gather_others(
 
 // 64 bytes of the packet at place p, from off on, become those of the sum at the places other than skip.
 fn restore_chunk(
-    t: &[u16],
-    at: usize,
-    weight: usize,
+    places: &[u16],
     block: &mut [u8],
     n: usize,
     s: usize,
@@ -92,21 +88,19 @@ fn restore_chunk(
     p: usize,
     off: usize,
 )
-    requires { CheckIn t.now at weight block.old n s
+    requires { Given places.now block.old n s
         × ((p < n) × (off + 64 ≤ s)) }
     ensures { block.new
-        ≡ written block.old (p * s + off) (take 64 (drop off (others_sum t.now at weight block.old n s skip))) }
+        ≡ written block.old (p * s + off) (take 64 (drop off (sum_without places.now block.old n s skip))) }
 {
     let mut acc = [0u8; 64];
-    gather_others(&mut acc, t, at, weight, block, n, s, skip, off);
+    gather_others(&mut acc, places, block, n, s, skip, off);
     store(block, p * s + off, &acc);
 }
 
 // The same for fewer than 64, the last.
 fn restore_rest(
-    t: &[u16],
-    at: usize,
-    weight: usize,
+    places: &[u16],
     block: &mut [u8],
     n: usize,
     s: usize,
@@ -114,37 +108,28 @@ fn restore_rest(
     p: usize,
     off: usize,
 )
-    requires { CheckIn t.now at weight block.old n s
+    requires { Given places.now block.old n s
         × ((p < n) × ((off ≤ s) × (s < off + 64))) }
     ensures { block.new
-        ≡ written block.old (p * s + off) (drop off (others_sum t.now at weight block.old n s skip)) }
+        ≡ written block.old (p * s + off) (drop off (sum_without places.now block.old n s skip)) }
 {
     let mut acc = [0u8; 64];
     let k = s - off;
-    gather_others(&mut acc[..k], t, at, weight, block, n, s, skip, off);
+    gather_others(&mut acc[..k], places, block, n, s, skip, off);
     store(block, p * s + off, &acc[..k]);
 }
 
-// The packet at place p becomes the sum of the packets at a list's places other than skip: at the check's others, where skip is p.
-pub fn restore(
-    t: &[u16],
-    at: usize,
-    weight: usize,
-    block: &mut [u8],
-    n: usize,
-    s: usize,
-    skip: usize,
-    p: usize,
-)
-    requires { CheckIn t.now at weight block.old n s
+// The packet at place p becomes the sum of the packets at some places other than skip: at the check's others, where skip is p.
+pub fn restore(places: &[u16], block: &mut [u8], n: usize, s: usize, skip: usize, p: usize)
+    requires { Given places.now block.old n s
         × (p < n) }
     ensures { block.new
-        ≡ joined (set (packets s n block.old) p (others_sum t.now at weight block.old n s skip)) }
+        ≡ joined (set (packets s n block.old) p (sum_without places.now block.old n s skip)) }
 {
     let mut i = 0;
     while 64 <= s - i {
-        restore_chunk(t, at, weight, block, n, s, skip, p, i);
+        restore_chunk(places, block, n, s, skip, p, i);
         i += 64;
     }
-    restore_rest(t, at, weight, block, n, s, skip, p, i);
+    restore_rest(places, block, n, s, skip, p, i);
 }

@@ -25,4 +25,4 @@ shape_of-block c = c.store.auto.b
 pub returns : goal.returns
 returns c =
     c.store.ensures
-    ∙ ap (written c.args.block.now (c.args.p * c.args.s + c.args.off)) (others-chunk _ _ _ _ _ _ _ c.requires.0 _ _ c.requires.1.1 c.gather_others.ensures)
+    ∙ ap (written c.args.block.now (c.args.p * c.args.s + c.args.off)) (others-chunk _ _ _ _ _ c.requires.0 _ _ c.requires.1.1 c.gather_others.ensures)

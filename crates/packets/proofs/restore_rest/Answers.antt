@@ -37,4 +37,4 @@ pub returns : goal.returns
 returns c =
     let g = c.gather_others in
     c.store.ensures
-    ∙ ap (written c.args.block.now (c.args.p * c.args.s + c.args.off)) (others-rest _ _ _ _ _ _ _ c.requires.0 _ (omega arith) 64 _ (omega arith) g.auto.acc g.ensures)
+    ∙ ap (written c.args.block.now (c.args.p * c.args.s + c.args.off)) (others-rest _ _ _ _ _ c.requires.0 _ (omega arith) 64 _ (omega arith) g.auto.acc g.ensures)
