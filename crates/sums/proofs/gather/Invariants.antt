@@ -1,12 +1,8 @@
--- `sums::gather` meets its contract: after m turns, the parts of the first m places are added.
-use Prim.Native.Nat.{◌-◌, ◌≤◌}
+-- `sums::gather` meets its contract: after some turns, the parts of as many places are added.
 use Rattle.table.specs.GatherLaws.{Gathered}
 use Rattle.table.specs.Packets.{packets}
-use lib.ListN.{take, drop}
+use lib.ListN.{take}
 use Rattle.sums.proofs.gather.Given as goal
 
-abbrev pub invariant-loop-m : goal.invariant-loop-m
-invariant-loop-m l = (l.m ≤ l.weight) × Gathered l.s (packets l.s l.n l.block) l.off (take l.m (drop l.at l.t)) l.initial.acc l.acc
-
-abbrev pub decreases-loop-m : goal.decreases-loop-m
-decreases-loop-m l = l.weight - l.m
+abbrev pub invariant-loop-p : goal.invariant-loop-p
+invariant-loop-p l = Gathered l.s (packets l.s l.n l.block) l.off (take l.p-index l.places) l.initial.acc l.acc

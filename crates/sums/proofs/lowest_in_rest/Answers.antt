@@ -1,8 +1,6 @@
 -- `sums::lowest_in_rest` meets its contract: what was gathered from zeros is the end of the sum.
 use Prim.Native.Nat.{◌-◌}
-use mathlib.Core.Path.{ap, ◌∙◌}
 use native.Mathlib.Omega.{arith}
-use Rattle.table.specs.Packets.{lowest_nonzero}
 use lib.ListN.{replicate}
 use Rattle.table.specs.GatherLaws.{first-length, back-room, back-length}
 use Rattle.sums.proofs.Sums.{rest_of}
@@ -17,8 +15,10 @@ gather-requires c = (c.requires.0, omega (arith, first-length (c.args.s - c.args
 pub slice_bounds-acc-end-2 : goal.slice_bounds-acc-end-2
 slice_bounds-acc-end-2 c = back-room (c.args.s - c.args.off) (replicate 64 0) (omega arith) c.gather.new.acc c.gather.auto.acc
 
-pub slice_bounds-lowest_of-end : goal.slice_bounds-lowest_of-end
-slice_bounds-lowest_of-end c = back-length (c.args.s - c.args.off) (replicate 64 0) (omega arith) c.gather.new.acc c.gather.auto.acc
+pub slice_bounds-lowest-end : goal.slice_bounds-lowest-end
+slice_bounds-lowest-end c = back-length (c.args.s - c.args.off) (replicate 64 0) (omega arith) c.gather.new.acc c.gather.auto.acc
 
 pub returns : goal.returns
-returns c = c.lowest_of.ensures ∙ ap lowest_nonzero (rest_of _ _ _ _ _ _ _ c.requires.0 (omega arith) 64 _ (omega arith) c.gather.auto.acc c.gather.ensures)
+returns c =
+    let e = rest_of _ _ _ _ _ c.requires.0 (omega arith) 64 _ (omega arith) c.gather.auto.acc c.gather.ensures in
+    rw e at c.lowest.ensures

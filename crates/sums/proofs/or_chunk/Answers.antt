@@ -14,4 +14,4 @@ shape_of-o c = c.or_into.auto.o
 
 pub returns : goal.returns
 returns c = let g = c.gather in
-    or-piece _ _ _ _ g.auto.acc (chunk_of _ _ _ _ _ _ _ c.requires.0 _ c.requires.1.0 g.ensures) c.or_into.ensures
+    or-piece _ _ _ _ g.auto.acc (chunk_of _ _ _ _ _ c.requires.0 _ c.requires.1.0 g.ensures) c.or_into.ensures

@@ -1,13 +1,11 @@
 -- `sums::vanishes` meets its contract: where all bytes or-ed are zero, the bytes of the sum passed are.
-use Prim.Native.Nat.{◌-◌}
 use mathlib.Core.Path.{refl, sym, ◌∙◌}
 use mathlib.Core.Bool.{false≢true}
 use native.Mathlib.Omega.{arith}
-use borrow.Author.Tests.{eqb-true}
-use lib.ListN.{take, drop}
-use Rattle.table.specs.Packets.{packets, packet_sum}
-use Rattle.table.specs.SumLaws.{sum-length}
-use Rattle.sums.proofs.Sums.{passed}
+use lib.ListN.{drop, length-drop}
+use Rattle.packets.specs.Given.{sum_at}
+use Rattle.packets.specs.GivenLaws.{sum-long}
+use Rattle.sums.proofs.Sums.{passed, none-lowest}
 use Rattle.sums.proofs.vanishes.Goals as goal
 
 pub loop-i-init : goal.loop-i-init
@@ -27,7 +25,7 @@ loop-i-preserved c =
         c.or_chunk.auto.o ∙ l.invariant.1.0,
         λ e.
             let r = c.or_chunk.ensures e in
-            passed (packet_sum c.args.s (packets c.args.s c.args.n c.args.block.now) (take c.args.weight (drop c.args.at c.args.t.now))) _ 64 64 (omega (arith, sum-length _ _ _ _ _ _ c.requires)) (l.invariant.1.1 r.0) (sym r.1) (omega arith),
+            passed (sum_at c.args.places.now c.args.block.now c.args.n c.args.s) _ 64 64 (omega (arith, sum-long _ _ _ _ c.requires)) (l.invariant.1.1 r.0) (sym r.1) (omega arith),
       ),
     )
 
@@ -40,8 +38,9 @@ returns-then-or_of-eq0 c =
     λ e.
     let z = c.or_of.ensures c.if-or_of-eq0.true ∙ l.invariant.1.0 in
     let r = l.invariant.1.1 z in
-    let q = eqb-true c.lowest_in_rest.result (c.args.s - l.i) e in
-    omega (arith, r, q, c.lowest_in_rest.ensures)
+    let x = sum_at c.args.places.now c.args.block.now c.args.n c.args.s in
+    let q = none-lowest (drop l.i x) _ _ c.is_none.ensures e c.lowest_in_rest.ensures in
+    omega (arith, r, q, length-drop l.i x, sum-long _ _ _ _ c.requires)
 
 pub returns : goal.returns
 returns c = λ e. absurd (false≢true e)
