@@ -1,10 +1,10 @@
 // The table of checks.
 #![tactic(auto)]
 
-ghost use Rattle.std.specs.Prelude.{◌≡◌, ◌+◌, ◌*◌, ◌≤◌, length, take, drop, unwrap_or, IfOk};
+ghost use Rattle.std.specs.Prelude.{◌≡◌, ◌+◌, ◌*◌, ◌<◌, ◌≤◌, length, take, drop, unwrap_or, IfOk};
 ghost use Rattle.lists.specs.Lists.{all_pass};
 ghost use Rattle.refusals.specs.Refusals.{refusal_of};
-ghost use Rattle.table.specs.Checks.{Starts};
+ghost use Rattle.table.specs.Checks.{Starts, check};
 ghost use Rattle.table.specs.LookOver.{weighed};
 ghost use Rattle.table.specs.PacketCall.{packet_refusal, part_at, packet_part, part_start};
 ghost use Rattle.table.specs.Table.{places, size, number, weights, total, cut_up, rising, beyond_limits, bad_lengths, bad_places, refusal};
@@ -189,6 +189,18 @@ impl<'a> Table<'a> {
             places: usize::from(words[1]),
             size: usize::from(words[2]),
         })
+    }
+}
+
+impl<'a> Located<'a> {
+    // the places of check j
+    pub fn check(&self, j: usize) -> &'a [u16]
+        requires { j < self.now.table.checks }
+        ensures { result.now ≡ check self.now.table.words.now self.now.table.checks j }
+    {
+        let start = usize::from(self.starts[j]);
+        let weight = usize::from(self.table.words[4 + j]);
+        run(self.table.words, start, weight)
     }
 }
 
