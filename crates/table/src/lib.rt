@@ -69,7 +69,7 @@ fn beyond_limits(t: &[u16]) -> bool
 }
 
 // so many words from one on
-fn run(t: &[u16], at: usize, count: usize) -> &[u16]
+pub fn run(t: &[u16], at: usize, count: usize) -> &[u16]
     requires { at + count ≤ length t.now }
     ensures { result.now ≡ take count (drop at t.now) }
 {

@@ -19,8 +19,8 @@ fn look_at_checks(table: &Table, block: &[u8]) -> Option<Fault>
     let mut at = 5 + table.checks;
     for j in 0..table.checks {
         let w = usize::from(table.words[4 + j]);
-        let low = sums::sum_of_check(table.words, at, w, block, table.places, table.size);
-        if low != table.size {
+        let places = table::run(table.words, at, w);
+        if let Some(low) = sums::sum_of_check(places, block, table.places, table.size) {
             return Some(Fault {
                 check: j as u32,
                 byte: low as u32,

@@ -4,10 +4,10 @@ use Rattle.table.specs.Table.{checks}
 use Rattle.faults.proofs.FaultLaws.{fault-hit, fault-zero, fault-end}
 use Rattle.faults.specs.Faults.{every_check}
 use Rattle.table.specs.Accepted.{has-weights, few_bytes, check-count, check-is, check-fits, check-in, offset-more}
-use Rattle.table.specs.Checks.{check_sum}
 use Rattle.table.specs.ChecksLaws.{offset-none}
 use Rattle.table.specs.CodewordLaws.{sum-byte, sum-zero, sum-nonzero}
-use Rattle.table.specs.SumLaws.{lowest-le, sum-length}
+use Rattle.table.specs.SumLaws.{sum-length}
+use Rattle.packets.specs.GivenLaws.{of-check}
 use Rattle.std.proofs.Math.Option.{some}
 use mathlib.Core.Path.{refl, sym, ap, ◌∙◌}
 use native.Mathlib.Omega.{arith}
@@ -25,23 +25,24 @@ offset_bounds-table-j c = omega (arith, has-weights _ _ _ _ c.args.table.now.acc
 pub bounds-table-j : goal.bounds-table-j
 bounds-table-j c = omega (arith, has-weights _ _ _ _ c.args.table.now.accepted)
 
-pub sum_of_check-low-requires : goal.sum_of_check-low-requires
-sum_of_check-low-requires c =
+pub run-places-requires : goal.run-places-requires
+run-places-requires c = let s = c.loop-j in check-fits _ _ _ _ c.args.table.now.accepted s.j c.loop-j-test.true _ _ s.invariant.0 c.from-w.ensures
+
+pub sum_of_check-requires : goal.sum_of_check-requires
+sum_of_check-requires c =
     let s = c.loop-j in
-    check-in _ _ _ _ c.args.table.now.accepted s.j c.loop-j-test.true _ _ s.invariant.0 c.from-w.ensures _ c.requires
+    rw c.run-places.ensures (of-check _ _ _ _ _ _ (check-in _ _ _ _ c.args.table.now.accepted s.j c.loop-j-test.true _ _ s.invariant.0 c.from-w.ensures _ c.requires))
 
-pub overflow_cast-result-then-low-table : goal.overflow_cast-result-then-low-table
-overflow_cast-result-then-low-table c =
+pub overflow_cast-result-in-Some : goal.overflow_cast-result-in-Some
+overflow_cast-result-in-Some c =
     let k = c.args.table.now.accepted in
-    let t = c.args.table.now.words.now in
-    let n = c.args.table.now.places in
-    let z = c.args.table.now.size in
-    let b = c.args.block.now in
-    let inside = check-in t _ _ _ k c.loop-j.j c.loop-j-test.true _ _ c.loop-j.invariant.0 c.from-w.ensures b c.requires in
-    omega (arith, lowest-le (check_sum t c.loop-j.at c.from-w.result b n z), sum-length _ _ _ _ _ _ inside, few_bytes _ _ _ _ k)
+    let s = c.loop-j in
+    let inside = check-in c.args.table.now.words.now _ _ _ k s.j c.loop-j-test.true _ _ s.invariant.0 c.from-w.ensures c.args.block.now c.requires in
+    let h = rw c.run-places.ensures at c.in-Some.ensures in
+    omega (arith, h.1, sum-length _ _ _ _ _ _ inside, few_bytes _ _ _ _ k)
 
-pub returns-then-low-table : goal.returns-then-low-table
-returns-then-low-table c =
+pub returns-in-Some : goal.returns-in-Some
+returns-in-Some c =
     let k = c.args.table.now.accepted in
     let t = c.args.table.now.words.now in
     let n = c.args.table.now.places in
@@ -51,8 +52,9 @@ returns-then-low-table c =
     let more = c.loop-j-test.true in
     let is = check-is t _ _ _ k s.j more _ _ s.invariant.0 c.from-w.ensures in
     let inside = check-in t _ _ _ k s.j more _ _ s.invariant.0 c.from-w.ensures b c.requires in
-    let nz = sum-nonzero t b n z _ _ inside _ is _ c.sum_of_check-low.ensures c.if-low-table.true in
-    let y = sum-byte t b n z _ _ inside _ is _ c.sum_of_check-low.ensures in
+    let h = rw c.run-places.ensures at c.in-Some.ensures in
+    let nz = sum-nonzero t b n z _ _ inside _ is _ (sym h.0) (λ e. omega (arith, e, h.1, sum-length _ _ _ _ _ _ inside)) in
+    let y = sum-byte t b n z _ _ inside _ is _ (sym h.0) in
     ap (λ k. some (record { check = s.j; byte = k })) y
     ∙ sym (s.invariant.1 ∙ fault-hit every_check z (packets z n b) (checks t) s.j (rw (check-count _ _ _ _ k) more) refl nz)
 
@@ -73,7 +75,8 @@ loop-j-preserved c =
     let more = c.loop-j-test.true in
     let is = check-is t _ _ _ k s.j more _ _ s.invariant.0 c.from-w.ensures in
     let inside = check-in t _ _ _ k s.j more _ _ s.invariant.0 c.from-w.ensures b c.requires in
-    let zero = sum-zero t b n z _ _ inside _ is _ c.sum_of_check-low.ensures c.if-low-table.false in (
+    let h = rw c.run-places.ensures at c.in_default.ensures in
+    let zero = sum-zero t b n z _ _ inside _ is _ refl (h ∙ sum-length _ _ _ _ _ _ inside) in (
       offset-more _ _ _ _ _ s.invariant.0 c.from-w.ensures,
       s.invariant.1 ∙ fault-zero every_check z (packets z n b) (checks t) s.j (rw (check-count _ _ _ _ k) more) refl zero,
     )
