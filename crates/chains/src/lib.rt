@@ -4,19 +4,19 @@
 ghost use Rattle.std.specs.Prelude.{List, ◌≡◌, ℕ, ◌+◌, ◌≤◌, ◌<◌, length, get_or, take, drop, MatchOption};
 ghost use Rattle.table.specs.Checks.{check, Places, Starts};
 ghost use Rattle.erasure.specs.Restoring.{lost_places};
+ghost use Rattle.lists.specs.Lists.{All};
 ghost use Rattle.chains.specs.Linked.{Links, with_check, Counted, Walk, Walked, LowestOne, holders};
 
 use table::Located;
 
 // the number of lost places of a check
-fn lost_in(t: &[u16], at: usize, weight: usize, map: &[u8]) -> usize
-    requires { Places t.now at weight (length map.now) }
-    ensures { result ≡ length (lost_places map.now (take weight (drop at t.now))) }
+fn lost_in(places: &[u16], map: &[u8]) -> usize
+    requires { All (λ p. p < length map.now) places.now }
+    ensures { result ≡ length (lost_places map.now places.now) }
 {
-    let end = at + weight;
     let mut k = 0;
-    for i in at..end {
-        if map[usize::from(t[i])] == 1 {
+    for p in places {
+        if map[usize::from(*p)] == 1 {
             k += 1;
         }
     }
@@ -29,17 +29,12 @@ pub fn count_all(located: &Located, map: &[u8], count: &mut [u16])
         × (located.now.table.checks ≤ length count.old) }
     ensures { Counted located.now.table.words.now located.now.table.checks map.now count.new }
 {
-    let table = &located.table;
-    for j in 0..table.checks {
-        count[j] = lost_in(
-            table.words,
-            usize::from(located.starts[j]),
-            usize::from(table.words[4 + j]),
-            map,
-        ) as u16;
+    for j in 0..located.table.checks {
+        count[j] = lost_in(located.check(j), map) as u16;
     }
 }
 
+// the links stand at the words' own indices, so that the check is given by its start and weight, not as a slice
 // check j, the weight places of t from at, goes to the chain of each of its places
 fn link_check(
     head: &mut [u16],

@@ -6,22 +6,22 @@ use mathlib.Core.Option.{none, some}
 use Prim.Native.Nat.{ℕ, suc, ◌+◌, ◌-◌, ◌*◌, ◌<◌, ◌≤◌}
 use native.Mathlib.Omega.{arith}
 use lib.Dec.{eqb}
-use lib.ListN.{length, get_or, take, drop, length-set}
+use lib.ListN.{length, get_or, drop, length-set, length-take}
 use Rattle.lists.specs.Tests.{by_bool}
 use Rattle.lists.specs.ListLaws.{all_map, filter-less}
 use Rattle.lists.specs.Lists.{minus, All}
-use Rattle.lists.specs.Buffers.{part_length}
-use Rattle.table.specs.Checks.{Places, Starts}
+use Rattle.table.specs.Checks.{check, offset}
 use Rattle.table.specs.PacketLaws.{packets-length, packets-sized, packets-joined}
 use Rattle.table.specs.Packets.{packets, packet_sum}
-use Rattle.table.specs.SumLaws.{places-in, check-below}
+use Rattle.table.specs.SumLaws.{places-low}
 use Rattle.table.specs.Table.{checks}
 use Rattle.erasure.specs.Restoring.{State, lost_places, ready, restoring, is_lost, turn}
 use Rattle.erasure.proofs.RestoringLaws.{ready-one, restoring_none, restoring-enough}
-use Rattle.table.specs.Accepted.{Accepted, check-count, places-at, check-is, light}
+use Rattle.table.specs.Accepted.{Accepted, check-count, each-places, light}
 use Rattle.erasure.specs.States.{Holds, Restored, state_of}
 use Rattle.erasure.specs.LostLaws.{lost-most, lost-inside, lost_in}
 use Rattle.erasure.specs.Turn.{place-lost, turn-packet, turn_one}
+use Rattle.turns.specs.TurnLaws.{at-check}
 use Rattle.packets.specs.SetLaws.{packets-set, bytes-set}
 
 -- the number of the lowest check with exactly one lost place; the number of checks if there is none
@@ -128,38 +128,35 @@ module _ (t : List ℕ) (m n s : ℕ) (k : Accepted t m n s) (l : List ℕ) (j :
     pub next-is : ready l (checks t) ≡ some (get_or (checks t) j [])
     next-is = rw number (number-ready l (checks t) (λ e. omega (arith, number, e, check-count t m n s k, next-in)))
 
-    module _ (starts : List ℕ) (st : Starts t m starts) (a w : ℕ) (at : a ≡ get_or starts j 0) (weight : w ≡ get_or t (4 + j) 0) where
-      pub next-places : Places t a w n
-      next-places = places-at t m n s k j next-in a w (at ∙ st.each j next-in) weight n refl
+    -- check j, as the code has it
+    module _ (c : List ℕ) (c-is : c ≡ check t m j) where
+      pub next-check : ready l (checks t) ≡ some c
+      next-check = next-is ∙ ap some (at-check t m n s k j next-in ∙ sym c-is)
 
-      pub next-check : ready l (checks t) ≡ some (take w (drop a t))
-      next-check = next-is ∙ ap some (sym (check-is t m n s k j next-in a w (at ∙ st.each j next-in) weight))
+      pub next_one : length (lost_places l c) ≡ 1
+      next_one = ready-one l (checks t) c next-check
 
-      pub next_one : length (lost_places l (take w (drop a t))) ≡ 1
-      next_one = ready-one l (checks t) (take w (drop a t)) next-check
+      pub next-some : 1 ≤ length c
+      next-some = let y = next_one in let z = filter-less (is_lost l) c in omega arith
 
-      pub next-length : length (take w (drop a t)) ≡ w
-      next-length = part_length t a w next-places.room
+      pub next-light : length c ≤ 64
+      unfolding check
+      next-light = let z = light t m n s k j next-in in rw c-is (omega (arith, length-take (get_or t (4 + j) 0) (drop (5 + m + offset t j) t)))
 
-      pub next-some : 1 ≤ w
-      next-some = let x = next-length in let y = next_one in let z = filter-less (is_lost l) (take w (drop a t)) in omega arith
-
-      pub next-light : w ≤ 64
-      next-light = rw weight (light t m n s k j next-in)
-
-      pub next_low : All (λ p. p < n) (take w (drop a t))
-      next_low = check-below t a w [] n 0 (places-in t a w [] n 0 next-places (omega arith))
+      pub next_low : All (λ p. p < n) c
+      unfolding check
+      next_low = rw c-is (places-low (each-places t m n s k j next-in))
 
       -- a turn of the code
-      module _ (b₀ l₀ b : List ℕ) (adds : ℕ) (g : Going n s (checks t) b₀ l₀ b l adds) (b' l' : List ℕ) (h : Holds (turn s (take w (drop a t)) (state_of s n b l 0)) b' l') where
-        pub next-turn : Going n s (checks t) b₀ l₀ b' l' (adds + (w - 1))
-        next-turn = going-turn n s (checks t) b₀ l₀ b l adds g (take w (drop a t)) next-check next_low w next-length next-light b' l' h
+      module _ (b₀ l₀ b : List ℕ) (adds : ℕ) (g : Going n s (checks t) b₀ l₀ b l adds) (b' l' : List ℕ) (h : Holds (turn s c (state_of s n b l 0)) b' l') where
+        pub next-turn : Going n s (checks t) b₀ l₀ b' l' (adds + (length c - 1))
+        next-turn = going-turn n s (checks t) b₀ l₀ b l adds g c next-check next_low (length c) refl next-light b' l' h
 
         pub next-fewer : lost_in l' < lost_in l
-        next-fewer = let z = fewer-lost n s (checks t) b₀ l₀ b l adds g (take w (drop a t)) next-check next_low w next-length next-light b' l' h in omega arith
+        next-fewer = let z = fewer-lost n s (checks t) b₀ l₀ b l adds g c next-check next_low (length c) refl next-light b' l' h in omega arith
 
-        pub next-packets : packets s n b' ≡ (turn s (take w (drop a t)) (state_of s n b l 0)).block
-        next-packets = packets-now n s (checks t) b₀ l₀ b l adds g (take w (drop a t)) next-check next_low w next-length next-light b' l' h
+        pub next-packets : packets s n b' ≡ (turn s c (state_of s n b l 0)).block
+        next-packets = packets-now n s (checks t) b₀ l₀ b l adds g c next-check next_low (length c) refl next-light b' l' h
 
-        pub next-long : length (packet_sum s (packets s n b) (minus (take w (drop a t)) (get_or (lost_places l (take w (drop a t))) 0 0 ∷ []))) ≡ s
-        next-long = v-long n s (checks t) b₀ l₀ b l adds g (take w (drop a t)) next-check next_low w next-length next-light b' l' h
+        pub next-long : length (packet_sum s (packets s n b) (minus c (get_or (lost_places l c) 0 0 ∷ []))) ≡ s
+        next-long = v-long n s (checks t) b₀ l₀ b l adds g c next-check next_low (length c) refl next-light b' l' h

@@ -1,8 +1,9 @@
 // The turns of restoring: the lowest check with exactly one lost place restores it, as long as there is one.
 #![tactic(auto)]
 
-ghost use Rattle.std.specs.Prelude.{◌≡◌, ◌*◌, length, get_or, take, drop};
-ghost use Rattle.table.specs.Checks.{Places};
+ghost use Rattle.std.specs.Prelude.{◌≡◌, ◌*◌, ◌<◌, length, get_or};
+ghost use Rattle.lists.specs.Lists.{All};
+ghost use Rattle.packets.specs.Given.{Given};
 ghost use Rattle.table.specs.Table.{checks};
 ghost use Rattle.chains.specs.Linked.{Linked, Counted};
 ghost use Rattle.erasure.specs.Restoring.{lost_places, turn};
@@ -12,13 +13,12 @@ ghost use Rattle.turns.specs.Spent.{Spent};
 use table::{Located, Table};
 
 // the first lost place of a check, 0 if there is none: its caller has one, and an Option would only move that case there
-fn first_lost(t: &[u16], at: usize, weight: usize, map: &[u8]) -> usize
-    requires { Places t.now at weight (length map.now) }
-    ensures { result ≡ get_or (lost_places map.now (take weight (drop at t.now))) 0 0 }
+fn first_lost(places: &[u16], map: &[u8]) -> usize
+    requires { All (λ p. p < length map.now) places.now }
+    ensures { result ≡ get_or (lost_places map.now places.now) 0 0 }
 {
-    let end = at + weight;
-    for i in at..end {
-        let p = usize::from(t[i]);
+    for p in places {
+        let p = usize::from(*p);
         if map[p] == 1 {
             return p;
         }
@@ -26,26 +26,16 @@ fn first_lost(t: &[u16], at: usize, weight: usize, map: &[u8]) -> usize
     0
 }
 
-// the check at at, of which one place is lost, restores that place and returns it
-fn restore_one(table: &Table, at: usize, weight: usize, block: &mut [u8], map: &mut [u8]) -> usize
-    requires { Places table.now.words.now at weight table.now.places
-        × (length block.old ≡ table.now.places * table.now.size)
-        × (length map.old ≡ table.now.places)
-        × (length (lost_places map.old (take weight (drop at table.now.words.now))) ≡ 1) }
-    ensures { (result ≡ get_or (lost_places map.old (take weight (drop at table.now.words.now))) 0 0)
-        × Holds (turn table.now.size (take weight (drop at table.now.words.now)) (state_of table.now.size table.now.places block.old map.old 0)) block.new map.new }
+// the check with these places, of which one is lost, restores that place and returns it
+fn restore_one(table: &Table, places: &[u16], block: &mut [u8], map: &mut [u8]) -> usize
+    requires given { Given places.now block.old table.now.places table.now.size }
+    requires map { length map.old ≡ table.now.places }
+    requires one { length (lost_places map.old places.now) ≡ 1 }
+    ensures place { result ≡ get_or (lost_places map.old places.now) 0 0 }
+    ensures turn { Holds (turn table.now.size places.now (state_of table.now.size table.now.places block.old map.old 0)) block.new map.new }
 {
-    let p = first_lost(table.words, at, weight, map);
-    packets::restore(
-        table.words,
-        at,
-        weight,
-        block,
-        table.places,
-        table.size,
-        p,
-        p,
-    );
+    let p = first_lost(places, map);
+    packets::restore(places, block, table.places, table.size, p, p);
     map[p] = 2;
     p
 }
@@ -74,11 +64,11 @@ pub fn restore_all(
     let mut adds = 0;
     let mut low = 0;
     while let Some(j) = chains::lowest_one(count, low, table.checks) {
-        let w = usize::from(table.words[4 + j]);
-        let p = restore_one(table, usize::from(located.starts[j]), w, block, map);
+        let places = located.check(j);
+        let p = restore_one(table, places, block, map);
         low = chains::walk(next, owner, count, usize::from(head[p]), j);
         used[j] = 1;
-        adds += w - 1;
+        adds += places.len() - 1;
     }
     adds
 }

@@ -1,7 +1,9 @@
 -- `chains::count_all` meets its contract.
 use Rattle.chains.proofs.Counting.{counted-turn, counted-small}
-use Rattle.table.specs.Accepted.{has-weights, places-at}
-use mathlib.Core.Path.{refl, ◌∙◌}
+use Rattle.table.specs.Accepted.{each-places}
+use Rattle.table.specs.Checks.{check}
+use Rattle.table.specs.SumLaws.{places-low}
+use mathlib.Core.Path.{refl}
 use native.Mathlib.Omega.{arith}
 use lib.ListN.{length-set}
 use Rattle.chains.proofs.count_all.Goals as goal
@@ -9,25 +11,16 @@ use Rattle.chains.proofs.count_all.Goals as goal
 pub loop-j-init : goal.loop-j-init
 loop-j-init c = (refl, λ k h. absurd (omega arith))
 
-pub offset_bounds-located-j : goal.offset_bounds-located-j
-offset_bounds-located-j c = omega (arith, has-weights c.args.located.now.table.words.now _ _ _ c.args.located.now.table.accepted, c.args.located.now.starts_at.room)
-
-pub bounds-located-j : goal.bounds-located-j
-bounds-located-j c = omega (arith, has-weights c.args.located.now.table.words.now _ _ _ c.args.located.now.table.accepted, c.args.located.now.starts_at.room)
-
-pub offset_bounds-table-j : goal.offset_bounds-table-j
-offset_bounds-table-j c = omega (arith, has-weights c.args.located.now.table.words.now _ _ _ c.args.located.now.table.accepted, c.args.located.now.starts_at.room)
-
-pub bounds-table-j : goal.bounds-table-j
-bounds-table-j c = omega (arith, has-weights c.args.located.now.table.words.now _ _ _ c.args.located.now.table.accepted, c.args.located.now.starts_at.room)
-
 pub lost_in-requires : goal.lost_in-requires
-lost_in-requires c = places-at c.args.located.now.table.words.now _ _ _ c.args.located.now.table.accepted c.loop-j.j c.loop-j-test.true _ _ (c.from.ensures ∙ c.args.located.now.starts_at.each _ c.loop-j-test.true) c.from-in-loop-j.ensures _ c.requires.0
+unfolding check
+lost_in-requires c = rw (c.check.ensures, c.requires.0) (places-low (each-places c.args.located.now.table.words.now _ _ _ c.args.located.now.table.accepted c.loop-j.j c.loop-j-test.true))
 
 pub overflow_cast-count : goal.overflow_cast-count
+unfolding check
 overflow_cast-count c =
-    let h = counted-small c.args.located.now.table.words.now _ _ _ c.args.located.now.table.accepted c.loop-j.j c.loop-j-test.true _ _ (c.from.ensures ∙ c.args.located.now.starts_at.each _ c.loop-j-test.true) c.from-in-loop-j.ensures c.args.map.now in
-    omega (arith, h, c.lost_in.ensures)
+    let h = counted-small c.args.located.now.table.words.now _ _ _ c.args.located.now.table.accepted c.loop-j.j c.loop-j-test.true _ _ refl refl c.args.map.now in
+    let e = rw c.check.ensures at c.lost_in.ensures in
+    omega (arith, h, e)
 
 pub offset_bounds-count-j : goal.offset_bounds-count-j
 offset_bounds-count-j c = omega (arith, c.loop-j.invariant.0, c.requires.1)
@@ -36,12 +29,13 @@ pub bounds-count-j : goal.bounds-count-j
 bounds-count-j c = omega (arith, c.loop-j.invariant.0, c.requires.1)
 
 pub loop-j-preserved : goal.loop-j-preserved
+unfolding check
 loop-j-preserved c =
     let s = c.loop-j in
     let p = c.requires in
     let a = c.args in (
       simp length-set s.invariant.0,
-      counted-turn a.located.now.table.words.now _ _ _ c.args.located.now.table.accepted c.loop-j.j c.loop-j-test.true _ _ (c.from.ensures ∙ c.args.located.now.starts_at.each _ c.loop-j-test.true) c.from-in-loop-j.ensures a.map.now s.count _ (omega (arith, s.invariant.0, p.1)) c.lost_in.ensures s.invariant.1,
+      counted-turn a.located.now.table.words.now _ _ _ c.args.located.now.table.accepted c.loop-j.j c.loop-j-test.true _ _ refl refl a.map.now s.count _ (omega (arith, s.invariant.0, p.1)) (rw c.check.ensures at c.lost_in.ensures) s.invariant.1,
     )
 
 pub returns : goal.returns

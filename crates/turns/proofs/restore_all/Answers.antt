@@ -1,13 +1,12 @@
 -- `turns::restore_all` meets its contract.
 use Rattle.table.specs.Table.{checks}
 use Rattle.turns.proofs.Spending.{spent-turn}
-use Rattle.turns.specs.TurnLaws.{at-check}
 use Rattle.turns.proofs.Ordering.{tracked-start, lowest-ready, walk-ready, tracked-turn}
-use Rattle.table.specs.Accepted.{few-places, has-weights, check-is}
-use Rattle.turns.proofs.Turning.{lost-place-in, lost-place, going_start, going_end, going-small, none-next, next-places, next_one, next-some, next-light, next-turn, next-fewer, next-packets, next-long}
+use Rattle.table.specs.Accepted.{few-places}
+use Rattle.turns.proofs.Turning.{lost-place-in, lost-place, going_start, going_end, going-small, none-next, next_low, next_one, next-some, next-light, next-turn, next-fewer, next-packets, next-long}
 use mathlib.Core.Path.{refl, sym, ap, ◌∙◌}
 use native.Mathlib.Omega.{arith}
-use lib.ListN.{set, take, drop}
+use lib.ListN.{set}
 use Rattle.turns.proofs.restore_all.Goals as goal
 
 pub loop-j-init : goal.loop-j-init
@@ -24,66 +23,6 @@ returns c =
     let number = lowest-ready _ _ _ _ k s.map s.count s.low s.invariant.1 _ c.in_default.ensures in
     (going_end _ _ _ _ _ _ _ _ c.requires.3 (few-places _ _ _ _ k) s.invariant.0 (none-next _ _ _ _ k s.map _ number refl), s.invariant.1.counted, s.invariant.2)
 
-pub overflow_add-j : goal.overflow_add-j
-overflow_add-j c =
-    let a = c.args in
-    let k = a.located.now.table.accepted in
-    let p = c.requires in
-    let s = c.loop-j in
-    let found = c.in-Some.ensures.1 in
-    let number = lowest-ready _ _ _ _ k s.map s.count s.low s.invariant.1 _ found in
-    let more = c.in-Some.ensures.0 in
-    let z = more in
-    omega (arith, z, has-weights _ _ _ _ k, a.located.now.starts_at.room)
-
-pub offset_bounds-table-j : goal.offset_bounds-table-j
-offset_bounds-table-j c =
-    let a = c.args in
-    let k = a.located.now.table.accepted in
-    let p = c.requires in
-    let s = c.loop-j in
-    let found = c.in-Some.ensures.1 in
-    let number = lowest-ready _ _ _ _ k s.map s.count s.low s.invariant.1 _ found in
-    let more = c.in-Some.ensures.0 in
-    let z = more in
-    omega (arith, z, has-weights _ _ _ _ k, a.located.now.starts_at.room)
-
-pub bounds-table-j : goal.bounds-table-j
-bounds-table-j c =
-    let a = c.args in
-    let k = a.located.now.table.accepted in
-    let p = c.requires in
-    let s = c.loop-j in
-    let found = c.in-Some.ensures.1 in
-    let number = lowest-ready _ _ _ _ k s.map s.count s.low s.invariant.1 _ found in
-    let more = c.in-Some.ensures.0 in
-    let z = more in
-    omega (arith, z, has-weights _ _ _ _ k, a.located.now.starts_at.room)
-
-pub offset_bounds-located-j : goal.offset_bounds-located-j
-offset_bounds-located-j c =
-    let a = c.args in
-    let k = a.located.now.table.accepted in
-    let p = c.requires in
-    let s = c.loop-j in
-    let found = c.in-Some.ensures.1 in
-    let number = lowest-ready _ _ _ _ k s.map s.count s.low s.invariant.1 _ found in
-    let more = c.in-Some.ensures.0 in
-    let z = more in
-    omega (arith, z, has-weights _ _ _ _ k, a.located.now.starts_at.room)
-
-pub bounds-located-j : goal.bounds-located-j
-bounds-located-j c =
-    let a = c.args in
-    let k = a.located.now.table.accepted in
-    let p = c.requires in
-    let s = c.loop-j in
-    let found = c.in-Some.ensures.1 in
-    let number = lowest-ready _ _ _ _ k s.map s.count s.low s.invariant.1 _ found in
-    let more = c.in-Some.ensures.0 in
-    let z = more in
-    omega (arith, z, has-weights _ _ _ _ k, a.located.now.starts_at.room)
-
 pub restore_one-p-requires : goal.restore_one-p-requires
 restore_one-p-requires c =
     let a = c.args in
@@ -93,10 +32,9 @@ restore_one-p-requires c =
     let found = c.in-Some.ensures.1 in
     let number = lowest-ready _ _ _ _ k s.map s.count s.low s.invariant.1 _ found in
     let more = c.in-Some.ensures.0 in
-    let at = c.from.ensures in
-    let weight = c.from-w.ensures in
-    let one = next_one _ _ _ _ k s.map _ number more a.located.now.starts.now a.located.now.starts_at _ _ at weight in
-    (next-places _ _ _ _ k s.map _ number more a.located.now.starts.now a.located.now.starts_at _ _ at weight, s.invariant.0.bytes, s.invariant.0.places, one)
+    let is = c.check-places.ensures in
+    let one = next_one _ _ _ _ k s.map _ number more _ is in
+    record { given = record { below = next_low _ _ _ _ k s.map _ number more _ is; bytes = s.invariant.0.bytes }; map = s.invariant.0.places; one = one }
 
 pub offset_bounds-head-p : goal.offset_bounds-head-p
 offset_bounds-head-p c =
@@ -107,12 +45,11 @@ offset_bounds-head-p c =
     let found = c.in-Some.ensures.1 in
     let number = lowest-ready _ _ _ _ k s.map s.count s.low s.invariant.1 _ found in
     let more = c.in-Some.ensures.0 in
-    let at = c.from.ensures in
-    let weight = c.from-w.ensures in
-    let one = next_one _ _ _ _ k s.map _ number more a.located.now.starts.now a.located.now.starts_at _ _ at weight in
+    let is = c.check-places.ensures in
+    let one = next_one _ _ _ _ k s.map _ number more _ is in
     let r = c.restore_one-p.ensures in
-    let run = take c.from-w.result (drop c.from.result a.located.now.table.words.now) in
-    let in-n = lost-place-in s.map run _ _ s.invariant.0.places one r.0 in
+    let run = c.check-places.result.now in
+    let in-n = lost-place-in s.map run _ _ s.invariant.0.places one r.place in
     omega (arith, in-n, few-places _ _ _ _ k)
 
 pub bounds-head-p : goal.bounds-head-p
@@ -124,12 +61,11 @@ bounds-head-p c =
     let found = c.in-Some.ensures.1 in
     let number = lowest-ready _ _ _ _ k s.map s.count s.low s.invariant.1 _ found in
     let more = c.in-Some.ensures.0 in
-    let at = c.from.ensures in
-    let weight = c.from-w.ensures in
-    let one = next_one _ _ _ _ k s.map _ number more a.located.now.starts.now a.located.now.starts_at _ _ at weight in
+    let is = c.check-places.ensures in
+    let one = next_one _ _ _ _ k s.map _ number more _ is in
     let r = c.restore_one-p.ensures in
-    let run = take c.from-w.result (drop c.from.result a.located.now.table.words.now) in
-    let in-n = lost-place-in s.map run _ _ s.invariant.0.places one r.0 in
+    let run = c.check-places.result.now in
+    let in-n = lost-place-in s.map run _ _ s.invariant.0.places one r.place in
     omega (arith, in-n, p.0.room)
 
 pub walk-low-requires : goal.walk-low-requires
@@ -141,13 +77,12 @@ walk-low-requires c =
     let found = c.in-Some.ensures.1 in
     let number = lowest-ready _ _ _ _ k s.map s.count s.low s.invariant.1 _ found in
     let more = c.in-Some.ensures.0 in
-    let at = c.from.ensures in
-    let weight = c.from-w.ensures in
-    let one = next_one _ _ _ _ k s.map _ number more a.located.now.starts.now a.located.now.starts_at _ _ at weight in
+    let is = c.check-places.ensures in
+    let one = next_one _ _ _ _ k s.map _ number more _ is in
     let r = c.restore_one-p.ensures in
-    let run = take c.from-w.result (drop c.from.result a.located.now.table.words.now) in
-    let in-n = lost-place-in s.map run _ _ s.invariant.0.places one r.0 in
-    walk-ready _ _ _ _ k s.map s.count s.low s.invariant.1 _ found a.head.now a.next.now a.owner.now p.0 _ in-n (lost-place s.map run _ one r.0) _ c.from-in-Some.ensures
+    let run = c.check-places.result.now in
+    let in-n = lost-place-in s.map run _ _ s.invariant.0.places one r.place in
+    walk-ready _ _ _ _ k s.map s.count s.low s.invariant.1 _ found a.head.now a.next.now a.owner.now p.0 _ in-n (lost-place s.map run _ one r.place) _ c.from.ensures
 
 pub bounds-used-j : goal.bounds-used-j
 bounds-used-j c =
@@ -158,9 +93,8 @@ bounds-used-j c =
     let found = c.in-Some.ensures.1 in
     let number = lowest-ready _ _ _ _ k s.map s.count s.low s.invariant.1 _ found in
     let more = c.in-Some.ensures.0 in
-    let at = c.from.ensures in
-    let weight = c.from-w.ensures in
-    let one = next_one _ _ _ _ k s.map _ number more a.located.now.starts.now a.located.now.starts_at _ _ at weight in
+    let is = c.check-places.ensures in
+    let one = next_one _ _ _ _ k s.map _ number more _ is in
     omega (arith, more, s.invariant.2.room)
 
 pub overflow_sub-adds : goal.overflow_sub-adds
@@ -172,10 +106,9 @@ overflow_sub-adds c =
     let found = c.in-Some.ensures.1 in
     let number = lowest-ready _ _ _ _ k s.map s.count s.low s.invariant.1 _ found in
     let more = c.in-Some.ensures.0 in
-    let at = c.from.ensures in
-    let weight = c.from-w.ensures in
-    let one = next_one _ _ _ _ k s.map _ number more a.located.now.starts.now a.located.now.starts_at _ _ at weight in
-    omega (arith, next-some _ _ _ _ k s.map _ number more a.located.now.starts.now a.located.now.starts_at _ _ at weight)
+    let is = c.check-places.ensures in
+    let one = next_one _ _ _ _ k s.map _ number more _ is in
+    omega (arith, next-some _ _ _ _ k s.map _ number more _ is)
 
 pub overflow_add-adds : goal.overflow_add-adds
 overflow_add-adds c =
@@ -186,13 +119,12 @@ overflow_add-adds c =
     let found = c.in-Some.ensures.1 in
     let number = lowest-ready _ _ _ _ k s.map s.count s.low s.invariant.1 _ found in
     let more = c.in-Some.ensures.0 in
-    let at = c.from.ensures in
-    let weight = c.from-w.ensures in
-    let one = next_one _ _ _ _ k s.map _ number more a.located.now.starts.now a.located.now.starts_at _ _ at weight in
+    let is = c.check-places.ensures in
+    let one = next_one _ _ _ _ k s.map _ number more _ is in
     omega (
       arith,
       going-small a.located.now.table.places a.located.now.table.size (checks a.located.now.table.words.now) a.block.now a.map.now _ _ _ p.3 (few-places _ _ _ _ k) s.invariant.0,
-      next-light _ _ _ _ k s.map _ number more a.located.now.starts.now a.located.now.starts_at _ _ at weight,
+      next-light _ _ _ _ k s.map _ number more _ is,
     )
 
 pub loop-j-smaller : goal.loop-j-smaller
@@ -204,10 +136,9 @@ loop-j-smaller c =
     let found = c.in-Some.ensures.1 in
     let number = lowest-ready _ _ _ _ k s.map s.count s.low s.invariant.1 _ found in
     let more = c.in-Some.ensures.0 in
-    let at = c.from.ensures in
-    let weight = c.from-w.ensures in
-    let one = next_one _ _ _ _ k s.map _ number more a.located.now.starts.now a.located.now.starts_at _ _ at weight in
-    next-fewer _ _ _ _ k s.map _ number more a.located.now.starts.now a.located.now.starts_at _ _ at weight a.block.now a.map.now _ _ s.invariant.0 _ _ c.restore_one-p.ensures.1
+    let is = c.check-places.ensures in
+    let one = next_one _ _ _ _ k s.map _ number more _ is in
+    next-fewer _ _ _ _ k s.map _ number more _ is a.block.now a.map.now _ _ s.invariant.0 _ _ c.restore_one-p.ensures.turn
 
 pub loop-j-preserved : goal.loop-j-preserved
 loop-j-preserved c =
@@ -218,13 +149,12 @@ loop-j-preserved c =
     let found = c.in-Some.ensures.1 in
     let number = lowest-ready _ _ _ _ k s.map s.count s.low s.invariant.1 _ found in
     let more = c.in-Some.ensures.0 in
-    let at = c.from.ensures in
-    let weight = c.from-w.ensures in
-    let one = next_one _ _ _ _ k s.map _ number more a.located.now.starts.now a.located.now.starts_at _ _ at weight in
+    let is = c.check-places.ensures in
+    let one = next_one _ _ _ _ k s.map _ number more _ is in
     let r = c.restore_one-p.ensures in
-    let run = take c.from-w.result (drop c.from.result a.located.now.table.words.now) in
-    let in-n = lost-place-in s.map run _ _ s.invariant.0.places one r.0 in (
-      next-turn _ _ _ _ k s.map _ number more a.located.now.starts.now a.located.now.starts_at _ _ at weight a.block.now a.map.now _ _ s.invariant.0 _ _ r.1,
-      tracked-turn _ _ _ _ k s.map s.count s.low s.invariant.1 _ found a.head.now a.next.now a.owner.now p.0 _ in-n (lost-place s.map run _ one r.0) _ c.from-in-Some.ensures _ _ _ c.walk-low.ensures (r.1.map_is ∙ ap (λ q. set s.map q 2) (sym r.0)),
-      spent-turn _ _ _ _ k s.map s.block s.used s.invariant.2 _ more run (check-is _ _ _ _ k _ more _ _ (at ∙ a.located.now.starts_at.each _ more) weight ∙ at-check _ _ _ _ k _ more) one (lost-place-in s.map run _ _ s.invariant.0.places one refl) (next-long _ _ _ _ k s.map _ number more a.located.now.starts.now a.located.now.starts_at _ _ at weight a.block.now a.map.now _ _ s.invariant.0 _ _ r.1) _ _ (next-packets _ _ _ _ k s.map _ number more a.located.now.starts.now a.located.now.starts_at _ _ at weight a.block.now a.map.now _ _ s.invariant.0 _ _ r.1) r.1.map_is,
+    let run = c.check-places.result.now in
+    let in-n = lost-place-in s.map run _ _ s.invariant.0.places one r.place in (
+      next-turn _ _ _ _ k s.map _ number more _ is a.block.now a.map.now _ _ s.invariant.0 _ _ r.turn,
+      tracked-turn _ _ _ _ k s.map s.count s.low s.invariant.1 _ found a.head.now a.next.now a.owner.now p.0 _ in-n (lost-place s.map run _ one r.place) _ c.from.ensures _ _ _ c.walk-low.ensures (r.turn.map_is ∙ ap (λ q. set s.map q 2) (sym r.place)),
+      spent-turn _ _ _ _ k s.map s.block s.used s.invariant.2 _ more run is one (lost-place-in s.map run _ _ s.invariant.0.places one refl) (next-long _ _ _ _ k s.map _ number more _ is a.block.now a.map.now _ _ s.invariant.0 _ _ r.turn) _ _ (next-packets _ _ _ _ k s.map _ number more _ is a.block.now a.map.now _ _ s.invariant.0 _ _ r.turn) r.turn.map_is,
     )

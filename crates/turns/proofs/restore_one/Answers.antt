@@ -1,27 +1,17 @@
 -- `turns::restore_one` meets its contract.
-use Rattle.table.specs.Checks.{Places}
-use Rattle.table.specs.SumLaws.{places-in}
 use Rattle.turns.proofs.Turning.{lost-place-in}
-use mathlib.Core.Path.{sym, ◌∙◌, subst}
+use mathlib.Core.Path.{◌∙◌}
 use native.Mathlib.Omega.{arith}
-use lib.ListN.{take, drop}
 use Rattle.turns.proofs.restore_one.Goals as goal
 
 pub first_lost-p-requires : goal.first_lost-p-requires
-first_lost-p-requires c = let p = c.requires in subst (λ k. Places c.args.table.now.words.now c.args.at c.args.weight k) (sym p.2) p.0
+first_lost-p-requires c = rw c.requires.map c.requires.given.below
 
 pub restore-requires : goal.restore-requires
-restore-requires c =
-    let p = c.requires in
-    let a = c.args in
-    (places-in _ _ _ _ _ _ p.0 p.1, lost-place-in a.map.now (take a.weight (drop a.at a.table.now.words.now)) _ _ p.2 p.3 c.first_lost-p.ensures)
+restore-requires c = (c.requires.given, lost-place-in c.args.map.now c.args.places.now _ _ c.requires.map c.requires.one c.first_lost-p.ensures)
 
 pub bounds-map-p : goal.bounds-map-p
-bounds-map-p c =
-    let p = c.requires in
-    let a = c.args in
-    let h = lost-place-in a.map.now (take a.weight (drop a.at a.table.now.words.now)) _ _ p.2 p.3 c.first_lost-p.ensures in
-    omega arith
+bounds-map-p c = let h = lost-place-in c.args.map.now c.args.places.now _ _ c.requires.map c.requires.one c.first_lost-p.ensures in omega arith
 
 pub returns : goal.returns
-returns c = let e = c.first_lost-p.ensures in (e, record { block-is = c.restore.ensures ∙ rw e; map_is = rw e })
+returns c = let e = c.first_lost-p.ensures in record { place = e; turn = record { block-is = c.restore.ensures ∙ rw e; map_is = rw e } }
