@@ -1,12 +1,13 @@
 -- A check's parts, the list of places that are summed for its row, and its sum.
 use mathlib.Core.Path.{◌≡◌, refl, sym, ap, ap₂, ◌∙◌, subst}
-use mathlib.Core.Bool.{not, false≢true, true≢false}
+use mathlib.Core.Bool.{Bool, true, false, not, false≢true, true≢false}
 use mathlib.Core.List.{List, [], ◌∷◌, ◌++◌, append_assoc, append-nil}
 use Prim.Native.Nat.{ℕ, zero, suc, ◌+◌, ◌-◌, ◌*◌, ◌<◌, ◌≤◌}
 use native.Mathlib.Omega.{arith}
 use lib.ListN.{length, get_or, set, take, drop, replicate, length-append, length-replicate}
 use lib.Bits.{bit_xor}
 use lib.Seq.{take_at}
+use Rattle.std.specs.declared.option.Option.{Option}
 use Rattle.std.specs.declared.option.Option.TheVariants.{None, Some}
 use Rattle.std.specs.declared.result.Result.TheVariants.{Ok, Err}
 use Rattle.eliminate.specs.declared.Clash.{Clash}
@@ -20,6 +21,9 @@ use Rattle.gf2.specs.Gf2.{bit, is_zero, Short, Bits, xor_group, sum_over, down, 
 use Rattle.gf2.specs.RowValue.{row_lt}
 use Rattle.table.specs.Checks.{Places, check_sum, others_sum}
 use Rattle.table.specs.PacketLaws.{packets-length, packets-sized, view, sum_view}
+use Rattle.std.specs.Option.{is_some}
+use Rattle.sums.specs.Lowest.{LowestByte}
+use Rattle.sums.specs.LowestLaws.{some-lowest, none-lowest}
 use Rattle.table.specs.Packets.{packets, joined, packet_sum, lowest_nonzero}
 use Rattle.table.specs.SumLaws.{places-low, lowest-zeros, lowest-is}
 use Rattle.erasure.specs.Restoring.{is_lost, lost_places}
@@ -136,16 +140,26 @@ module _ (t : List ℕ) (at weight n s : ℕ) (lost : List ℕ) (f : ℕ → ℕ
     low-is : {low : ℕ} → low ≡ lowest_nonzero (check_sum x 0 all b n s) → low ≡ lowest_nonzero (row_sum s n lost c f b)
     low-is e = e ∙ ap (λ l. lowest_nonzero (packet_sum s (packets s n b) l)) nd.list
 
-    pub judged-calm : {low : ℕ} → low ≡ lowest_nonzero (check_sum x 0 all b n s) → low ≡ s → Summed s n lost c f b (Ok None) b
-    judged-calm e h = calm_sum (zero-sum (row_sum s n lost c f b) s (row-view n lost f (places-low places) s b bytes).0 (sym (low-is e) ∙ h))
+    long : length (check_sum x 0 all b n s) ≡ s
+    long = ap (λ l. length (packet_sum s (packets s n b) l)) nd.list ∙ (row-view n lost f (places-low places) s b bytes).0
 
-    pub judged-clash : {low : ℕ} {clash : Clash} → low ≡ lowest_nonzero (check_sum x 0 all b n s) → (low ≡ s → ⊥) → Summed s n lost c f b (Err clash) b
-    judged-clash e h = record {
+    calmed : {low : ℕ} → low ≡ lowest_nonzero (check_sum x 0 all b n s) → low ≡ s → Summed s n lost c f b (Ok None) b
+    calmed e h = calm_sum (zero-sum (row_sum s n lost c f b) s (row-view n lost f (places-low places) s b bytes).0 (sym (low-is e) ∙ h))
+
+    clashed : {low : ℕ} {clash : Clash} → low ≡ lowest_nonzero (check_sum x 0 all b n s) → (low ≡ s → ⊥) → Summed s n lost c f b (Err clash) b
+    clashed e h = record {
       stored = λ u. absurd (omega arith);
       kept = λ u. refl;
       calm = λ u v. absurd (true≢false u);
       clashed = λ u. (refl, λ z. h (low-is e ∙ sum-zero (row_sum s n lost c f b) s z));
     }
+
+    -- by whether the sum has a byte that isn't zero
+    pub judged-calm : (r : Option ℕ) {v : Bool} → v ≡ is_some r → v ≡ false → LowestByte (check_sum x 0 all b n s) r → Summed s n lost c f b (Ok None) b
+    judged-calm r {v} e z l = calmed refl (none-lowest _ r (sym e ∙ z) l ∙ long)
+
+    pub judged-clash : (r : Option ℕ) {v : Bool} {clash : Clash} → v ≡ is_some r → v ≡ true → LowestByte (check_sum x 0 all b n s) r → Summed s n lost c f b (Err clash) b
+    judged-clash r {v} e z l = clashed refl (λ h. some-lowest _ r (sym e ∙ z) l (h ∙ sym long))
 
     -- something is left
     pub kept-sum : {p : ℕ} {b' : List ℕ} → b' ≡ joined (set (packets s n b) p (others_sum x 0 all b n s n)) → Summed s n lost c f b (Ok (Some p)) b'

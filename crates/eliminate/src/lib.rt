@@ -90,9 +90,9 @@ fn take_check(
     let r = rows::reduce(w, owner, k, n, &mut noted[have..]);
     let all = have + r.count;
     match r.lead {
-        Some(p) => packets::restore(noted, 0, all, block, n, s, n, p),
+        Some(p) => packets::restore(&noted[..all], block, n, s, n, p),
         None => {
-            if sums::sum_of_check(noted, 0, all, block, n, s) != s {
+            if sums::sum_of_check(&noted[..all], block, n, s).is_some() {
                 return Err(Clash);
             }
         }

@@ -28,8 +28,8 @@ fn judge(table: &Table, block: &[u8], map: &[u8], count: &[u16], used: &[u8]) ->
     for j in 0..table.checks {
         let w = usize::from(table.words[4 + j]);
         if marks::to_sum(count[j], used[j]) {
-            let low = sums::sum_of_check(table.words, at, w, block, table.places, table.size);
-            if low != table.size {
+            let places = table::run(table.words, at, w);
+            if let Some(low) = sums::sum_of_check(places, block, table.places, table.size) {
                 return Some(Fault {
                     check: j as u32,
                     byte: low as u32,

@@ -36,7 +36,8 @@ fn settle(
     let r = rows::reduce(w, owner, k, p, &mut noted[1..]);
     match r.lead {
         None => {
-            packets::restore(noted, 0, r.count + 1, block, n, s, n, p);
+            let all = r.count + 1;
+            packets::restore(&noted[..all], block, n, s, n, p);
             map[p] = 2;
         }
         Some(_) => packets::clear(block, p * s, s),

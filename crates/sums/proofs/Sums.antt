@@ -12,8 +12,7 @@ use Rattle.gf2.specs.Gf2.{xor_group, add}
 use Rattle.lists.specs.Buffers.{part_length}
 use Rattle.packets.specs.Given.{Given, sum_at}
 use Rattle.packets.specs.GivenLaws.{as-check, here, sum-long}
-use mathlib.Core.Bool.{Bool, true, not, false≢true}
-use Rattle.std.specs.Option.{MatchOption, is_some}
+use Rattle.std.specs.Option.{MatchOption}
 use Rattle.std.specs.declared.option.Option.{Option}
 use Rattle.std.specs.declared.option.Option.TheVariants.{None, Some}
 use Rattle.std.specs.Prelude.{EachIndex}
@@ -35,10 +34,6 @@ pub lowest-first : (x : List ℕ) (r : Option ℕ)
     → MatchOption r (EachIndex x (λ k. get_or x k 0 ≡ 0)) (λ i. (i < length x) × (get_or x i 0 ≡ 0 → ⊥) × ((k : ℕ) → k < i → get_or x k 0 ≡ 0)) → LowestByte x r
 lowest-first x None h = lowest-is x (length x) (omega arith) (λ k l. h k l) (λ l. absurd (omega arith))
 lowest-first x (Some i) h = (lowest-is x i (omega arith) h.2 (λ l. h.1), h.0)
-
-pub none-lowest : (x : List ℕ) (r : Option ℕ) (b : Bool) → is_some r ≡ not b → b ≡ true → LowestByte x r → lowest_nonzero x ≡ length x
-none-lowest x None b e t h = h
-none-lowest x (Some i) b e t h = absurd (false≢true (sym (e ∙ ap not t)))
 
 -- ---- or-ing
 -- the first i bytes of o are zero only where those of o₀ and a are; the others are o₀'s

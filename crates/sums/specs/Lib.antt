@@ -1,1 +1,2 @@
 pub mod Lowest
+pub mod LowestLaws

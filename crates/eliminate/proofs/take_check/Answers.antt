@@ -8,6 +8,7 @@ use Rattle.table.specs.Checks.{Places}
 use Rattle.bits.specs.Front.{front_length}
 use Rattle.rows.specs.Leads.{leads}
 use Rattle.rows.specs.LeadsLaws.{lowered-as}
+use Rattle.packets.specs.GivenLaws.{of-check}
 use Rattle.table.specs.SumLaws.{places-low}
 use Rattle.eliminate.specs.EliminatingLaws.{noted_in}
 use Rattle.eliminate.proofs.Taking.{received-few, reducible, path-as, noted-part, summed-low, whole, skipped, zero-lowered, judged-calm, judged-clash, kept-sum}
@@ -41,30 +42,30 @@ restore-requires c =
     let d = c.part_check-have.ensures in
     let g = path-as c.requires.rows.4 _ _ _ _ c.args.map.now c.requires.check.0 d.row c.reduce-r.ensures.path in
     let m = rw c.in-Some.is at c.reduce-r.ensures.row.most in
-    (noted_in (noted-part d.noted g (drop (length c.part_check-have.new.noted - c.part_check-have.result) (drop c.part_check-have.result c.part_check-have.new.noted))) _ _ _ (summed-low _ c.args.map.now (leads c.args.w.now c.args.owner.now) (places-low c.requires.check.0)) c.requires.check.1, omega arith)
+    (of-check _ _ _ _ _ _ (noted_in (noted-part d.noted g (drop (length c.part_check-have.new.noted - c.part_check-have.result) (drop c.part_check-have.result c.part_check-have.new.noted))) _ _ _ (summed-low _ c.args.map.now (leads c.args.w.now c.args.owner.now) (places-low c.requires.check.0)) c.requires.check.1), omega arith)
 
 pub sum_of_check-requires : goal.sum_of_check-requires
 sum_of_check-requires c =
     let d = c.part_check-have.ensures in
     let g = path-as c.requires.rows.4 _ _ _ _ c.args.map.now c.requires.check.0 d.row c.reduce-r.ensures.path in
-    noted_in (noted-part d.noted g (drop (length c.part_check-have.new.noted - c.part_check-have.result) (drop c.part_check-have.result c.part_check-have.new.noted))) _ _ _ (summed-low _ c.args.map.now (leads c.args.w.now c.args.owner.now) (places-low c.requires.check.0)) c.requires.check.1
+    of-check _ _ _ _ _ _ (noted_in (noted-part d.noted g (drop (length c.part_check-have.new.noted - c.part_check-have.result) (drop c.part_check-have.result c.part_check-have.new.noted))) _ _ _ (summed-low _ c.args.map.now (leads c.args.w.now c.args.owner.now) (places-low c.requires.check.0)) c.requires.check.1)
 
-pub returns-then-sum_of_check-s : goal.returns-then-sum_of_check-s
-returns-then-sum_of_check-s c =
+pub returns-then-is_some : goal.returns-then-is_some
+returns-then-is_some c =
     let d = c.part_check-have.ensures in
     let g = path-as c.requires.rows.4 _ _ _ _ c.args.map.now c.requires.check.0 d.row c.reduce-r.ensures.path in
     record {
       row = rw c.in-None.is at (lowered-as c.requires.rows.4 d.row c.reduce-r.ensures.row);
-      sum = judged-clash _ _ _ _ _ _ _ _ c.requires.check.0 c.requires.check.1 (noted-part d.noted g (drop (length c.part_check-have.new.noted - c.part_check-have.result) (drop c.part_check-have.result c.part_check-have.new.noted))) c.sum_of_check.ensures c.if-sum_of_check-s.true;
+      sum = judged-clash _ _ _ _ _ _ _ _ c.requires.check.0 c.requires.check.1 (noted-part d.noted g (drop (length c.part_check-have.new.noted - c.part_check-have.result) (drop c.part_check-have.result c.part_check-have.new.noted))) _ c.is_some.ensures c.if-is_some.true c.sum_of_check.ensures;
     }
 
-pub returns-else-sum_of_check-s : goal.returns-else-sum_of_check-s
-returns-else-sum_of_check-s c =
+pub returns-else-is_some : goal.returns-else-is_some
+returns-else-is_some c =
     let d = c.part_check-have.ensures in
     let g = path-as c.requires.rows.4 _ _ _ _ c.args.map.now c.requires.check.0 d.row c.reduce-r.ensures.path in
     record {
       row = lowered-as c.requires.rows.4 d.row c.reduce-r.ensures.row;
-      sum = rw c.in-None.is (judged-calm _ _ _ _ _ _ _ _ c.requires.check.0 c.requires.check.1 (noted-part d.noted g (drop (length c.part_check-have.new.noted - c.part_check-have.result) (drop c.part_check-have.result c.part_check-have.new.noted))) c.sum_of_check.ensures c.if-sum_of_check-s.false);
+      sum = rw c.in-None.is (judged-calm _ _ _ _ _ _ _ _ c.requires.check.0 c.requires.check.1 (noted-part d.noted g (drop (length c.part_check-have.new.noted - c.part_check-have.result) (drop c.part_check-have.result c.part_check-have.new.noted))) _ c.is_some.ensures c.if-is_some.false c.sum_of_check.ensures);
     }
 
 pub returns-in-Some : goal.returns-in-Some

@@ -3,6 +3,7 @@ use mathlib.Core.Path.{ap}
 use native.Mathlib.Omega.{arith}
 use Rattle.bits.specs.Row.{above}
 use lib.ListN.{length-set}
+use Rattle.packets.specs.GivenLaws.{of-check}
 use Rattle.settle.proofs.Settling.{behind-long, can-reduce, can-restore, gone, left}
 use Rattle.settle.proofs.settle.Goals as goal
 
@@ -24,7 +25,7 @@ reduce-r-requires c =
 pub restore-requires : goal.restore-requires
 restore-requires c =
     let r = c.reduce-r.ensures in
-    (can-restore _ _ _ _ c.requires.rows.0 c.requires.room.0 c.requires.rows.1 c.from-k.ensures c.flip.ensures r.row r.path _ _ c.requires.room.1 c.args.noted.now _ (omega (arith, c.requires)), c.requires.room.0)
+    (of-check _ _ _ _ _ _ (can-restore _ _ _ _ c.requires.rows.0 c.requires.room.0 c.requires.rows.1 c.from-k.ensures c.flip.ensures r.row r.path _ _ c.requires.room.1 c.args.noted.now _ (omega (arith, c.requires))), c.requires.room.0)
 
 pub returns-in-None : goal.returns-in-None
 returns-in-None c =

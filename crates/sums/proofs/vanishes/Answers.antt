@@ -1,11 +1,12 @@
 -- `sums::vanishes` meets its contract: where all bytes or-ed are zero, the bytes of the sum passed are.
-use mathlib.Core.Path.{refl, sym, ◌∙◌}
-use mathlib.Core.Bool.{false≢true}
+use mathlib.Core.Path.{refl, sym, ap, ◌∙◌}
+use mathlib.Core.Bool.{false≢true, not}
 use native.Mathlib.Omega.{arith}
 use lib.ListN.{drop, length-drop}
 use Rattle.packets.specs.Given.{sum_at}
 use Rattle.packets.specs.GivenLaws.{sum-long}
-use Rattle.sums.proofs.Sums.{passed, none-lowest}
+use Rattle.sums.proofs.Sums.{passed}
+use Rattle.sums.specs.LowestLaws.{none-lowest}
 use Rattle.sums.proofs.vanishes.Goals as goal
 
 pub loop-i-init : goal.loop-i-init
@@ -39,7 +40,7 @@ returns-then-or_of-eq0 c =
     let z = c.or_of.ensures c.if-or_of-eq0.true ∙ l.invariant.1.0 in
     let r = l.invariant.1.1 z in
     let x = sum_at c.args.places.now c.args.block.now c.args.n c.args.s in
-    let q = none-lowest (drop l.i x) _ _ c.is_none.ensures e c.lowest_in_rest.ensures in
+    let q = none-lowest (drop l.i x) _ (c.is_none.ensures ∙ ap not e) c.lowest_in_rest.ensures in
     omega (arith, r, q, length-drop l.i x, sum-long _ _ _ _ c.requires)
 
 pub returns : goal.returns
