@@ -15,7 +15,10 @@ use Rattle.table.specs.Codewords.{zero_sum}
 use Rattle.table.specs.PacketLaws.{sum_view}
 use Rattle.table.specs.Packets.{Packets, packet_sum, lowest_nonzero}
 use Rattle.table.specs.SumLaws.{lowest-le, lowest-at, lowest-below, lowest-is, lowest-zeros}
-use Rattle.faults.specs.Faults.{Fault, no_fault, check_of, byte_of, fault_of, failing, FirstFault}
+use Rattle.faults.specs.Faults.{Fault, no_fault, check_of, byte_of, fault_of, failing, FirstFault, fault_told}
+use Rattle.refusals.specs.Refusals.{number_of}
+use Rattle.refusals.specs.declared.Refusal.{Refusal}
+use Rattle.refusals.specs.declared.Refusal.TheVariants.{Contradiction}
 
 -- ---- by the test
 pub no-fault : (f : Option Fault) → no_fault f ≡ true → f ≡ none
@@ -152,3 +155,8 @@ module _ (judged : List ℕ → Bool) (s : ℕ) (b : List (List ℕ)) where
         (λ z. absurd (r.nonzero (ap (λ l. get_or l f.byte 0) (zero-sound s b (get_or cs f.check []) z) ∙ get_d-zeros s f.byte)))
         (λ z. z) in
         reached 0 cs f.check r.inside r.is-judged not-zero r.lower ∙ ap₂ (λ k y. some (record { check = k; byte = y })) (omega arith) byte
+
+-- only 8 hands something on
+pub nothing-told : (r : Refusal) → (number_of r ≡ 8 → ⊥) → fault_told r ≡ none
+nothing-told (Contradiction f) h = absurd (h refl)
+nothing-told _ h = refl

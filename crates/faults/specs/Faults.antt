@@ -5,6 +5,8 @@ use Rattle.std.proofs.Math.Option.{Option, none, some}
 use Rattle.std.specs.declared.option.Option.{Option as Found}
 use Rattle.std.specs.declared.option.Option.TheVariants.{None, Some}
 use Rattle.refusals.specs.declared.Fault.{Fault as FaultFound}
+use Rattle.refusals.specs.declared.Refusal.{Refusal}
+use Rattle.refusals.specs.declared.Refusal.TheVariants.{Contradiction}
 use Rattle.lists.specs.Lists.{All}
 use Rattle.table.specs.Codewords.{zero_sum}
 use Rattle.table.specs.Packets.{packet_sum, lowest_nonzero}
@@ -18,6 +20,11 @@ pub record Fault : Type 0 where
 abbrev pub fault_found : Found FaultFound → Option Fault
 fault_found None = none
 fault_found (Some f) = some (record { check = f.check; byte = f.byte })
+
+-- .. and hands on with a refusal
+abbrev pub fault_told : Refusal → Option Fault
+fault_told (Contradiction f) = some (record { check = f.check; byte = f.byte })
+fault_told _ = none
 
 -- nothing fails
 abbrev pub no_fault : Option Fault → Bool

@@ -8,7 +8,7 @@ use Rattle.std.specs.declared.result.Result.TheVariants.{Ok, Err}
 use Rattle.refusals.specs.Refusals.{number_of}
 use Rattle.refusals.specs.declared.Fault.{Fault as FaultFound}
 use Rattle.refusals.specs.declared.Refusal.{Refusal}
-use Rattle.faults.specs.Faults.{Fault, failing, every_check, fault_found}
+use Rattle.faults.specs.Faults.{Fault, failing, every_check, fault_found, fault_told}
 use Rattle.table.specs.FirstCause.{first_cause, wrong_length}
 use Rattle.table.specs.Packets.{packets}
 use Rattle.table.specs.Table.{places, size, checks, table_causes}
@@ -30,7 +30,7 @@ verdict (some f) = record { refusal = 0; codeword = false; fault = some f }
 -- those of what the code says
 abbrev pub values_of : Result (Found FaultFound) Refusal → Values
 values_of (Ok f) = verdict (fault_found f)
-values_of (Err r) = refused_with (number_of r)
+values_of (Err r) = record { refusal = number_of r; codeword = false; fault = fault_told r }
 
 -- ---- the call: table t and block b of any length and content
 -- the causes in their order, 1 to 5; 5: the block isn't n·s bytes

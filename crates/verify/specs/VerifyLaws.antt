@@ -1,7 +1,7 @@
 -- The call of verification by cases, and what its values tell.
 use Rattle.std.specs.Prelude.{◌≡◌, Bool, true, List, [], ◌∷◌, ◌≢◌, eqb}
 use Rattle.std.proofs.Math.Path.{refl}
-use Rattle.std.proofs.Common.{ap, ◌∙◌, true≢false, eq-eqb, ne_eqb}
+use Rattle.std.proofs.Common.{arith, sym, ap, ◌∙◌, true≢false, eq-eqb, ne_eqb}
 use Rattle.std.proofs.lemmas.Bool.{false≢true, not-false}
 use Rattle.std.proofs.Math.Option.{Option, none, some, none-ne-some, some-ne-none, some-injective}
 use Prim.Native.Nat.{ℕ, zero, suc, ◌*◌}
@@ -10,7 +10,12 @@ use Rattle.std.specs.declared.option.Option.{Option as Found}
 use Rattle.std.specs.declared.option.Option.TheVariants.{None, Some}
 use Rattle.std.specs.declared.result.Result.{Result}
 use Rattle.std.specs.declared.result.Result.TheVariants.{Ok, Err}
-use Rattle.refusals.proofs.Numbers.{number-tells}
+use Rattle.faults.proofs.FaultLaws.{nothing-told}
+use Rattle.faults.specs.Faults.{fault_told}
+use Rattle.table.specs.TableLaws.{refusal-small}
+use Rattle.refusals.proofs.Numbers.{number-tells, number-some}
+use Rattle.refusals.specs.Refusals.{number_of}
+use Rattle.refusals.specs.declared.Refusal.TheVariants.{Contradiction, NoCodeword}
 use Rattle.refusals.specs.declared.Fault.{Fault as FaultFound}
 use Rattle.refusals.specs.declared.Refusal.{Refusal}
 use Rattle.lists.specs.Tests.{eqb-true}
@@ -75,14 +80,28 @@ failed-at zero none f h = absurd (none-ne-some f h)
 failed-at zero (some g) f h = (refl, h)
 failed-at (suc r) v f h = absurd (none-ne-some f h)
 
--- no two answers have the same values, but for the two causes with number 8
-pub values-tell : (a b : Result (Found FaultFound) Refusal) → (values_of a).refusal ≢ 8 → values_of a ≡ values_of b → a ≡ b
-values-tell (Err r) (Err q) n h = ap (λ (x : Refusal). Err x) (number-tells r q n (ap (λ x. x.refusal) h))
-values-tell (Err r) (Ok None) n h = absurd (false≢true (ap (λ x. x.codeword) h))
-values-tell (Err r) (Ok (Some f)) n h = absurd (none-ne-some _ (ap (λ x. x.fault) h))
-values-tell (Ok None) (Err q) n h = absurd (true≢false (ap (λ x. x.codeword) h))
-values-tell (Ok None) (Ok None) n h = refl
-values-tell (Ok None) (Ok (Some f)) n h = absurd (true≢false (ap (λ x. x.codeword) h))
-values-tell (Ok (Some f)) (Err q) n h = absurd (some-ne-none _ (ap (λ x. x.fault) h))
-values-tell (Ok (Some f)) (Ok None) n h = absurd (false≢true (ap (λ x. x.codeword) h))
-values-tell (Ok (Some f)) (Ok (Some g)) n h = ap (λ (x : Fault). Ok (Some (record { check = x.check; byte = x.byte }))) (some-injective _ _ (ap (λ x. x.fault) h))
+-- a refusal of the table hands nothing on
+pub nothing-handed : (t : List ℕ) (r : Refusal) → number_of r ≡ refusal t → fault_told r ≡ none
+nothing-handed t r e = nothing-told r (λ z. omega (arith, e, z, refusal-small t))
+
+-- a number and what is handed on with it tell the cause
+cause-tells : (r q : Refusal) → number_of r ≡ number_of q → fault_told r ≡ fault_told q → r ≡ q
+cause-tells (Contradiction f) (Contradiction g) n h = ap (λ (x : Fault). Contradiction (record { check = x.check; byte = x.byte })) (some-injective _ _ h)
+cause-tells (Contradiction f) NoCodeword n h = absurd (some-ne-none _ h)
+cause-tells (Contradiction f) _ n h = absurd (omega (arith, n))
+cause-tells NoCodeword (Contradiction g) n h = absurd (none-ne-some _ h)
+cause-tells NoCodeword NoCodeword n h = refl
+cause-tells NoCodeword _ n h = absurd (omega (arith, n))
+cause-tells _ q n h = number-tells _ q (λ z. omega (arith, z)) n
+
+-- no two answers have the same values
+pub values-tell : (a b : Result (Found FaultFound) Refusal) → values_of a ≡ values_of b → a ≡ b
+values-tell (Err r) (Err q) h = ap (λ (x : Refusal). Err x) (cause-tells r q (ap (λ x. x.refusal) h) (ap (λ x. x.fault) h))
+values-tell (Err r) (Ok None) h = absurd (false≢true (ap (λ x. x.codeword) h))
+values-tell (Err r) (Ok (Some f)) h = absurd (number-some r (ap (λ x. x.refusal) h))
+values-tell (Ok None) (Err q) h = absurd (true≢false (ap (λ x. x.codeword) h))
+values-tell (Ok None) (Ok None) h = refl
+values-tell (Ok None) (Ok (Some f)) h = absurd (true≢false (ap (λ x. x.codeword) h))
+values-tell (Ok (Some f)) (Err q) h = absurd (number-some q (sym (ap (λ x. x.refusal) h)))
+values-tell (Ok (Some f)) (Ok None) h = absurd (false≢true (ap (λ x. x.codeword) h))
+values-tell (Ok (Some f)) (Ok (Some g)) h = ap (λ (x : Fault). Ok (Some (record { check = x.check; byte = x.byte }))) (some-injective _ _ (ap (λ x. x.fault) h))

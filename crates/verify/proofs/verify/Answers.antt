@@ -2,7 +2,7 @@
 use Rattle.std.proofs.lemmas.Result.{err_from_is_err_and}
 use Rattle.refusals.proofs.Numbers.{number-some}
 use Rattle.verify.specs.Verify.{refused_with, verdict}
-use Rattle.verify.specs.VerifyLaws.{verification-is, verification-refused, verification-short}
+use Rattle.verify.specs.VerifyLaws.{nothing-handed, verification-is, verification-refused, verification-short}
 use Prim.Native.Nat.{◌*◌}
 use mathlib.Core.Path.{sym, ap, ap₂, ◌∙◌}
 use Rattle.verify.proofs.verify.Goals as goal
@@ -11,7 +11,8 @@ pub returns-in_err-table : goal.returns-in_err-table
 returns-in_err-table c =
     let p = err_from_is_err_and c.from_residual.result c.from_residual.ensures.1 in
     let e = c.in_err-table.ensures.refusal in
-    rw (p.1, p.2) (ap refused_with e ∙ sym (verification-refused c.args.t.now c.args.block.now (λ z. number-some _ (e ∙ z))))
+    let on = nothing-handed c.args.t.now _ e in
+    rw (p.1, p.2, on) (ap refused_with e ∙ sym (verification-refused c.args.t.now c.args.block.now (λ z. number-some _ (e ∙ z))))
 
 pub returns-then-block-table : goal.returns-then-block-table
 returns-then-block-table c =
