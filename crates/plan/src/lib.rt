@@ -5,7 +5,7 @@ ghost use Rattle.std.specs.Prelude.{◌≡◌, ◌+◌, ◌*◌, ◌<◌, ◌≤
 ghost use Rattle.lists.specs.Lists.{written};
 ghost use Rattle.plan.specs.Head.{HeadFits};
 ghost use Rattle.plan.specs.Layout.{least_numbers, plan_head, plan_places, plan_gap, plan_kept};
-ghost use Rattle.plan.specs.Layout.{info_at, info_count, info_in, step_count, steps_at};
+ghost use Rattle.plan.specs.Layout.{info_at, info_count, info_in, step_count, steps_at, steps_in};
 ghost use Rattle.plan.specs.Step.{SlotsBelow, pack, unpack, decoded_of};
 
 mod formed;
@@ -126,6 +126,24 @@ pub fn steps_at(w: &[u32]) -> usize
     ensures { result ≡ steps_at w.now }
 {
     LEAST_NUMBERS + info_count(w)
+}
+
+// the information places
+pub fn info(w: &[u32]) -> &[u32]
+    requires { steps_at w.now ≤ length w.now }
+    ensures { result.now ≡ info_in w.now }
+{
+    let end = INFO_AT + info_count(w);
+    &w[INFO_AT..end]
+}
+
+// the steps' numbers
+pub fn steps(w: &[u32]) -> &[u32]
+    requires { steps_at w.now ≤ length w.now }
+    ensures { result.now ≡ steps_in w.now }
+{
+    let at = steps_at(w);
+    &w[at..]
 }
 
 // the k-th information place
