@@ -100,7 +100,8 @@ pub fn put_part(
     }
 }
 
-// What a run starts from is added into acc: the bytes of slot to, none after a clear.
+// What a run starts from is added into acc: the bytes of slot to, none after a clear. Whether there is a clear is read from the
+// plan's number, so it is a bool and no step of the caller's.
 pub fn add_base(
     acc: &mut [u8],
     to: usize,
