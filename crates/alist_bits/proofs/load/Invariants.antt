@@ -1,6 +1,6 @@
 -- `load` meets its contract: check after check.
 use mathlib.Core.Path.{◌≡◌}
-use Prim.Native.Nat.{◌+◌, ◌-◌, ◌≤◌}
+use Prim.Native.Nat.{◌+◌}
 use lib.ListN.{length}
 use Rattle.table.specs.Checks.{offset}
 use Rattle.alist_bits.proofs.Turning.{Turned, Listed}

@@ -1,5 +1,4 @@
 -- `turn_check` meets its contract: place after place.
-use Prim.Native.Nat.{◌-◌, ◌≤◌}
 use lib.ListN.{take, drop}
 use Rattle.alist_bits.specs.Loaded.{Flipped}
 use Rattle.alist_bits.proofs.turn_check.Given as goal
