@@ -1,28 +1,19 @@
 // Whether the rows of an alist text agree with its columns, tile by tile.
 #![tactic(auto)]
 
-ghost use Rattle.std.specs.Prelude.{◌≡◌, min, ◌≤◌, ◌<◌, length};
+ghost use Rattle.std.specs.Prelude.{◌≡◌, ◌≤◌, ◌<◌, length};
 ghost use Rattle.tiles.specs.Board.{Blank, Decides};
 ghost use Rattle.tiles.specs.Tiles.{Agrees};
 
-use tiles::{BOARD_WORDS, SIDE, flip_lists};
-
-fn lesser(a: usize, b: usize) -> usize
-    ensures { result ≡ min a b }
-{
-    if a < b {
-        return a;
-    }
-    b
-}
+use tiles::{Axis, SIDE, flip_lists};
 
 // whether every bit is 0
 fn is_blank(board: &[u64]) -> bool
     requires { length board.now ≡ 16384 }
     ensures { Decides result (Blank board.now) }
 {
-    for i in 0..BOARD_WORDS {
-        if board[i] != 0 {
+    for x in board {
+        if *x != 0 {
             return false;
         }
     }
@@ -52,9 +43,9 @@ fn band_agrees(
     let mut next = lists;
     let mut c = 0;
     while c < n {
-        let span = lesser(SIDE, n - c);
-        let ends = flip_lists(board, text, weight, next, span, a, r, k, true);
-        flip_lists(board, text, others, rows, k, b, c, span, false);
+        let span = SIDE.min(n - c);
+        let ends = flip_lists(board, text, weight, next, span, a, r, k, Axis::Columns);
+        flip_lists(board, text, others, rows, k, b, c, span, Axis::Rows);
         if !is_blank(board) {
             return false;
         }
@@ -87,7 +78,7 @@ pub fn lists_agree(
     let mut next = rows;
     let mut r = 0;
     while r < m {
-        let k = lesser(SIDE, m - r);
+        let k = SIDE.min(m - r);
         if !band_agrees(board, text, weights, lists, n, a, weight, next, k, b, r) {
             return false;
         }

@@ -2,9 +2,9 @@
 #![tactic(auto)]
 
 ghost use Rattle.std.specs.Prelude.{ℕ, ◌+◌, ◌≤◌, ◌<◌, ◌≡◌, length, get_or, take, drop};
-ghost use Rattle.table.specs.Accepted.{Accepted};
-ghost use Rattle.table.specs.Table.{places, size};
 ghost use Rattle.alist_bits.specs.Loaded.{Flipped, Loaded};
+
+use table::Table;
 
 // check j is flipped in the row of each of its places
 fn turn_check(columns: &mut [u64], j: usize, t: &[u16], at: usize, weight: usize)
@@ -20,18 +20,17 @@ fn turn_check(columns: &mut [u64], j: usize, t: &[u16], at: usize, weight: usize
 }
 
 // the table's places and its checks as rows of bits
-pub fn load(t: &[u16], m: usize, columns: &mut [u64], rows: &mut [u64])
-    requires table { Accepted t.now m (places t.now) (size t.now) }
+pub fn load(table: &Table, columns: &mut [u64], rows: &mut [u64])
     requires room { (length columns.old ≡ 16384)
         × (length rows.old ≡ 8192) }
     requires zeros { (p : ℕ) → get_or columns.old p 0 ≡ 0 }
-    ensures { Loaded t.now m columns.new rows.new }
+    ensures { Loaded table.now.words.now table.now.checks columns.new rows.new }
 {
-    let mut at = 5 + m;
-    for j in 0..m {
-        let weight = usize::from(t[4 + j]);
-        bits::load(rows, j, t, at, weight);
-        turn_check(columns, j, t, at, weight);
+    let mut at = 5 + table.checks;
+    for j in 0..table.checks {
+        let weight = usize::from(table.words[4 + j]);
+        bits::load(rows, j, table.words, at, weight);
+        turn_check(columns, j, table.words, at, weight);
         at += weight;
     }
 }

@@ -11,7 +11,8 @@ use Rattle.lists.specs.Lists.{Wrote}
 use Rattle.table.specs.Table.{beyond}
 use Rattle.making.specs.Making.{MakeAnswer, table_words, too_heavy, make_answer_at, make_buffer_after}
 use Rattle.making.specs.Written.{table_of}
-use Rattle.numbers.specs.Counting.{Counts}
+use Rattle.numbers.specs.Counting.{count_of}
+use Rattle.std.specs.Prelude.{Some, None}
 use Rattle.numbers.specs.Cursor.{Ahead, Reads}
 use Rattle.numbers.specs.Numbers.{numbers_in}
 use Rattle.alist.specs.Alist.{column_count, row_count, is_alist, malformed, disagree, alist_checks, alist_read_refusal_at, alist_table}
@@ -72,16 +73,16 @@ wrote_as {b} {e} {k} n s h w = subst (λ x. Wrote b 0 (table_of n s x) e k) h w
 
 -- ---- the first four numbers, and the others
 -- no numbers, or fewer than four
-pub none_read : (o : Option (List ℕ)) (good : Bool) (count : ℕ) → Counts o good count → good ≡ false → malformed o ≡ true
-none_read none good count c e = refl
-none_read (some l) good count c e = absurd (false≢true (sym e ∙ c.whether))
+pub none_read : (o : Option (List ℕ)) → None ≡ count_of o → malformed o ≡ true
+none_read none c = refl
+none_read (some l) c = absurd (cc)
 
-pub few-read : (o : Option (List ℕ)) (good : Bool) (count : ℕ) → Counts o good count → count < 4 → malformed o ≡ true
-few-read none good count c h = refl
-few-read (some l) good count c h = ap not (ap (λ x. x && sound l) (ne_eqb (length l) _ (λ z. short z)))
+pub few-read : (o : Option (List ℕ)) (count : ℕ) → Some count ≡ count_of o → count < 4 → malformed o ≡ true
+few-read none count c h = refl
+few-read (some l) count c h = ap not (ap (λ x. x && sound l) (ne_eqb (length l) _ (λ z. short z)))
   where
     short : length l ≡ 4 + column_count l + row_count l + column_count l * get_or l 2 0 + row_count l * get_or l 3 0 → ⊥
-    short z = let y = c.many in omega arith
+    short z = let y : count ≡ length l = cc in omega arith
 
 pub record Four (text : List ℕ) (n m a b at count : ℕ) : Type 0 where
   pub others : List ℕ
@@ -89,16 +90,16 @@ pub record Four (text : List ℕ) (n m a b at count : ℕ) : Type 0 where
   pub ahead : Ahead text at others
   pub counts : count ≡ length others
 
-pub four-read : {text : List ℕ} {n m a b c1 c2 c3 at : ℕ} (good : Bool) (count : ℕ) → Counts (numbers_in text) good count → good ≡ true → 4 ≤ count
+pub four-read : {text : List ℕ} {n m a b c1 c2 c3 at : ℕ} (count : ℕ) → Some count ≡ count_of (numbers_in text) → 4 ≤ count
     → Reads text 0 n c1 → Reads text c1 m c2 → Reads text c2 a c3 → Reads text c3 b at → Four text n m a b at (count - 4)
-four-read {text} {n} {m} {a} {b} {c1} {c2} {c3} {at} good count c t few r1 r2 r3 r4 = by (numbers_in text) refl c
+four-read {text} {n} {m} {a} {b} {c1} {c2} {c3} {at} count c few r1 r2 r3 r4 = by (numbers_in text) refl c
   where
-    by : (o : Option (List ℕ)) → numbers_in text ≡ o → Counts o good count → Four text n m a b at (count - 4)
-    by none e k = absurd (false≢true (sym k.whether ∙ t))
-    by (some []) e k = absurd (let z = k.many in omega arith)
-    by (some (x ∷ [])) e k = absurd (let z = k.many in omega arith)
-    by (some (x ∷ y ∷ [])) e k = absurd (let z = k.many in omega arith)
-    by (some (x ∷ y ∷ z ∷ [])) e k = absurd (let q = k.many in omega arith)
+    by : (o : Option (List ℕ)) → numbers_in text ≡ o → Some count ≡ count_of o → Four text n m a b at (count - 4)
+    by none e k = absurd (cc)
+    by (some []) e k = absurd (let z : count ≡ 0 = cc in omega arith)
+    by (some (x ∷ [])) e k = absurd (let z : count ≡ 1 = cc in omega arith)
+    by (some (x ∷ y ∷ [])) e k = absurd (let z : count ≡ 2 = cc in omega arith)
+    by (some (x ∷ y ∷ z ∷ [])) e k = absurd (let q : count ≡ 3 = cc in omega arith)
     by (some (x ∷ y ∷ z ∷ u ∷ l)) e k =
         let a2 = r1.others x (y ∷ z ∷ u ∷ l) e in
         let a3 = r2.others y (z ∷ u ∷ l) a2 in
@@ -111,5 +112,5 @@ four-read {text} {n} {m} {a} {b} {c1} {c2} {c3} {at} good count c t few r1 r2 r3
           others = l;
           numbers-are = e ∙ ap₂ (λ i j. some (i ∷ j)) (sym e1) (ap₂ (λ i j. i ∷ j) (sym e2) (ap₂ (λ i j. i ∷ j ∷ l) (sym e3) (sym e4)));
           ahead = r4.others u l a4;
-          counts = (let q = k.many in omega arith);
+          counts = (let q : count ≡ length (x ∷ y ∷ z ∷ u ∷ l) = cc in omega arith);
         }

@@ -1,6 +1,8 @@
 -- What the parts of the reader say: of weights and lists, and of the whole call.
 use Rattle.std.specs.Prelude.{◌≡◌, Bool, true, false, ◌&&◌, List, ◌∷◌, ℕ, ◌+◌, ◌*◌, ◌≤◌, length, take, drop}
 use Rattle.std.proofs.Math.Option.{some}
+use Rattle.std.specs.Option.{is_some, IfSome}
+use Rattle.std.specs.declared.option.Option.{Option as End}
 use Rattle.making.specs.Making.{MakeAnswer}
 use Rattle.numbers.specs.Cursor.{Ahead}
 use Rattle.numbers.specs.Numbers.{numbers_in}
@@ -9,10 +11,10 @@ use Rattle.walks.specs.Walks.{ListsAhead}
 use Rattle.tiles.specs.Board.{Blank}
 
 -- ---- lists
--- good tells whether the list of width numbers from at on is one of weight entries; then next is behind it, and the board is blank again
-abbrev pub GoodList : List ℕ → ℕ → ℕ → ℕ → ℕ → List ℕ → Bool → ℕ → List ℕ → Type 0
-GoodList text at weight width most w good next e = Blank w → (l : List ℕ) → Ahead text at l → width ≤ length l → weight ≤ width
-    → (good ≡ good_list most weight (take width l)) × (good ≡ true → Ahead text next (drop width l) × Blank e)
+-- o tells whether the list of width numbers from at on is one of weight entries; then it is where the list ends, and the board is blank again
+abbrev pub GoodList : List ℕ → ℕ → ℕ → ℕ → ℕ → List ℕ → End ℕ → List ℕ → Type 0
+GoodList text at weight width most w o e = Blank w → (l : List ℕ) → Ahead text at l → width ≤ length l → weight ≤ width
+    → (is_some o ≡ good_list most weight (take width l)) × IfSome o (λ next. Ahead text next (drop width l) × Blank e)
 
 -- r tells whether count lists are good; then the board is blank again
 abbrev pub GoodLists : List ℕ → ℕ → ℕ → ℕ → ℕ → ℕ → List ℕ → Bool → List ℕ → Type 0

@@ -7,30 +7,13 @@ ghost use Rattle.alist.specs.Alist.{alist_read_answer, alist_read_table_after};
 ghost use Rattle.tiles.specs.Board.{Blank};
 ghost use Rattle.alist_read.specs.Reading.{GoodList, GoodLists, Sound, Makes, ReadsRest};
 
-use making::Made;
+use refusals::Refusal;
 use table::{MOST_ONES, MOST_WORDS};
-use tiles::BOARD_WORDS;
-
-// whether a list is good, and where it ends
-#[derive(Drop)]
-struct Passed {
-    good: bool,
-    next: usize,
-}
-
-// it isn't
-fn bad() -> Passed
-    ensures { result.good ≡ false }
-{
-    Passed {
-        good: false,
-        next: 0,
-    }
-}
+use tiles::{Axis, BOARD_WORDS};
 
 // ---- 12, by weights and lists; the board is blank before and after
 
-// a list of weight entries and padding to width
+// where a good list ends, of weight entries and padding to width
 fn good_list(
     board: &mut [u64],
     text: &[u8],
@@ -38,22 +21,22 @@ fn good_list(
     weight: usize,
     width: usize,
     most: usize,
-) -> Passed
+) -> Option<usize>
     requires { length board.old ≡ 16384 }
     ensures len { length board.new ≡ length board.old }
-    ensures good { GoodList text.now at weight width most board.old result.good result.next board.new }
+    ensures good { GoodList text.now at weight width most board.old result board.new }
 {
     if width < weight {
-        return bad();
+        return None;
     }
     if !tiles::mark(board, text, at, weight, most) {
-        return bad();
+        return None;
     }
     let padding = tiles::unmark(board, text, at, weight);
-    Passed {
-        good: walks::all_zero(text, padding, width - weight),
-        next: walks::skip_numbers(text, padding, width - weight),
+    if !walks::all_zero(text, padding, width - weight) {
+        return None;
     }
+    Some(walks::skip_numbers(text, padding, width - weight))
 }
 
 // count lists, whose weights stand from weights on
@@ -74,12 +57,11 @@ fn good_lists(
     let mut next = at;
     for i in 0..count {
         let spot = numbers::read(text, weight);
-        let list = good_list(board, text, next, spot.value, width, most);
-        if !list.good {
+        let Some(end) = good_list(board, text, next, spot.value, width, most) else {
             return false;
-        }
+        };
         weight = spot.next;
-        next = list.next;
+        next = end;
     }
     true
 }
@@ -126,26 +108,25 @@ fn make(
     rw: usize,
     rl: usize,
     table: &mut [u16],
-) -> Made
+) -> Result<u32, Refusal>
     requires { length board.old ≡ 16384 }
     ensures { Makes text.now s n m b rw rl board.old table.old (make_answer_of result) table.new }
 {
     if table::beyond(n, s, m) {
-        return making::refused(2);
+        return Err(Refusal::Limits);
     }
-    tiles::flip_lists(board, text, rw, rl, m, b, 0, n, false);
-    let ones = making::weigh(board, m);
+    tiles::flip_lists(board, text, rw, rl, m, b, 0, n, Axis::Rows);
+    let Some(ones) = making::weigh(board, m) else {
+        return Err(Refusal::Lengths);
+    };
     if MOST_ONES < ones {
-        return making::refused(3);
+        return Err(Refusal::Lengths);
     }
     if table.len() != MOST_WORDS {
-        return making::refused(5);
+        return Err(Refusal::Buffer);
     }
     let length = making::write(table, n, s, board, m, ones);
-    Made {
-        refusal: 0,
-        length: length as u32,
-    }
+    Ok(length as u32)
 }
 
 // count numbers from at on, behind the sizes and the greatest weights
@@ -160,7 +141,7 @@ fn read_rest(
     at: usize,
     count: usize,
     table: &mut [u16],
-) -> Made
+) -> Result<u32, Refusal>
     requires { (length board.old ≡ 16384)
         × (n < 1000000)
         × (m < 1000000)
@@ -170,33 +151,32 @@ fn read_rest(
 {
     let columns = n * a;
     if count != n + m + columns + m * b {
-        return making::refused(12);
+        return Err(Refusal::AlistText);
     }
     let rw = walks::skip_numbers(text, at, n);
     let cl = walks::skip_numbers(text, rw, m);
     let rl = walks::skip_numbers(text, cl, columns);
     if !is_sound(board, text, n, m, a, b, at, rw, cl, rl) {
-        return making::refused(12);
+        return Err(Refusal::AlistText);
     }
     if !agreeing::lists_agree(board, text, at, cl, n, a, rw, rl, m, b) {
-        return making::refused(13);
+        return Err(Refusal::AlistLists);
     }
     make(board, text, s, n, m, b, rw, rl, table)
 }
 
 // the numbers of a text, and a blank board
-fn read_in(board: &mut [u64], text: &[u8], s: usize, table: &mut [u16]) -> Made
+fn read_in(board: &mut [u64], text: &[u8], s: usize, table: &mut [u16]) -> Result<u32, Refusal>
     requires { (length board.old ≡ 16384)
         × Blank board.old }
     ensures answer { make_answer_of result ≡ alist_read_answer text.now s table.old }
     ensures table { table.new ≡ alist_read_table_after text.now s table.old }
 {
-    let all = numbers::count(text);
-    if !all.good {
-        return making::refused(12);
-    }
-    if all.count < 4 {
-        return making::refused(12);
+    let Some(count) = numbers::count(text) else {
+        return Err(Refusal::AlistText);
+    };
+    if count < 4 {
+        return Err(Refusal::AlistText);
     }
     let n = numbers::read(text, 0);
     let m = numbers::read(text, n.next);
@@ -211,13 +191,13 @@ fn read_in(board: &mut [u64], text: &[u8], s: usize, table: &mut [u16]) -> Made
         a.value,
         b.value,
         b.next,
-        all.count - 4,
+        count - 4,
         table,
     )
 }
 
 // Reads an alist text, with packets of s bytes: the answer, and the table in front of the buffer. With a refusal the buffer stays as it was.
-pub fn read_alist(text: &[u8], s: usize, table: &mut [u16]) -> Made
+pub fn read_alist(text: &[u8], s: usize, table: &mut [u16]) -> Result<u32, Refusal>
     ensures answer { make_answer_of result ≡ alist_read_answer text.now s table.old }
     ensures table { table.new ≡ alist_read_table_after text.now s table.old }
 {

@@ -1,7 +1,7 @@
 // The generator of RFC 5170 (Park and Miller), and a draw by it.
 #![tactic(auto)]
 
-ghost use Rattle.std.specs.Prelude.{◌≤◌, ◌<◌, ◌≡◌};
+ghost use Rattle.std.specs.Prelude.{◌≤◌, ◌<◌, ◌≡◌, MatchOption};
 ghost use Rattle.draws.specs.Draws.{Draws};
 ghost use Rattle.draws.specs.Generator.{modulus};
 ghost use Rattle.draws.specs.Generator.{next as following};
@@ -18,26 +18,25 @@ pub fn next(raw: usize) -> usize
     16807 * raw % MODULUS
 }
 
-// what is drawn, the generator's value after it, and the draws left
-#[derive(Drop)]
-pub struct Drawn {
-    pub value: usize,
+// the generator's value, and the draws left
+#[derive(Clone, Copy)]
+pub struct Generator {
     pub raw: usize,
     pub left: usize,
+    pub ghost small: { raw < modulus },
 }
 
-// one draw below max; some are left
-pub fn draw(max: usize, raw: usize, left: usize) -> Drawn
-    requires { (0 < max)
-        × (max ≤ 10240)
-        × (raw < modulus)
-        × (0 < left) }
-    ensures { Draws max raw left result.value result.raw result.left }
-{
-    let x = next(raw);
-    Drawn {
-        value: max * x / MODULUS,
-        raw: x,
-        left: left - 1,
+impl Generator {
+    // one draw below max, if some are left
+    pub fn draw(&mut self, max: usize) -> Option<usize>
+        requires { (0 < max)
+            × (max ≤ 10240) }
+        ensures { MatchOption result
+            ((self.old.left ≡ 0) × (self.new.raw ≡ self.old.raw) × (self.new.left ≡ 0))
+            (λ v. Draws max self.old.raw self.old.left v self.new.raw self.new.left) }
+    {
+        self.left = self.left.checked_sub(1)?;
+        self.raw = next(self.raw);
+        Some(max * self.raw / MODULUS)
     }
 }

@@ -16,7 +16,10 @@ use Rattle.gf2.specs.Gf2.{bit}
 use Rattle.bits.specs.Row.{row, places_in}
 use Rattle.draws.specs.DrawingLaws.{until-gives}
 use Rattle.draws.specs.Generator.{Drawn, until}
-use Rattle.lots.specs.Grid.{free, PutIf, Sought}
+use Rattle.lots.specs.Grid.{free, Put, Sought}
+use Rattle.std.specs.Prelude.{Some, None, MatchOption}
+use Rattle.std.specs.Option.{is_some}
+use Rattle.std.specs.declared.option.Option.{Option as Found}
 use Rattle.fill.specs.Fill.{State, put, extra, first_one, second_one}
 use Rattle.fill.specs.Held.{Rep, Ends}
 use Rattle.fill.proofs.Turns.{until-same, rep-put, ends_some, ends-none, ends_is}
@@ -67,9 +70,9 @@ module _ (k m e : ℕ) (w : List ℕ) (raw left : ℕ) (s : State) (rep : Rep k 
   none_free z q h = rep.cells i q hi h ∙ ap not (has-empty (get_or s.rows i []) (sym degree-is ∙ z) q)
 
   -- a draw put in row i
-  extra-step : (f : ℕ → Bool) → ((v : ℕ) → f v ≡ true → has v (get_or s.rows i []) ≡ false) → (found : Bool) (v x l : ℕ) → Sought k raw left f found v x l
-      → (w' : List ℕ) → PutIf found w i v w' → Ends (extra k i f s) found (Rep k m e w' x l)
-  extra-step f fr true v x l t w' p =
+  extra-step : (f : ℕ → Bool) → ((v : ℕ) → f v ≡ true → has v (get_or s.rows i []) ≡ false) → (o : Found ℕ) (x l : ℕ) (w' : List ℕ) → Sought k raw left f o x l
+      → MatchOption o (w' ≡ w) (λ v. Put w i v w') → Ends (extra k i f s) (is_some o) (Rep k m e w' x l)
+  extra-step f fr (Some v) x l w' t p =
       let d : Drawn = record { value = v; raw = x; left = l } in
       let t' : until s.left s.raw k f ≡ some d = ap₂ (λ a b. until a b k f) rep.left_is rep.raw-is ∙ sym t.drawn in
       let g = rep.good in
@@ -77,33 +80,33 @@ module _ (k m e : ℕ) (w : List ℕ) (raw left : ℕ) (s : State) (rep : Rep k 
       let none-there = fr v (until-gives s.left s.raw k f d t').0 in
       ends_some (extra k i f s) true (Rep k m e w' x l) R (rw (t', extra)) refl
       (rep-put k m e w raw left s rep i v x l w' R hi t.below none-there t.small p refl g.low g.whole g.within refl refl)
-  extra-step f fr false v x l t w' p =
+  extra-step f fr None x l w' t p =
       let t' : until s.left s.raw k f ≡ none = ap₂ (λ a b. until a b k f) rep.left_is rep.raw-is ∙ sym t.drawn in
       ends-none (extra k i f s) false (Rep k m e w' x l) (rw (t', extra)) refl
 
   -- nothing is drawn
-  stay : (f : State → Option State) → f s ≡ some s → {found : Bool} {x l : ℕ} → (found ≡ true) × (x ≡ raw) × (l ≡ left) → Ends (f s) found (Rep k m e w x l)
-  stay f t {found} {x} {l} (a, b, c) = rw (b, c) (ends_some (f s) found (Rep k m e w raw left) s t a rep)
+  stay : (f : State → Option State) → f s ≡ some s → Ends (f s) true (Rep k m e w raw left)
+  stay f t = ends_some (f s) true (Rep k m e w raw left) s t refl rep
 
-  pub first-put : length (places_in (row w i)) ≡ 0 → (found : Bool) (v x l : ℕ) → Sought k raw left (λ j. true) found v x l
-      → (w' : List ℕ) → PutIf found w i v w' → Ends (first_one k i s) found (Rep k m e w' x l)
-  first-put z found v x l t w' p =
+  pub first-put : length (places_in (row w i)) ≡ 0 → (o : Found ℕ) (x l : ℕ) (w' : List ℕ) → Sought k raw left (λ j. true) o x l
+      → MatchOption o (w' ≡ w) (λ v. Put w i v w') → Ends (first_one k i s) (is_some o) (Rep k m e w' x l)
+  first-put z o x l w' t p =
       let y : length (get_or s.rows i []) ≡ 0 = sym degree-is ∙ z in
       let q : first_one k i s ≡ extra k i (λ j. true) s = let b = eq-eqb (length (get_or s.rows i [])) 0 y in rw (b, first_one) in
-      ends_is found (Rep k m e w' x l) q (extra-step (λ j. true) (λ a g. has-empty (get_or s.rows i []) y a) found v x l t w' p)
+      ends_is (is_some o) (Rep k m e w' x l) q (extra-step (λ j. true) (λ a g. has-empty (get_or s.rows i []) y a) o x l w' t p)
 
-  pub first-keep : (length (places_in (row w i)) ≡ 0 → ⊥) → {found : Bool} {x l : ℕ} → (found ≡ true) × (x ≡ raw) × (l ≡ left) → Ends (first_one k i s) found (Rep k m e w x l)
+  pub first-keep : (length (places_in (row w i)) ≡ 0 → ⊥) → Ends (first_one k i s) true (Rep k m e w raw left)
   first-keep n = let b = ne_eqb (length (get_or s.rows i [])) 0 (λ z. n (degree-is ∙ z)) in stay (first_one k i) (rw (b, first_one))
 
-  pub second-put : length (places_in (row w i)) ≡ 1 → (found : Bool) (v x l : ℕ) → Sought k raw left (λ j. free w j i) found v x l
-      → (w' : List ℕ) → PutIf found w i v w' → Ends (second_one k i s) found (Rep k m e w' x l)
-  second-put z found v x l t w' p =
+  pub second-put : length (places_in (row w i)) ≡ 1 → (o : Found ℕ) (x l : ℕ) (w' : List ℕ) → Sought k raw left (λ j. free w j i) o x l
+      → MatchOption o (w' ≡ w) (λ v. Put w i v w') → Ends (second_one k i s) (is_some o) (Rep k m e w' x l)
+  second-put z o x l w' t p =
       let h = rep.sizes.k-low in
       let g : ℕ → Bool = λ j. not (has j (get_or s.rows i [])) in
       let q : second_one k i s ≡ extra k i g s = let b = eq-eqb (length (get_or s.rows i [])) 1 (sym degree-is ∙ z) in rw (b, second_one) in
       let u = until-same (λ j. free w j i) g left raw k rep.sizes.k-some (λ j y. rep.cells i j hi (omega arith)) in
-      let t' : Sought k raw left g found v x l = record { drawn = t.drawn ∙ u; small = t.small; below = t.below } in
-      ends_is found (Rep k m e w' x l) q (extra-step g (λ a y. not-true _ y) found v x l t' w' p)
+      let t' : Sought k raw left g o x l = record { drawn = t.drawn ∙ u; small = t.small; below = t.below } in
+      ends_is (is_some o) (Rep k m e w' x l) q (extra-step g (λ a y. not-true _ y) o x l w' t' p)
 
-  pub second-keep : (length (places_in (row w i)) ≡ 1 → ⊥) → {found : Bool} {x l : ℕ} → (found ≡ true) × (x ≡ raw) × (l ≡ left) → Ends (second_one k i s) found (Rep k m e w x l)
+  pub second-keep : (length (places_in (row w i)) ≡ 1 → ⊥) → Ends (second_one k i s) true (Rep k m e w raw left)
   second-keep n = let b = ne_eqb (length (get_or s.rows i [])) 1 (λ z. n (degree-is ∙ z)) in stay (second_one k i) (rw (b, second_one))

@@ -14,7 +14,10 @@ use Rattle.lists.specs.Lists.{has, any_of, All, All.nil, All.cons}
 use Rattle.lists.specs.Tests.{by_bool, eqb-true, eqb-false}
 use Rattle.draws.specs.DrawingLaws.{drawn-low, until-gives}
 use Rattle.draws.specs.Generator.{modulus, next, drawn, Drawn, until}
-use Rattle.lots.specs.Grid.{free, free_entry, Put, PutIf, put_if, Sought}
+use Rattle.lots.specs.Grid.{free, free_entry, Put, Sought}
+use Rattle.std.specs.Prelude.{Some, None, MatchOption}
+use Rattle.std.specs.Option.{is_some}
+use Rattle.std.specs.declared.option.Option.{Option as Found}
 use Rattle.fill.specs.Fill.{State, vacant, put, by_order, by_row, one}
 use Rattle.fill.specs.Good.{put-gives, entry-low, entry_set, free-there}
 use Rattle.fill.specs.Held.{Rep, Order, Both, Ends}
@@ -96,8 +99,8 @@ module _ (k m e : ℕ) (w u : List ℕ) (used raw left : ℕ) (s : State) (both 
       ∙ sym (until-same (free w j) (vacant s.rows j) left raw m rep.sizes.m-some (λ v h. rep.cells v j h inside))
 
   -- by rows
-  row_step : (found : Bool) (v x l : ℕ) (w' : List ℕ) → Sought m raw left (free w j) found v x l → PutIf found w v j w' → Ends (by_row m j s) found (Both k m e w' u used x l)
-  row_step true v x l w' t p =
+  row_step : (o : Found ℕ) (x l : ℕ) (w' : List ℕ) → Sought m raw left (free w j) o x l → MatchOption o (w' ≡ w) (λ v. Put w v j w') → Ends (by_row m j s) (is_some o) (Both k m e w' u used x l)
+  row_step (Some v) x l w' t p =
       let rep = both.rep in
       let ord = both.order in
       let d : Drawn = record { value = v; raw = x; left = l } in
@@ -108,7 +111,7 @@ module _ (k m e : ℕ) (w u : List ℕ) (used raw left : ℕ) (s : State) (both 
         rep = rep-put k m e w raw left s rep v j x l w' R t.below hj fr t.small p refl rep.good.low rep.good.whole rep.good.within refl refl;
         order = record { listed = ord.listed; long = ord.long; small = ord.small; used-is = ord.used-is };
       })
-  row_step false v x l w' t p =
+  row_step None x l w' t p =
       let t' : until s.left s.raw m (vacant s.rows j) ≡ none = row-draws ∙ sym t.drawn in
       ends-none (by_row m j s) false (Both k m e w' u used x l) (rw (t', by_row)) refl
 
@@ -146,9 +149,10 @@ module _ (k m e : ℕ) (w u : List ℕ) (used raw left : ℕ) (s : State) (both 
         used-is = omega arith;
       }
 
-  order-step : used < e → (found : Bool) (v x l : ℕ) (w' : List ℕ) → Sought (e - used) raw left (free_entry w u used j) found v x l → PutIf found w (get_or u (used + v) 0) j w'
-      → Ends (by_order e j s) found (Both k m e w' (put_if found u (used + v) (get_or u used 0)) (used + 1) x l)
-  order-step h true v x l w' t p =
+  order-step : used < e → (o : Found ℕ) (x l : ℕ) (w' u' : List ℕ) → Sought (e - used) raw left (free_entry w u used j) o x l
+      → MatchOption o ((w' ≡ w) × (u' ≡ u)) (λ v. Put w (get_or u (used + v) 0) j w' × (u' ≡ set u (used + v) (get_or u used 0)))
+      → Ends (by_order e j s) (is_some o) (Both k m e w' u' (used + 1) x l)
+  order-step h (Some v) x l w' u' t (p, q') =
       let rep = both.rep in
       let q = both.order.used-is in
       let hv : used + v < e = let b = t.below in omega arith in
@@ -161,13 +165,13 @@ module _ (k m e : ℕ) (w u : List ℕ) (used raw left : ℕ) (s : State) (both 
       let low = entry_set rep.good.low i (get_or s.order s.used 0) (row_low s.used) in
       let long = length-set s.order i (get_or s.order s.used 0) ∙ rep.good.whole in
       let p' = subst (λ y. Put w y j w') row p in
-      ends_some (by_order e j s) true (Both k m e w' (set u (used + v) (get_or u used 0)) (used + 1) x l) R (rw (t', by_order)) refl (record {
+      subst (λ y. Ends (by_order e j s) true (Both k m e w' y (used + 1) x l)) (sym q') (ends_some (by_order e j s) true (Both k m e w' (set u (used + v) (get_or u used 0)) (used + 1) x l) R (rw (t', by_order)) refl (record {
         rep = rep-put k m e w raw left s rep (get_or s.order i 0) j x l w' R (row_low i) hj fr t.small p' refl low long (omega arith) refl refl;
         order = order-put v x l h hv;
-      })
-  order-step h false v x l w' t p =
+      }))
+  order-step h None x l w' u' t p =
       let t' : until s.left s.raw (e - s.used) (entry_free s.used) ≡ none = order-draws h ∙ sym t.drawn in
-      ends-none (by_order e j s) false (Both k m e w' u (used + 1) x l) (rw (t', by_order)) refl
+      ends-none (by_order e j s) false (Both k m e w' u' (used + 1) x l) (rw (t', by_order)) refl
 
   -- the scan
   scan-is : any_of (vacant s.rows j) (drop s.used s.order) ≡ any_of (free w j) (drop used (take e u))
@@ -179,18 +183,18 @@ module _ (k m e : ℕ) (w u : List ℕ) (used raw left : ℕ) (s : State) (both 
 
   -- what `one` ends in
   pub order-done : (scanned : Bool) → scanned ≡ any_of (free w j) (drop used (take e u)) → scanned ≡ true
-      → (found : Bool) (v x l : ℕ) → Sought (e - used) raw left (free_entry w u used j) found v x l
-      → (w' u' : List ℕ) → PutIf found w (get_or u (used + v) 0) j w' → u' ≡ put_if found u (used + v) (get_or u used 0) → Ends (one e m j s) found (Both k m e w' u' (used + 1) x l)
-  order-done b a t found v x l d w' u' p eu =
+      → (o : Found ℕ) (x l : ℕ) (w' u' : List ℕ) → Sought (e - used) raw left (free_entry w u used j) o x l
+      → MatchOption o ((w' ≡ w) × (u' ≡ u)) (λ v. Put w (get_or u (used + v) 0) j w' × (u' ≡ set u (used + v) (get_or u used 0)))
+      → Ends (one e m j s) (is_some o) (Both k m e w' u' (used + 1) x l)
+  order-done b a t o x l w' u' d p =
       let t' = scan-is ∙ sym a ∙ t in
       let q : one e m j s ≡ by_order e j s = rw (t', one) in
-      ends_is found (Both k m e w' u' (used + 1) x l) q
-      (subst (λ y. Ends (by_order e j s) found (Both k m e w' y (used + 1) x l)) (sym eu) (order-step (below_end b a t) found v x l w' d p))
+      ends_is (is_some o) (Both k m e w' u' (used + 1) x l) q (order-step (below_end b a t) o x l w' u' d p)
 
   pub row_done : (scanned : Bool) → scanned ≡ any_of (free w j) (drop used (take e u)) → scanned ≡ false
-      → (found : Bool) (v x l : ℕ) → Sought m raw left (free w j) found v x l
-      → (w' : List ℕ) → PutIf found w v j w' → Ends (one e m j s) found (Both k m e w' u used x l)
-  row_done b a t found v x l d w' p =
+      → (o : Found ℕ) (x l : ℕ) (w' : List ℕ) → Sought m raw left (free w j) o x l
+      → MatchOption o (w' ≡ w) (λ v. Put w v j w') → Ends (one e m j s) (is_some o) (Both k m e w' u used x l)
+  row_done b a t o x l w' d p =
       let t' = scan-is ∙ sym a ∙ t in
       let q : one e m j s ≡ by_row m j s = rw (t', one) in
-      ends_is found (Both k m e w' u used x l) q (row_step found v x l w' d p)
+      ends_is (is_some o) (Both k m e w' u used x l) q (row_step o x l w' d p)

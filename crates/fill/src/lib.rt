@@ -6,196 +6,131 @@ ghost use Rattle.draws.specs.Generator.{modulus};
 ghost use Rattle.fill.specs.Fill.{and_then, one as one_of, column as column_of, columns as columns_of, first_one, second_one, fill as fill_of};
 ghost use Rattle.fill.specs.Held.{Both, Ready, Held, HeldRows, RowReady, Stepped, Steps, RowStepped, RowsDone, Ends, FilledIn};
 
+use draws::Generator;
+
 // ---- the columns
 
-// whether the draws were enough; the list's t, the generator's value and the draws left after it
-#[derive(Drop)]
-struct Turn {
-    ok: bool,
-    used: usize,
-    raw: usize,
-    left: usize,
-}
-
-// one one in column j
+// one one in column j; false if the draws aren't enough
 fn one(
     w: &mut [u64],
     u: &mut [u16],
-    used: usize,
+    used: &mut usize,
     e: usize,
     m: usize,
     j: usize,
-    raw: usize,
-    left: usize,
-) -> Turn
-    requires { Ready m e j w.old u.old used raw left }
+    draws: &mut Generator,
+) -> bool
+    requires { Ready m e j w.old u.old used.old draws.old.raw draws.old.left }
     ensures { Stepped m e j (one_of e m j)
-        w.old u.old used raw left
-        w.new u.new result.ok result.used result.raw result.left }
+        w.old u.old used.old draws.old.raw draws.old.left
+        w.new u.new result used.new draws.new.raw draws.new.left }
 {
-    if lots::scan(w, u, used, e, j) {
-        let d = lots::by_order(w, u, used, e, j, raw, left);
-        return Turn {
-            ok: d.found,
-            used: used + 1,
-            raw: d.raw,
-            left: d.left,
-        };
+    if lots::scan(w, u, *used, e, j) {
+        let drawn = lots::by_order(w, u, *used, e, j, draws);
+        *used += 1;
+        return drawn.is_some();
     }
-    let d = lots::by_row(w, j, m, raw, left);
-    Turn {
-        ok: d.found,
-        used: used,
-        raw: d.raw,
-        left: d.left,
-    }
+    lots::by_row(w, j, m, draws).is_some()
 }
 
 // some ones in column j
 fn column(
     w: &mut [u64],
     u: &mut [u16],
-    used: usize,
+    used: &mut usize,
     e: usize,
     m: usize,
     j: usize,
     ones: usize,
-    raw: usize,
-    left: usize,
-) -> Turn
-    requires { Ready m e j w.old u.old used raw left }
+    draws: &mut Generator,
+) -> bool
+    requires { Ready m e j w.old u.old used.old draws.old.raw draws.old.left }
     ensures { Stepped m e j (column_of e m j ones)
-        w.old u.old used raw left
-        w.new u.new result.ok result.used result.raw result.left }
+        w.old u.old used.old draws.old.raw draws.old.left
+        w.new u.new result used.new draws.new.raw draws.new.left }
 {
-    let mut t = used;
-    let mut x = raw;
-    let mut l = left;
-    let mut c = ones;
-    while 0 < c {
-        let r = one(w, u, t, e, m, j, x, l);
-        if !r.ok {
-            return r;
+    for i in 0..ones {
+        if !one(w, u, used, e, m, j, draws) {
+            return false;
         }
-        t = r.used;
-        x = r.raw;
-        l = r.left;
-        c -= 1;
     }
-    Turn {
-        ok: true,
-        used: t,
-        raw: x,
-        left: l,
-    }
+    true
 }
 
 // all columns
 fn columns(
     w: &mut [u64],
     u: &mut [u16],
+    used: &mut usize,
     e: usize,
     m: usize,
     k: usize,
     ones: usize,
-    raw: usize,
-    left: usize,
-) -> Turn
-    requires { Held (Both k m e w.old u.old 0 raw left) }
-    ensures { Steps (Both k m e w.old u.old 0 raw left)
-        (columns_of e m ones 0 k) result.ok
-        (Both k m e w.new u.new result.used result.raw result.left) }
+    draws: &mut Generator,
+) -> bool
+    requires { Held (Both k m e w.old u.old used.old draws.old.raw draws.old.left) }
+    ensures { Steps (Both k m e w.old u.old used.old draws.old.raw draws.old.left)
+        (columns_of e m ones 0 k) result
+        (Both k m e w.new u.new used.new draws.new.raw draws.new.left) }
 {
-    let mut t = 0;
-    let mut x = raw;
-    let mut l = left;
     for j in 0..k {
-        let r = column(w, u, t, e, m, j, ones, x, l);
-        if !r.ok {
-            return r;
+        if !column(w, u, used, e, m, j, ones, draws) {
+            return false;
         }
-        t = r.used;
-        x = r.raw;
-        l = r.left;
     }
-    Turn {
-        ok: true,
-        used: t,
-        raw: x,
-        left: l,
-    }
+    true
 }
 
 // ---- the rows
 
-// nothing is drawn
-fn unchanged(raw: usize, left: usize) -> lots::Lot
-    ensures { (result.found ≡ true)
-        × (result.raw ≡ raw)
-        × (result.left ≡ left) }
-{
-    lots::Lot {
-        found: true,
-        value: 0,
-        raw: raw,
-        left: left,
-    }
-}
-
 // a one in row i, if it has none
-fn first_one(w: &mut [u64], i: usize, k: usize, raw: usize, left: usize) -> lots::Lot
-    requires { RowReady k i w.old raw left }
+fn first_one(w: &mut [u64], i: usize, k: usize, draws: &mut Generator) -> bool
+    requires { RowReady k i w.old draws.old.raw draws.old.left }
     ensures { RowStepped k i (first_one k i)
-        w.old raw left
-        w.new result.found result.raw result.left }
+        w.old draws.old.raw draws.old.left
+        w.new result draws.new.raw draws.new.left }
 {
     if bits::ones_of(w, i) == 0 {
-        return lots::extra_any(w, i, k, raw, left);
+        return lots::extra_any(w, i, k, draws).is_some();
     }
-    unchanged(raw, left)
+    true
 }
 
 // a second one in row i, if it has exactly one
-fn second_one(w: &mut [u64], i: usize, k: usize, raw: usize, left: usize) -> lots::Lot
-    requires { RowReady k i w.old raw left }
+fn second_one(w: &mut [u64], i: usize, k: usize, draws: &mut Generator) -> bool
+    requires { RowReady k i w.old draws.old.raw draws.old.left }
     ensures { RowStepped k i (second_one k i)
-        w.old raw left
-        w.new result.found result.raw result.left }
+        w.old draws.old.raw draws.old.left
+        w.new result draws.new.raw draws.new.left }
 {
     if bits::ones_of(w, i) == 1 {
-        return lots::extra_free(w, i, k, raw, left);
+        return lots::extra_free(w, i, k, draws).is_some();
     }
-    unchanged(raw, left)
+    true
 }
 
 // a first one and then a second one in row i, where they are missing
-fn two_ones(w: &mut [u64], i: usize, k: usize, raw: usize, left: usize) -> lots::Lot
-    requires { RowReady k i w.old raw left }
+fn two_ones(w: &mut [u64], i: usize, k: usize, draws: &mut Generator) -> bool
+    requires { RowReady k i w.old draws.old.raw draws.old.left }
     ensures { RowStepped k i (λ s. and_then (first_one k i s) (λ x. second_one k i x))
-        w.old raw left
-        w.new result.found result.raw result.left }
+        w.old draws.old.raw draws.old.left
+        w.new result draws.new.raw draws.new.left }
 {
-    let d = first_one(w, i, k, raw, left);
-    if !d.found {
-        return d;
+    if !first_one(w, i, k, draws) {
+        return false;
     }
-    second_one(w, i, k, d.raw, d.left)
+    second_one(w, i, k, draws)
 }
 
 // the extra ones of all rows
-fn extras(w: &mut [u64], m: usize, k: usize, raw: usize, left: usize) -> bool
-    requires { HeldRows m k w.old raw left }
-    ensures { RowsDone k m w.old raw left w.new result }
+fn extras(w: &mut [u64], m: usize, k: usize, draws: &mut Generator) -> bool
+    requires { HeldRows m k w.old draws.old.raw draws.old.left }
+    ensures { RowsDone k m w.old draws.old.raw draws.old.left w.new result }
 {
-    let mut x = raw;
-    let mut l = left;
     for i in 0..m {
-        let d = two_ones(w, i, k, x, l);
-        if !d.found {
+        if !two_ones(w, i, k, draws) {
             return false;
         }
-        x = d.raw;
-        l = d.left;
     }
     true
 }
@@ -226,11 +161,14 @@ fn fill_by(
 {
     let e = ones * k;
     lots::start_order(u, e, m);
-    let t = columns(w, u, e, m, k, ones, seed, draws);
-    if !t.ok {
+    let mut generator = Generator {
+        raw: seed,
+        left: draws,
+    };
+    if !columns(w, u, &mut 0, e, m, k, ones, &mut generator) {
         return false;
     }
-    extras(w, m, k, t.raw, t.left)
+    extras(w, m, k, &mut generator)
 }
 
 // the left side of k columns and m rows, with at least `ones` ones a column, from the seed; false if it needs more than `draws` draws

@@ -1,10 +1,11 @@
 // A place without a one drawn in rows of bits, and a one put there (RFC 5170).
 #![tactic(auto)]
 
-ghost use Rattle.std.specs.Prelude.{◌≡◌, true, false, ◌++◌, map, ℕ, ◌+◌, ◌-◌, ◌%◌, ◌≤◌, ◌<◌, length, get_or, take, drop};
+ghost use Rattle.std.specs.Prelude.{◌≡◌, Bool, true, set, MatchOption, IfSome, ◌++◌, map, ℕ, ◌+◌, ◌-◌, ◌%◌, ◌≤◌, ◌<◌, length, get_or, take, drop};
 ghost use Rattle.lists.specs.Lists.{any_of, from};
-ghost use Rattle.draws.specs.Generator.{modulus};
-ghost use Rattle.lots.specs.Grid.{free, free_entry, Put, PutIf, put_if, Sought};
+ghost use Rattle.lots.specs.Grid.{free, free_entry, Put, Sought};
+
+use draws::Generator;
 
 // no one at (r, j)
 fn vacant(w: &[u64], r: usize, j: usize) -> bool
@@ -27,124 +28,21 @@ fn put(w: &mut [u64], r: usize, j: usize)
     bits::flip(w, r, j);
 }
 
-// whether a draw passed, which, the generator's value after it, and the draws left
-#[derive(Drop)]
-pub struct Lot {
-    pub found: bool,
-    pub value: usize,
-    pub raw: usize,
-    pub left: usize,
-}
-
-// the draw passed
-fn found(d: draws::Drawn) -> Lot
-    ensures { (result.found ≡ true)
-        × (result.value ≡ d.value)
-        × (result.raw ≡ d.raw)
-        × (result.left ≡ d.left) }
+// draws below max until one passes, if there are draws enough; a rejected draw counts
+fn draw_until<F: Fn(usize) -> bool>(draws: &mut Generator, max: usize, passes: F) -> Option<usize>
+    requires bounds { (0 < max)
+        × (max ≤ 10240) }
+    requires callable { (v : ℕ) → v < max → F.pre passes v }
+    ensures below { IfSome result (λ v. v < max) }
+    ensures sought { (f : ℕ → Bool) → ((v : ℕ) (b : Bool) → v < max → F.post passes v b → b ≡ f v)
+        → Sought max draws.old.raw draws.old.left f result draws.new.raw draws.new.left }
 {
-    Lot {
-        found: true,
-        value: d.value,
-        raw: d.raw,
-        left: d.left,
-    }
-}
-
-// no draws left
-fn spent(raw: usize) -> Lot
-    ensures { (result.found ≡ false)
-        × (result.value ≡ 0)
-        × (result.raw ≡ raw) }
-{
-    Lot {
-        found: false,
-        value: 0,
-        raw: raw,
-        left: 0,
-    }
-}
-
-// a draw below m of a row without a one in column j
-fn draw_row(w: &[u64], j: usize, m: usize, raw: usize, left: usize) -> Lot
-    requires { (0 < m)
-        × (m ≤ 512)
-        × (j < 1024)
-        × (length w.now ≡ 8192)
-        × (raw < modulus) }
-    ensures { Sought m raw left (free w.now j) result.found result.value result.raw result.left }
-{
-    let mut x = raw;
-    let mut l = left;
-    while 0 < l {
-        let d = draws::draw(m, x, l);
-        if vacant(w, d.value, j) {
-            return found(d);
+    while let Some(value) = draws.draw(max) {
+        if passes(value) {
+            return Some(value);
         }
-        x = d.raw;
-        l = d.left; // a rejected draw counts
     }
-    spent(x)
-}
-
-// a draw below e − t of an entry of u from t on whose row has no one in column j
-fn draw_order(w: &[u64], u: &[u16], t: usize, e: usize, j: usize, raw: usize, left: usize) -> Lot
-    requires { (t < e)
-        × (e ≤ 10240)
-        × (e ≤ length u.now)
-        × ((i : ℕ) → get_or u.now i 0 < 512)
-        × (j < 1024)
-        × (length w.now ≡ 8192)
-        × (raw < modulus) }
-    ensures { Sought (e - t) raw left (free_entry w.now u.now t j) result.found result.value result.raw result.left }
-{
-    let mut x = raw;
-    let mut l = left;
-    while 0 < l {
-        let d = draws::draw(e - t, x, l);
-        let i = t + d.value;
-        if vacant(w, usize::from(u[i]), j) {
-            return found(d);
-        }
-        x = d.raw;
-        l = d.left;
-    }
-    spent(x)
-}
-
-// a draw below k of a column without a one in row i
-fn draw_column(w: &[u64], i: usize, k: usize, raw: usize, left: usize) -> Lot
-    requires { (0 < k)
-        × (k ≤ 1024)
-        × (i < 512)
-        × (length w.now ≡ 8192)
-        × (raw < modulus) }
-    ensures { Sought k raw left (λ j. free w.now j i) result.found result.value result.raw result.left }
-{
-    let mut x = raw;
-    let mut l = left;
-    while 0 < l {
-        let d = draws::draw(k, x, l);
-        if vacant(w, i, d.value) {
-            return found(d);
-        }
-        x = d.raw;
-        l = d.left;
-    }
-    spent(x)
-}
-
-// one draw below k, whatever it is
-fn draw_any(k: usize, raw: usize, left: usize) -> Lot
-    requires { (0 < k)
-        × (k ≤ 1024)
-        × (raw < modulus) }
-    ensures { Sought k raw left (λ j. true) result.found result.value result.raw result.left }
-{
-    if left == 0 {
-        return spent(raw);
-    }
-    found(draws::draw(k, raw, left))
+    None
 }
 
 // some entry of u from t to e − 1 has no one in column j
@@ -177,20 +75,17 @@ pub fn start_order(u: &mut [u16], e: usize, m: usize)
 }
 
 // a draw below m of a row without a one in column j, and a one put there
-pub fn by_row(w: &mut [u64], j: usize, m: usize, raw: usize, left: usize) -> Lot
+pub fn by_row(w: &mut [u64], j: usize, m: usize, draws: &mut Generator) -> Option<usize>
     requires { (0 < m)
         × (m ≤ 512)
         × (j < 1024)
-        × (length w.old ≡ 8192)
-        × (raw < modulus) }
-    ensures { Sought m raw left (free w.old j) result.found result.value result.raw result.left
-        × PutIf result.found w.old result.value j w.new }
+        × (length w.old ≡ 8192) }
+    ensures { Sought m draws.old.raw draws.old.left (free w.old j) result draws.new.raw draws.new.left
+        × MatchOption result (w.new ≡ w.old) (λ r. Put w.old r j w.new) }
 {
-    let d = draw_row(w, j, m, raw, left);
-    if d.found {
-        put(w, d.value, j);
-    }
-    d
+    let r = draw_until(draws, m, |r| vacant(w, r, j))?;
+    put(w, r, j);
+    Some(r)
 }
 
 // the entry of u drawn gives the row of the one put, and takes the entry at t
@@ -200,60 +95,51 @@ pub fn by_order(
     t: usize,
     e: usize,
     j: usize,
-    raw: usize,
-    left: usize,
-) -> Lot
+    draws: &mut Generator,
+) -> Option<usize>
     requires { (t < e)
         × (e ≤ 10240)
         × (e ≤ length u.old)
         × ((i : ℕ) → get_or u.old i 0 < 512)
         × (j < 1024)
-        × (length w.old ≡ 8192)
-        × (raw < modulus) }
-    ensures { Sought (e - t) raw left (free_entry w.old u.old t j) result.found result.value result.raw result.left
-        × PutIf result.found w.old (get_or u.old (t + result.value) 0) j w.new
-        × (u.new ≡ put_if result.found u.old (t + result.value) (get_or u.old t 0)) }
+        × (length w.old ≡ 8192) }
+    ensures { Sought (e - t) draws.old.raw draws.old.left (free_entry w.old u.old t j) result draws.new.raw draws.new.left
+        × MatchOption result
+        ((w.new ≡ w.old) × (u.new ≡ u.old))
+        (λ v. Put w.old (get_or u.old (t + v) 0) j w.new × (u.new ≡ set u.old (t + v) (get_or u.old t 0))) }
 {
-    let d = draw_order(w, u, t, e, j, raw, left);
-    if d.found {
-        let i = t + d.value;
-        put(w, usize::from(u[i]), j);
-        u[i] = u[t];
-    }
-    d
+    let v = draw_until(draws, e - t, |v| vacant(w, usize::from(u[t + v]), j))?;
+    let i = t + v;
+    put(w, usize::from(u[i]), j);
+    u[i] = u[t];
+    Some(v)
 }
 
 // one draw below k, put in row i, which has no one
-pub fn extra_any(w: &mut [u64], i: usize, k: usize, raw: usize, left: usize) -> Lot
+pub fn extra_any(w: &mut [u64], i: usize, k: usize, draws: &mut Generator) -> Option<usize>
     requires { (0 < k)
         × (k ≤ 1024)
         × (i < 512)
         × (length w.old ≡ 8192)
-        × (raw < modulus)
         × ((q : ℕ) → q < 1024 → free w.old q i ≡ true) }
-    ensures { Sought k raw left (λ j. true) result.found result.value result.raw result.left
-        × PutIf result.found w.old i result.value w.new }
+    ensures { Sought k draws.old.raw draws.old.left (λ j. true) result draws.new.raw draws.new.left
+        × MatchOption result (w.new ≡ w.old) (λ j. Put w.old i j w.new) }
 {
-    let d = draw_any(k, raw, left);
-    if d.found {
-        put(w, i, d.value);
-    }
-    d
+    let j = draw_until(draws, k, |_| true)?;
+    put(w, i, j);
+    Some(j)
 }
 
 // a draw below k of a column without a one in row i, put there
-pub fn extra_free(w: &mut [u64], i: usize, k: usize, raw: usize, left: usize) -> Lot
+pub fn extra_free(w: &mut [u64], i: usize, k: usize, draws: &mut Generator) -> Option<usize>
     requires { (0 < k)
         × (k ≤ 1024)
         × (i < 512)
-        × (length w.old ≡ 8192)
-        × (raw < modulus) }
-    ensures { Sought k raw left (λ j. free w.old j i) result.found result.value result.raw result.left
-        × PutIf result.found w.old i result.value w.new }
+        × (length w.old ≡ 8192) }
+    ensures { Sought k draws.old.raw draws.old.left (λ j. free w.old j i) result draws.new.raw draws.new.left
+        × MatchOption result (w.new ≡ w.old) (λ j. Put w.old i j w.new) }
 {
-    let d = draw_column(w, i, k, raw, left);
-    if d.found {
-        put(w, i, d.value);
-    }
-    d
+    let j = draw_until(draws, k, |j| vacant(w, i, j))?;
+    put(w, i, j);
+    Some(j)
 }

@@ -2,7 +2,10 @@
 use Rattle.std.specs.Prelude.{Bool, ◌||◌, List, ℕ, zero, suc, ltb, length}
 use Rattle.lists.specs.Lists.{any_of, written}
 use Rattle.table.specs.Table.{ones, most_weight, most_ones}
-use Rattle.making.specs.declared.Made.{Made}
+use Rattle.std.specs.declared.result.Result.{Result}
+use Rattle.std.specs.declared.result.Result.TheVariants.{Ok, Err}
+use Rattle.refusals.specs.declared.Refusal.{Refusal}
+use Rattle.refusals.specs.Refusals.{number_of}
 
 -- "The table buffer has exactly 6,661 numbers, else 5"
 abbrev pub table_words : ℕ
@@ -28,5 +31,6 @@ make_buffer_after zero t b = written b 0 t
 make_buffer_after (suc r) t b = b
 
 -- what the code answers
-abbrev pub make_answer_of : Made → MakeAnswer
-make_answer_of m = record { refusal = m.refusal; length = m.length }
+abbrev pub make_answer_of : Result ℕ Refusal → MakeAnswer
+make_answer_of (Ok n) = record { refusal = 0; length = n }
+make_answer_of (Err r) = record { refusal = number_of r; length = 0 }

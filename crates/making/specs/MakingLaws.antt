@@ -9,7 +9,10 @@ use Rattle.table.specs.LookOver.{weighed}
 use Rattle.table.specs.Table.{ones, most_weight, most_ones}
 use Rattle.bits.specs.Row.{rows_in}
 use Rattle.making.specs.Making.{too_heavy, make_answer_at, make_answer_of, make_buffer_after}
-use Rattle.making.specs.declared.Made.{Made}
+use Rattle.std.specs.declared.result.Result.{Result}
+use Rattle.std.specs.declared.result.Result.TheVariants.{Ok, Err}
+use Rattle.refusals.specs.declared.Refusal.{Refusal}
+use Rattle.refusals.specs.Refusals.{refusal_of}
 use Rattle.making.specs.ReadBack.{total-weights}
 
 -- the weights are tested as the checks are
@@ -56,17 +59,20 @@ pub record Stands (t : List ℕ) (r : ℕ) (buffer : List ℕ) : Type 0 where
   pub is : take r buffer ≡ t
 
 -- the refusal that is answered
-pub made-refusal : (p : ℕ) (t : List ℕ) (r : Made) → make_answer_of r ≡ make_answer_at p t → r.refusal ≡ p
-made-refusal p t r a = ap (λ x. x.refusal) a ∙ make-told p t
+answered-refusal : (r : Result ℕ Refusal) → (make_answer_of r).refusal ≡ refusal_of r
+answered-refusal (Ok n) = refl
+answered-refusal (Err r) = refl
 
--- where it is 0, what was made stands there
-pub made-stands : (p : ℕ) (t b b' : List ℕ) (r : Made) → make_answer_of r ≡ make_answer_at p t → b' ≡ make_buffer_after p t b → r.refusal ≡ 0
-    → Stands t r.length b'
-made-stands p t b b' r a e z =
-    let k : p ≡ 0 = sym (made-refusal p t r a) ∙ z in
-    let l : length t ≡ r.length = sym (rw k at (ap (λ x. x.length) a)) in
+pub made-refusal : (p : ℕ) (t : List ℕ) (r : Result ℕ Refusal) → make_answer_of r ≡ make_answer_at p t → refusal_of r ≡ p
+made-refusal p t r a = sym (answered-refusal r) ∙ ap (λ x. x.refusal) a ∙ make-told p t
+
+-- where there is none, what was made stands there
+pub made-stands : (p : ℕ) (t b b' : List ℕ) (n : ℕ) → make_answer_of (Ok n) ≡ make_answer_at p t → b' ≡ make_buffer_after p t b → Stands t n b'
+made-stands p t b b' n a e =
+    let k : p ≡ 0 = sym (made-refusal p t (Ok n) a) in
+    let l : length t ≡ n = sym (rw k at (ap (λ x. x.length) a)) in
     let w : b' ≡ make_buffer_after 0 t b = rw k at e in
-    let f : take r.length b' ≡ t = rw (← l, w) (table-lent t b) in
+    let f : take n b' ≡ t = rw (← l, w) (table-lent t b) in
     record {
       within = omega (arith, simp length-append at (ap length w));
       counts = sym (ap length f ∙ l);

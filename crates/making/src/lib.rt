@@ -1,49 +1,32 @@
 // Rows of bits into a table (document 02, C-11 and C-15).
 #![tactic(auto)]
 
-ghost use Rattle.std.specs.Prelude.{◌≡◌, [], ◌∷◌, map, ◌+◌, ◌*◌, ◌≤◌, ◌<◌, length};
+ghost use Rattle.std.specs.Prelude.{◌≡◌, [], ◌∷◌, map, ◌+◌, ◌*◌, ◌≤◌, ◌<◌, length, unwrap_or};
 ghost use Rattle.lists.specs.Lists.{Wrote};
 ghost use Rattle.table.specs.LookOver.{weighed};
 ghost use Rattle.table.specs.Table.{ones as ones_of};
 ghost use Rattle.bits.specs.Row.{row, places_in, rows_in};
 ghost use Rattle.bits.specs.WordPlaces.{places_of};
-ghost use Rattle.making.specs.Making.{table_words, make_answer_of};
+ghost use Rattle.making.specs.Making.{table_words};
 ghost use Rattle.making.specs.Written.{flat, table_of};
 
 use table::MOST_WEIGHT;
 
-// the refusal, 0 for none, and how many numbers the table has, or bytes the text
-#[derive(Drop)]
-pub struct Made {
-    pub refusal: u32,
-    pub length: u32,
-}
-
-// a refusal: nothing is written
-pub fn refused(number: u32) -> Made
-    ensures { make_answer_of result ≡ record { refusal = number; length = 0 } }
-{
-    Made {
-        refusal: number,
-        length: 0,
-    }
-}
-
-// the ones of the first m rows; 65,536, which no table has, if a row has more than 64
-pub fn weigh(w: &[u64], m: usize) -> usize
+// the ones of the first m rows, if none has more than 64
+pub fn weigh(w: &[u64], m: usize) -> Option<usize>
     requires { (m ≤ 512)
         × (m * 16 ≤ length w.now) }
-    ensures { result ≡ weighed (map length (rows_in w.now m)) }
+    ensures { unwrap_or result 65536 ≡ weighed (map length (rows_in w.now m)) }
 {
     let mut sum = 0;
     for i in 0..m {
         let x = bits::ones_of(w, i);
         if MOST_WEIGHT < x {
-            return 65536;
+            return None;
         }
         sum += x;
     }
-    sum
+    Some(sum)
 }
 
 // the first four numbers

@@ -3,52 +3,35 @@ use mathlib.Core.Path.{◌≡◌, refl, sym, ap, ◌∙◌}
 use mathlib.Core.Bool.{true, false}
 use mathlib.Core.List.{List, [], ◌∷◌, ◌++◌}
 use mathlib.Core.Option.{none, some}
+use Rattle.std.specs.Prelude.{Some, None}
 use Prim.Native.Nat.{ℕ, zero, suc, ◌+◌, ◌-◌, ◌*◌, ◌<◌, ◌≤◌}
 use native.Mathlib.Numerals.{add-one}
 use native.Mathlib.Omega.{arith}
-use borrow.Author.Tests.{ne_eqb}
-use lib.Dec.{eqb}
 use lib.ListN.{length, get_or, drop, length-append, drop_of_length-le}
 use lib.Seq.{drop-cons}
 use Rattle.lists.specs.Tests.{by_bool}
 use Rattle.numerals.specs.Numerals.{is_digit}
 use Rattle.numbers.specs.Numbers.{is_gap, numbers_in}
-use Rattle.numbers.specs.Steps.{before, ended_number, numbers_from, before-nil, before-both, digit-step, seventh-step, gap_step, other_step, numbers-by-steps}
-use Rattle.numbers.specs.Counting.{digits_after, ends_here, is_some, how_many, Counts}
-
--- ---- one byte
-pub gap-blank : (b : ℕ) → b ≡ 32 → eqb b 32 ≡ is_gap b
-gap-blank b h = rw h
-
-pub gap-feed : (b : ℕ) → b ≡ 10 → eqb b 10 ≡ is_gap b
-gap-feed b h = rw h
-
-pub gap-return : (b : ℕ) → (b ≡ 32 → ⊥) → (b ≡ 10 → ⊥) → eqb b 13 ≡ is_gap b
-gap-return b h k = rw (ne_eqb b 32 h, ne_eqb b 10 k)
+use Rattle.numbers.specs.Steps.{before, ended_number, numbers_from, gap-no-digit, before-nil, before-both, digit-step, seventh-step, gap_step, other_step, numbers-by-steps}
+use Rattle.numbers.specs.Counting.{digits_after, ends_here, count_of}
 
 -- ---- the digits after a byte
+pub after-gap : (d b : ℕ) → is_gap b ≡ true → 0 ≡ digits_after d b
+unfolding digits_after
+after-gap d b g = rw (gap-no-digit b g, digits_after, g)
+
 pub after-digit : (d b : ℕ) → is_digit b ≡ true → d + 1 ≡ digits_after d b
 unfolding digits_after
 after-digit d b e = rw (e, digits_after)
 
-pub after-gap : (d b : ℕ) → is_digit b ≡ false → is_gap b ≡ true → 0 ≡ digits_after d b
+-- a digit is no number's if there are six, and any other byte that is no gap is none
+pub after-other : (d b : ℕ) → is_gap b ≡ false → d ≤ 6 → (is_digit b ≡ true → 6 ≤ d) → 7 ≡ digits_after d b
 unfolding digits_after
-after-gap d b e g = rw (e, digits_after, g)
-
-pub after-other : (d b : ℕ) → is_digit b ≡ false → is_gap b ≡ false → 7 ≡ digits_after d b
-unfolding digits_after
-after-other d b e g = rw (e, digits_after, g)
+after-other d b g l h = by_bool (is_digit b)
+    (λ e. rw (e, digits_after) (let k = h e in omega arith))
+    (λ e. rw (e, digits_after, g))
 
 -- ---- the end of a number
-pub ends-one : (d e : ℕ) → (d ≡ 0 → ⊥) → e ≡ 0 → 1 ≡ ends_here d e
-ends-one zero e h k = absurd (h refl)
-ends-one (suc d) e h k = rw k
-
-pub ends-not : (d e : ℕ) → (e ≡ 0 → ⊥) → 0 ≡ ends_here d e
-ends-not zero e k = refl
-ends-not (suc d) zero k = absurd (k refl)
-ends-not (suc d) (suc e) k = refl
-
 -- no more numbers than bytes
 pub ends_next : (k d e i : ℕ) → k + ends_here d 0 ≤ i → k + ends_here d e + ends_here e 0 ≤ i + 1
 ends_next k zero zero i h = omega arith
@@ -86,8 +69,8 @@ byte_next : {text : List ℕ} {k d i : ℕ} (p : Passed text k d i) → i < leng
 byte_next {text} {k} {d} {i} p h = p.rest ∙ ap (λ x. before p.seen (numbers_from d p.value x)) (next-byte text i h)
 
 -- what is no number
-pub passed-bad : {text : List ℕ} {k d i : ℕ} (e : ℕ) → Passed text k d i → i < length text → d < 7 → e ≡ digits_after d (get_or text i 0) → 7 ≤ e
-    → Counts (numbers_in text) false 0
+pub passed-bad : {text : List ℕ} {k d i : ℕ} (e : ℕ) → Passed text k d i → i < length text → d ≤ 6 → e ≡ digits_after d (get_or text i 0) → 7 ≤ e
+    → None ≡ count_of (numbers_in text)
 unfolding digits_after
 passed-bad {text} {k} {d} {i} e p h f q z =
     let b = get_or text i 0 in
@@ -99,13 +82,13 @@ passed-bad {text} {k} {d} {i} e p h f q z =
     (λ g. absurd (let w : e ≡ 0 = q ∙ rw (a, digits_after, g) in omega arith))
     (λ g. other_step d p.value b r a g)) in
     let t : numbers_in text ≡ none = s ∙ ap (before p.seen) none_is in
-    record { whether = sym (ap is_some t); many = sym (ap how_many t) }
+    sym (ap count_of t)
 
 -- what is
-pub passed_on : {text : List ℕ} {k d i : ℕ} (e x : ℕ) → Passed text k d i → i < length text → d < 7 → e ≡ digits_after d (get_or text i 0) → (e ≡ 7 → ⊥)
-    → x ≡ ends_here d e → Passed text (k + x) e (i + 1) × (e < 7)
+pub passed_on : {text : List ℕ} {k d i : ℕ} (e x : ℕ) → Passed text k d i → i < length text → e ≡ digits_after d (get_or text i 0) → e ≤ 6
+    → x ≡ ends_here d e → Passed text (k + x) e (i + 1)
 unfolding digits_after
-passed_on {text} {k} {d} {i} e x p h f q z y =
+passed_on {text} {k} {d} {i} e x p h q z y =
     let b = get_or text i 0 in
     let r = drop (i + 1) text in
     let s = byte_next p h in
@@ -113,36 +96,32 @@ passed_on {text} {k} {d} {i} e x p h f q z y =
     (λ a. let w : e ≡ d + 1 = q ∙ rw (a, digits_after) in
     let u : e ≡ suc d = omega arith in
     let g : d < 6 = omega arith in
-    let n : x ≡ 0 = y ∙ rw u (nothing d) in (
-      record {
-        seen = p.seen;
-        value = p.value * 10 + (b - 48);
-        count = rw n (let c = p.count in omega arith);
-        rest = s ∙ ap (before p.seen) (digit-step d p.value b r a g) ∙ ap (λ m. before p.seen (numbers_from m (p.value * 10 + (b - 48)) r)) (sym u);
-      },
-      omega arith,
-    ))
+    let n : x ≡ 0 = y ∙ rw u (nothing d) in
+    record {
+      seen = p.seen;
+      value = p.value * 10 + (b - 48);
+      count = rw n (let c = p.count in omega arith);
+      rest = s ∙ ap (before p.seen) (digit-step d p.value b r a g) ∙ ap (λ m. before p.seen (numbers_from m (p.value * 10 + (b - 48)) r)) (sym u);
+    })
     (λ a. by_bool (is_gap b)
-    (λ g. let w : e ≡ 0 = q ∙ rw (a, digits_after, g) in (
-      record {
-        seen = p.seen ++ ended_number d p.value;
-        value = 0;
-        count = omega (arith, p.count, length-append p.seen (ended_number d p.value), ended-count d e p.value w);
-        rest = s ∙ ap (before p.seen) (gap_step d p.value b r g) ∙ before-both p.seen (ended_number d p.value) (numbers_from 0 0 r)
-            ∙ ap (λ m. before (p.seen ++ ended_number d p.value) (numbers_from m 0 r)) (sym w);
-      },
-      omega arith,
-    ))
-    (λ g. absurd (z (q ∙ rw (a, digits_after, g)))))
+    (λ g. let w : e ≡ 0 = q ∙ rw (a, digits_after, g) in
+    record {
+      seen = p.seen ++ ended_number d p.value;
+      value = 0;
+      count = omega (arith, p.count, length-append p.seen (ended_number d p.value), ended-count d e p.value w);
+      rest = s ∙ ap (before p.seen) (gap_step d p.value b r g) ∙ before-both p.seen (ended_number d p.value) (numbers_from 0 0 r)
+          ∙ ap (λ m. before (p.seen ++ ended_number d p.value) (numbers_from m 0 r)) (sym w);
+    })
+    (λ g. let w : e ≡ 7 = q ∙ rw (a, digits_after, g) in absurd (omega arith)))
   where
     nothing : (d : ℕ) → ends_here d (suc d) ≡ 0
     nothing zero = refl
     nothing (suc d) = refl
 
 -- the end
-pub passed-end : {text : List ℕ} {k d i : ℕ} (x : ℕ) → Passed text k d i → length text ≤ i → x ≡ ends_here d 0 → Counts (numbers_in text) true (k + x)
+pub passed-end : {text : List ℕ} {k d i : ℕ} (x : ℕ) → Passed text k d i → length text ≤ i → x ≡ ends_here d 0 → Some (k + x) ≡ count_of (numbers_in text)
 passed-end {text} {k} {d} {i} x p h y =
     let l = p.seen ++ ended_number d p.value in
     let t : numbers_in text ≡ some l = p.rest ∙ ap (λ r. before p.seen (numbers_from d p.value r)) (drop_of_length-le text h) in
     let w : k + x ≡ length l = omega (arith, p.count, length-append p.seen (ended_number d p.value), ended-count d 0 p.value refl) in
-    record { whether = sym (ap is_some t); many = w ∙ sym (ap how_many t) }
+    ap Some w ∙ sym (ap count_of t)

@@ -1,5 +1,6 @@
 -- Counting the numbers of a text.
-use Rattle.std.specs.Prelude.{◌≡◌, Bool, true, false, List, ℕ, zero, suc, ◌+◌, length}
+use Rattle.std.specs.Prelude.{Some, None, true, false, List, ℕ, zero, suc, ◌+◌, length}
+use Rattle.std.specs.declared.option.Option.{Option as Counted}
 use Rattle.std.proofs.Math.Option.{Option, none, some}
 use Rattle.numerals.specs.Numerals.{is_digit}
 use Rattle.numbers.specs.Numbers.{is_gap}
@@ -14,17 +15,7 @@ ends_here zero e = 0
 ends_here (suc d) zero = 1
 ends_here (suc d) (suc e) = 0
 
--- whether the numbers could be read
-abbrev pub is_some : Option (List ℕ) → Bool
-is_some none = false
-is_some (some l) = true
-
--- how many, 0 if they couldn't
-abbrev pub how_many : Option (List ℕ) → ℕ
-how_many none = 0
-how_many (some l) = length l
-
--- what counting says of the numbers read
-pub record Counts (o : Option (List ℕ)) (good : Bool) (count : ℕ) : Type 0 where
-  pub whether : good ≡ is_some o
-  pub many : count ≡ how_many o
+-- how many numbers were read, if they could be
+abbrev pub count_of : Option (List ℕ) → Counted ℕ
+count_of none = None
+count_of (some l) = Some (length l)

@@ -41,7 +41,7 @@ before-both k l (some r) = ap some (sym (append_assoc k l r))
 
 -- ---- one byte
 -- a gap is no digit
-gap-no-digit : (b : ℕ) → is_gap b ≡ true → is_digit b ≡ false
+pub gap-no-digit : (b : ℕ) → is_gap b ≡ true → is_digit b ≡ false
 gap-no-digit b g = by_bool (is_digit b) (λ e. absurd (true≢false (sym g ∙ no_gap (digit-range b e).0))) (λ e. e)
   where
     no_gap : 48 ≤ b → is_gap b ≡ false

@@ -1,20 +1,16 @@
 // Decimal numbers of at most six digits in a text, between blanks and line ends: counting them, and reading them one after another.
 #![tactic(auto)]
 
-ghost use Rattle.std.specs.Prelude.{◌≡◌, ◌<◌};
+ghost use Rattle.std.specs.Prelude.{◌≡◌, ◌≤◌, unwrap_or, IfSome};
 ghost use Rattle.numbers.specs.Numbers.{is_gap, numbers_in};
-ghost use Rattle.numbers.specs.Counting.{digits_after, ends_here, Counts};
+ghost use Rattle.numbers.specs.Counting.{digits_after, ends_here, count_of};
 ghost use Rattle.numbers.specs.Cursor.{Skipped, Taken, Reads};
 
-// whether a text is all numbers, and how many it has (0 if it is not)
-#[derive(Drop)]
-pub struct Counted {
-    pub good: bool,
-    pub count: usize,
-}
+// the most digits of a number
+const MOST_DIGITS: usize = 6;
 
 // a number, and where the text goes on behind it
-#[derive(Drop)]
+#[derive(Clone, Copy, Debug, PartialEq, Eq)]
 pub struct Spot {
     pub value: usize,
     pub next: usize,
@@ -29,54 +25,40 @@ fn is_gap(byte: u8) -> bool
 
 // ---- counting
 
-// after d digits of a number and one more byte: how many digits; 7 for what is no number
-fn digits_after(d: usize, byte: u8) -> usize
-    requires { d < 7 }
-    ensures { result ≡ digits_after d byte }
+// after d digits of a number and one more byte: how many digits; none for what is no number
+fn digits_after(d: usize, byte: u8) -> Option<usize>
+    requires { d ≤ 6 }
+    ensures digits { unwrap_or result 7 ≡ digits_after d byte }
+    ensures few { IfSome result (λ e. e ≤ 6) }
 {
-    if numerals::is_digit(byte) {
-        return d + 1;
-    }
     if is_gap(byte) {
-        return 0;
+        return Some(0);
     }
-    7
+    if numerals::is_digit(byte) && d < MOST_DIGITS {
+        return Some(d + 1);
+    }
+    None
 }
 
 // 1 if a number of d digits ends where e digits are next, else 0
 fn ends_here(d: usize, e: usize) -> usize
     ensures { result ≡ ends_here d e }
 {
-    if d == 0 {
-        return 0;
-    }
-    if e == 0 {
-        return 1;
-    }
-    0
+    usize::from(d != 0 && e == 0)
 }
 
-// the numbers of a text are counted
-pub fn count(text: &[u8]) -> Counted
-    ensures { Counts (numbers_in text.now) result.good result.count }
+// how many numbers a text has, if it is all numbers
+pub fn count(text: &[u8]) -> Option<usize>
+    ensures { result ≡ count_of (numbers_in text.now) }
 {
     let mut k = 0;
     let mut d = 0;
-    for i in 0..text.len() {
-        let e = digits_after(d, text[i]);
-        if e == 7 {
-            return Counted {
-                good: false,
-                count: 0,
-            };
-        }
+    for byte in text {
+        let e = digits_after(d, *byte)?;
         k += ends_here(d, e);
         d = e;
     }
-    Counted {
-        good: true,
-        count: k + ends_here(d, 0),
-    }
+    Some(k + ends_here(d, 0))
 }
 
 // ---- reading
@@ -85,36 +67,30 @@ pub fn count(text: &[u8]) -> Counted
 fn skip(text: &[u8], at: usize) -> usize
     ensures { Skipped text.now at result }
 {
-    let mut i = at;
-    while i < text.len() {
+    for i in at..text.len() {
         if !is_gap(text[i]) {
             return i;
         }
-        i += 1;
     }
-    i
+    at.max(text.len())
 }
 
 // the digits from at on, at most six
 fn take_digits(text: &[u8], at: usize) -> Spot
     ensures { Taken text.now at result.value result.next }
 {
-    let mut v = 0;
-    let mut d: usize = 0;
-    let mut i = at;
-    while i < text.len() {
+    let mut value = 0;
+    for i in at..text.len() {
         let byte = text[i];
-        if d == 6 {
-            return Spot { value: v, next: i };
+        if i - at == MOST_DIGITS || !numerals::is_digit(byte) {
+            return Spot { value, next: i };
         }
-        if !numerals::is_digit(byte) {
-            return Spot { value: v, next: i };
-        }
-        v = v * 10 + (byte - 48) as usize;
-        d += 1;
-        i += 1;
+        value = value * 10 + usize::from(byte - 48);
     }
-    Spot { value: v, next: i }
+    Spot {
+        value,
+        next: at.max(text.len()),
+    }
 }
 
 // the number from at on, and where the text goes on

@@ -11,7 +11,7 @@ use lib.ListN.{length, get_or, drop, drop_of_length-le}
 use lib.Seq.{drop-cons}
 use Rattle.lists.specs.Lists.{all_pass}
 use Rattle.lists.specs.Tests.{and-false}
-use Rattle.numerals.specs.declared.Number.TheVariants.{Nothing, Is}
+use Rattle.std.specs.Prelude.{Some, None}
 use Rattle.numerals.specs.Numerals.{most_number, is_digit, value_after, is_number, number_of}
 
 -- ---- a digit
@@ -22,7 +22,7 @@ pub not_low : (b : ℕ) → 48 ≤ b → leb b 57 ≡ is_digit b
 not_low b h = rw (le-leb 48 b h) refl
 
 -- ---- no number, and a number
-none : (text : List ℕ) → is_number text ≡ false → Nothing ≡ number_of text
+none : (text : List ℕ) → is_number text ≡ false → None ≡ number_of text
 unfolding number_of
 none text e = rw (e, number_of) refl
 
@@ -38,29 +38,28 @@ second-fails a b c e = and-false a (b && c) (rw e)
 third-fails : (a b c : Bool) → c ≡ false → (a && (b && c)) ≡ false
 third-fails a b c e = and-false a (b && c) (and-false b c e)
 
-pub empty-none : (text : List ℕ) → length text ≡ 0 → Nothing ≡ number_of text
+pub empty-none : (text : List ℕ) → length text ≡ 0 → None ≡ number_of text
 empty-none text e = none text (rw (eq-eqb (length text) 0 e) refl)
 
 -- ---- the rest decides
 -- x comes of the first i bytes, which are digits
 pub record Rest (text : List ℕ) (x i : ℕ) : Type 0 where
-  pub within : i ≤ length text
   pub small : x ≤ most_number
   pub digits : all_pass is_digit (drop i text) ≡ all_pass is_digit text
   pub value : value_after x (drop i text) ≡ value_after 0 text
 
 pub rest_all : (text : List ℕ) → Rest text 0 0
-rest_all text = record { within = omega arith; small = omega arith; digits = refl; value = refl }
+rest_all text = record { small = omega arith; digits = refl; value = refl }
 
 module _ (text : List ℕ) (x i : ℕ) (r : Rest text x i) (h : i < length text) where
   -- the next byte is no digit
-  pub rest-other : is_digit (get_or text i 0) ≡ false → Nothing ≡ number_of text
+  pub rest-other : is_digit (get_or text i 0) ≡ false → None ≡ number_of text
   rest-other e =
       let d : all_pass is_digit text ≡ false = sym r.digits ∙ rw (drop-cons text i 0 h, e) refl in
       none text (second-fails (not (eqb (length text) 0)) (all_pass is_digit text) (leb (value_after 0 text) most_number) d)
 
   -- it makes the number too large
-  pub rest-large : most_number < x * 10 + (get_or text i 0 - 48) → Nothing ≡ number_of text
+  pub rest-large : most_number < x * 10 + (get_or text i 0 - 48) → None ≡ number_of text
   rest-large l =
       let v : value_after (x * 10 + (get_or text i 0 - 48)) (drop (suc i) text) ≡ value_after 0 text = rw (drop-cons text i 0 h) at r.value in
       let g = grows (x * 10 + (get_or text i 0 - 48)) (drop (suc i) text) in
@@ -70,14 +69,13 @@ module _ (text : List ℕ) (x i : ℕ) (r : Rest text x i) (h : i < length text)
   -- it is one more digit
   pub rest-next : is_digit (get_or text i 0) ≡ true → x * 10 + (get_or text i 0 - 48) ≤ most_number → Rest text (x * 10 + (get_or text i 0 - 48)) (i + 1)
   rest-next e l = record {
-    within = omega arith;
     small = l;
     digits = rw add-one (rw (drop-cons text i 0 h, e) at r.digits);
     value = rw add-one (rw (drop-cons text i 0 h) at r.value);
   }
 
 -- no byte is left
-pub rest-none : (text : List ℕ) (x i : ℕ) → Rest text x i → length text ≤ i → (length text ≡ 0 → ⊥) → Is x ≡ number_of text
+pub rest-none : (text : List ℕ) (x i : ℕ) → Rest text x i → length text ≤ i → (length text ≡ 0 → ⊥) → Some x ≡ number_of text
 unfolding number_of
 rest-none text x i r h n =
     let d : drop i text ≡ [] = drop_of_length-le text h in
@@ -85,4 +83,4 @@ rest-none text x i r h n =
     let a : true ≡ all_pass is_digit text = rw d at r.digits in
     let s = r.small in
     let f : is_number text ≡ true = rw (ne_eqb (length text) 0 n, ← a, ← v, le-leb x most_number s) refl in
-    rw (f, number_of) (ap Is v)
+    rw (f, number_of) (ap Some v)

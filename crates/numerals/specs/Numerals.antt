@@ -1,8 +1,6 @@
 -- A number in decimal digits, read and written.
-use Rattle.std.specs.Prelude.{Bool, true, false, not, ◌&&◌, List, [], ◌∷◌, ◌++◌, ℕ, zero, suc, ◌+◌, ◌-◌, ◌*◌, ◌/◌, ◌%◌, eqb, ltb, leb, length}
+use Rattle.std.specs.Prelude.{Option, Some, None, Bool, true, false, not, ◌&&◌, List, [], ◌∷◌, ◌++◌, ℕ, zero, suc, ◌+◌, ◌-◌, ◌*◌, ◌/◌, ◌%◌, eqb, ltb, leb, length}
 use Rattle.lists.specs.Lists.{all_pass}
-use Rattle.numerals.specs.declared.Number.{Number}
-use Rattle.numerals.specs.declared.Number.TheVariants.{Nothing, Is}
 
 -- ---- read
 -- the greatest number that is read: 2^64 − 1
@@ -23,8 +21,8 @@ abbrev pub is_number : List ℕ → Bool
 is_number text = not (eqb (length text) 0) && (all_pass is_digit text && leb (value_after 0 text) most_number)
 
 -- the number, or none
-unfoldable pub number_of : List ℕ → Number
-number_of text = elim (is_number text) [ true ↦ Is (value_after 0 text) | false ↦ Nothing ]
+unfoldable pub number_of : List ℕ → Option ℕ
+number_of text = elim (is_number text) [ true ↦ Some (value_after 0 text) | false ↦ None ]
 
 -- ---- written
 -- the decimal digits of x, the most significant first, where x has at most k of them

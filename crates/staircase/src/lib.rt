@@ -11,7 +11,7 @@ ghost use Rattle.staircase.specs.Stairs.{stair};
 ghost use Rattle.staircase.specs.Staircase.{bad_parameters, staircase_answer, staircase_table_after};
 ghost use Rattle.staircase.specs.Staired.{Staired};
 
-use making::Made;
+use refusals::Refusal;
 use table::{MOST_ONES, MOST_WORDS};
 
 // the limits of the ones in a source column
@@ -85,7 +85,7 @@ fn make_in(
     seed: usize,
     s: usize,
     table: &mut [u16],
-) -> Made
+) -> Result<u32, Refusal>
     requires rows { (length w.old ≡ 8192)
         × ((p : ℕ) → get_or w.old p 0 ≡ 0) }
     requires parameters { bad_parameters k n ones seed ≡ false }
@@ -96,22 +96,28 @@ fn make_in(
 {
     let m = n - k;
     if !fill::fill(w, k, m, ones, seed, MOST_DRAWS) {
-        return making::refused(11);
+        return Err(Refusal::Staircase);
     }
     put_stairs(w, k, m);
-    let total = making::weigh(w, m);
+    let Some(total) = making::weigh(w, m) else {
+        return Err(Refusal::Lengths);
+    };
     if MOST_ONES < total {
-        return making::refused(3);
+        return Err(Refusal::Lengths);
     }
     let length = making::write(table, n, s, w, m, total);
-    Made {
-        refusal: 0,
-        length: length as u32,
-    }
+    Ok(length as u32)
 }
 
 // the same, with rows of zeros
-fn make_table(k: usize, n: usize, ones: usize, seed: usize, s: usize, table: &mut [u16]) -> Made
+fn make_table(
+    k: usize,
+    n: usize,
+    ones: usize,
+    seed: usize,
+    s: usize,
+    table: &mut [u16],
+) -> Result<u32, Refusal>
     requires parameters { bad_parameters k n ones seed ≡ false }
     requires limits { beyond n s (n - k) ≡ false }
     requires room { length table.old ≡ table_words }
@@ -124,18 +130,25 @@ fn make_table(k: usize, n: usize, ones: usize, seed: usize, s: usize, table: &mu
 
 // the staircase's table (RFC 5170) of k source packets among n packets of s bytes, with at least so many ones in a source column, from
 // the seed
-pub fn make(k: usize, n: usize, ones: usize, seed: usize, s: usize, table: &mut [u16]) -> Made
+pub fn make(
+    k: usize,
+    n: usize,
+    ones: usize,
+    seed: usize,
+    s: usize,
+    table: &mut [u16],
+) -> Result<u32, Refusal>
     ensures answer { make_answer_of result ≡ staircase_answer k n ones seed s table.old }
     ensures table { table.new ≡ staircase_table_after k n ones seed s table.old }
 {
     if bad_parameters(k, n, ones, seed) {
-        return making::refused(11);
+        return Err(Refusal::Staircase);
     }
     if table::beyond(n, s, n - k) {
-        return making::refused(2);
+        return Err(Refusal::Limits);
     }
     if table.len() != MOST_WORDS {
-        return making::refused(5);
+        return Err(Refusal::Buffer);
     }
     make_table(k, n, ones, seed, s, table)
 }

@@ -8,7 +8,7 @@ use borrow.Author.Count.{below_more}
 use borrow.Author.Tests.{lt-ltb, le-ltb, eq-eqb, ne_eqb}
 use lib.ListN.{length, get_or, drop, set, length-set}
 use lib.Seq.{get_or-set_same, get_or-set_other}
-use Rattle.table_file.specs.declared.Words.TheVariants.{Refused, Count}
+use Rattle.std.specs.declared.option.Option.TheVariants.{Some, None}
 use Rattle.table_file.specs.Words.{words_of, unfit, words_read, words_after, bytes_of}
 
 -- the word at i
@@ -68,18 +68,18 @@ bytes-all (w ∷ words) (a ∷ (b ∷ file)) r =
     cc
 
 -- ---- what is taken of a file
-refused : (file words : List ℕ) → unfit file ≡ true → (Refused ≡ words_read file) × (words ≡ words_after file words)
+refused : (file words : List ℕ) → unfit file ≡ true → (None ≡ words_read file) × (words ≡ words_after file words)
 unfolding words_read words_after
 refused file words e = (rw (e, words_read) refl, rw (e, words_after) refl)
 
-pub odd_refused : (file words : List ℕ) → (length file % 2 ≡ 0 → ⊥) → (Refused ≡ words_read file) × (words ≡ words_after file words)
+pub odd_refused : (file words : List ℕ) → (length file % 2 ≡ 0 → ⊥) → (None ≡ words_read file) × (words ≡ words_after file words)
 odd_refused file words h = refused file words (rw (ne_eqb (length file % 2) 0 h) refl)
 
-pub long-refused : (file words : List ℕ) → length file % 2 ≡ 0 → 13322 < length file → (Refused ≡ words_read file) × (words ≡ words_after file words)
+pub long-refused : (file words : List ℕ) → length file % 2 ≡ 0 → 13322 < length file → (None ≡ words_read file) × (words ≡ words_after file words)
 long-refused file words h l = refused file words (rw (eq-eqb (length file % 2) 0 h, lt-ltb 13322 (length file) l) refl)
 
 pub words-put : (file words v : List ℕ) (k : ℕ) → length file % 2 ≡ 0 → length file ≤ 13322 → v ≡ words_of file → length v ≡ k
-    → (Count k ≡ words_read file) × (v ++ drop k words ≡ words_after file words)
+    → (Some k ≡ words_read file) × (v ++ drop k words ≡ words_after file words)
 unfolding words_read words_after
 words-put file words v k h l e n =
     let f : unfit file ≡ false = rw (eq-eqb (length file % 2) 0 h, le-ltb 13322 (length file) l) refl in

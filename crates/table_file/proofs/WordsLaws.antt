@@ -2,8 +2,8 @@
 use Rattle.std.specs.Prelude.{◌≡◌, refl, Bool, true, false, not, ◌||◌, List, [], ◌∷◌, ◌++◌, ℕ, ◌+◌, ◌-◌, ◌*◌, ◌/◌, ◌%◌, ◌≤◌, eqb, ltb, length, take, drop}
 use Rattle.std.proofs.Common.{sym, ap, ap₂, ◌∙◌, arith, eqb-true, ltb-false, eq-eqb, le-ltb, length-append, take_at}
 use Rattle.io.specs.Counts.{IsPrefixLen}
-use Rattle.table_file.specs.declared.Words.{Words}
-use Rattle.table_file.specs.declared.Words.TheVariants.{Refused, Count}
+use Rattle.std.specs.declared.option.Option.{Option}
+use Rattle.std.specs.declared.option.Option.TheVariants.{Some, None}
 use Rattle.table_file.specs.Words.{words_of, unfit, words_read, words_after, bytes_of}
 
 -- as many words as pairs of bytes
@@ -31,14 +31,14 @@ pub record Taken (file words : List ℕ) (n : ℕ) : Type 0 where
   pub counts : IsPrefixLen n (words_after file words)
   pub are : take n (words_after file words) ≡ words_of file
 
-pub words-taken : (file words : List ℕ) (n : ℕ) → 6661 ≤ length words → words_read file ≡ Count n → Taken file words n
+pub words-taken : (file words : List ℕ) (n : ℕ) → 6661 ≤ length words → words_read file ≡ Some n → Taken file words n
 unfolding words_read words_after
 words-taken file words n h e = go (unfit file) refl
   where
     go : (b : Bool) → unfit file ≡ b → Taken file words n
-    go true u = absurd (let z : Refused ≡ Count n = rw (u, words_read) at e in let o : ◌≡◌ {A = ℕ} 0 1 = cc in omega arith)
+    go true u = absurd (let z : None ≡ Some n = rw (u, words_read) at e in let o : ◌≡◌ {A = ℕ} 0 1 = cc in omega arith)
     go false u =
-        let c : Count (length (words_of file)) ≡ Count n = rw (u, words_read) at e in
+        let c : Some (length (words_of file)) ≡ Some n = rw (u, words_read) at e in
         let l : length (words_of file) ≡ n = cc in
         let m = fit_words file u in
         let t : take n (words_after file words) ≡ words_of file = rw (u, words_after) (take_at (words_of file) (drop (length (words_of file)) words) n l) in
@@ -49,17 +49,17 @@ words-taken file words n h e = go (unfit file) refl
         }
 
 -- no words of a file that is refused
-pub words-none : (file : List ℕ) → words_read file ≡ Refused → unfit file ≡ true
+pub words-none : (file : List ℕ) → words_read file ≡ None → unfit file ≡ true
 unfolding words_read
 words-none file e = go (unfit file) refl
   where
     go : (b : Bool) → unfit file ≡ b → unfit file ≡ true
     go true u = u
-    go false u = absurd (let z : Count (length (words_of file)) ≡ Refused = rw (u, words_read) at e in let o : ◌≡◌ {A = ℕ} 0 1 = cc in omega arith)
+    go false u = absurd (let z : Some (length (words_of file)) ≡ None = rw (u, words_read) at e in let o : ◌≡◌ {A = ℕ} 0 1 = cc in omega arith)
 
 -- so that so many words stand in the buffer
-pub words-within : (file words : List ℕ) {r : Words} {words' : List ℕ} {n : ℕ} → 6661 ≤ length words → r ≡ words_read file → words' ≡ words_after file words
-    → r ≡ Count n → IsPrefixLen n words'
+pub words-within : (file words : List ℕ) {r : Option ℕ} {words' : List ℕ} {n : ℕ} → 6661 ≤ length words → r ≡ words_read file → words' ≡ words_after file words
+    → r ≡ Some n → IsPrefixLen n words'
 words-within file words {r} {words'} {n} h e f z = rw f (words-taken file words n h (sym e ∙ z)).counts
 
 -- ---- a file that is written
@@ -79,7 +79,7 @@ written-fit words h =
     rw (eq-eqb (length (bytes_of words) % 2) 0 (omega arith), le-ltb 13322 (length (bytes_of words)) (omega arith)) refl
 
 pub read_back : (words buffer : List ℕ) → length words ≤ 6661
-    → (words_read (bytes_of words) ≡ Count (length words)) × (words_after (bytes_of words) buffer ≡ words ++ drop (length words) buffer)
+    → (words_read (bytes_of words) ≡ Some (length words)) × (words_after (bytes_of words) buffer ≡ words ++ drop (length words) buffer)
 unfolding words_read words_after
 read_back words buffer h =
     let f = written-fit words h in

@@ -1,7 +1,7 @@
 -- The words of a table's file (document 01, "The table of checks" and "Program planlist").
 use Rattle.std.specs.Prelude.{Bool, true, false, not, ◌||◌, List, [], ◌∷◌, ◌++◌, ℕ, ◌+◌, ◌*◌, ◌/◌, ◌%◌, eqb, ltb, length, drop}
-use Rattle.table_file.specs.declared.Words.{Words}
-use Rattle.table_file.specs.declared.Words.TheVariants.{Refused, Count}
+use Rattle.std.specs.declared.option.Option.{Option}
+use Rattle.std.specs.declared.option.Option.TheVariants.{Some, None}
 
 -- 16-bit words, "low byte first"
 abbrev pub words_of : List ℕ → List ℕ
@@ -18,8 +18,8 @@ abbrev pub unfit : List ℕ → Bool
 unfit file = not (eqb (length file % 2) 0) || ltb most_file (length file)
 
 -- it is refused; of any other, the words are taken
-unfoldable pub words_read : List ℕ → Words
-words_read file = elim (unfit file) [ true ↦ Refused | false ↦ Count (length (words_of file)) ]
+unfoldable pub words_read : List ℕ → Option ℕ
+words_read file = elim (unfit file) [ true ↦ None | false ↦ Some (length (words_of file)) ]
 
 -- they stand at the start of the buffer; the rest is kept
 unfoldable pub words_after : List ℕ → List ℕ → List ℕ

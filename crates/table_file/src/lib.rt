@@ -9,18 +9,11 @@ pub const MOST_BYTES: usize = 13322;
 
 pub const MOST_WORDS: usize = 6661;
 
-// so many words, or none: the file is refused with 3
-#[derive(Drop)]
-pub enum Words {
-    Refused,
-    Count(usize),
-}
-
 // a word of a table's file
 fn word(low: u8, high: u8) -> u16
     ensures { result ≡ low + high * 256 }
 {
-    (low as u16) + (high as u16) * 256
+    u16::from(low) + u16::from(high) * 256
 }
 
 // 16-bit words, low byte first
@@ -33,21 +26,21 @@ fn fill_words(file: &[u8], words: &mut [u16])
     }
 }
 
-// The words of a table's file; it is refused if it has an odd number of bytes, or too many.
-pub fn words_in(file: &[u8], words: &mut [u16]) -> Words
+// How many words a table's file has, and these; none if it has an odd number of bytes, or too many.
+pub fn words_in(file: &[u8], words: &mut [u16]) -> Option<usize>
     requires { 6661 ≤ length words.old }
     ensures answer { result ≡ words_read file.now }
     ensures words { words.new ≡ words_after file.now words.old }
 {
     if file.len() % 2 != 0 {
-        return Words::Refused;
+        return None;
     }
     if MOST_BYTES < file.len() {
-        return Words::Refused;
+        return None;
     }
     let count = file.len() / 2;
     fill_words(file, &mut words[..count]);
-    Words::Count(count)
+    Some(count)
 }
 
 // the low byte of a word

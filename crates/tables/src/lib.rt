@@ -5,7 +5,10 @@ ghost use Rattle.std.specs.Prelude.{◌≡◌};
 ghost use Rattle.staircase.specs.Staircase.{staircase_answer, staircase_table_after};
 ghost use Rattle.alist.specs.Alist.{alist_read_answer, alist_read_table_after};
 ghost use Rattle.alist.specs.AlistText.{alist_write_answer, alist_write_text_after};
+ghost use Rattle.making.specs.Making.{make_answer_of};
 ghost use Rattle.tables.specs.Answers.{answered};
+
+use refusals::Refusal;
 
 // What a maker answers: the refusal, 0 for none, and how many numbers the table has, or bytes the text.
 #[repr(C)]
@@ -13,6 +16,16 @@ ghost use Rattle.tables.specs.Answers.{answered};
 pub struct Making {
     pub refusal: u32,
     pub length: u32,
+}
+
+// the same for C
+fn for_c(made: Result<u32, Refusal>) -> Making
+    ensures { answered result ≡ make_answer_of made }
+{
+    match made {
+        Ok(length) => Making { refusal: 0, length },
+        Err(refusal) => Making { refusal: refusal.number(), length: 0 },
+    }
 }
 
 #[unsafe(no_mangle)]
@@ -28,10 +41,7 @@ pub extern "C" fn bs_staircase(
     ensures table { table.new ≡ staircase_table_after sources packets ones seed size table.old }
 {
     let made = staircase::make(sources, packets, ones, seed, size, table);
-    Making {
-        refusal: made.refusal,
-        length: made.length,
-    }
+    for_c(made)
 }
 
 #[unsafe(no_mangle)]
@@ -40,10 +50,7 @@ pub extern "C" fn bs_alist_read(text: &[u8], size: usize, table: &mut [u16]) -> 
     ensures table { table.new ≡ alist_read_table_after text.now size table.old }
 {
     let read = alist_read::read_alist(text, size, table);
-    Making {
-        refusal: read.refusal,
-        length: read.length,
-    }
+    for_c(read)
 }
 
 #[unsafe(no_mangle)]
@@ -52,8 +59,5 @@ pub extern "C" fn bs_alist_write(table: &[u16], text: &mut [u8]) -> Making
     ensures text { text.new ≡ alist_write_text_after table.now text.old }
 {
     let written = alist_write::write_alist(table, text);
-    Making {
-        refusal: written.refusal,
-        length: written.length,
-    }
+    for_c(written)
 }

@@ -3,24 +3,17 @@
 
 ghost use Rattle.std.specs.Prelude.{true, [], ◌∷◌, ◌++◌, ◌≡◌, ◌+◌, ◌≤◌, length, IfOk};
 ghost use Rattle.lists.specs.Lists.{has};
+ghost use Rattle.refusals.specs.Refusals.{number_of};
 ghost use Rattle.numerals.specs.Numerals.{decimal};
 ghost use Rattle.text.specs.Lines.{Appended};
 ghost use Rattle.text.specs.Files.{ReadInto};
 
-use numerals::Number;
+use refusals::Refusal;
 use std::alloc::Alloc;
 use std::env::{Env, FillError};
 use std::fs;
 use std::fs::Files;
-use std::io::{Error, Print, Read as Reader, Write};
-use table_file::Words;
-
-// so many bytes or words were read, or none
-#[derive(Drop)]
-pub enum Read {
-    Nothing,
-    Count(usize),
-}
+use std::io::{Error, Print, Read, Write};
 
 // ---- lines
 
@@ -68,38 +61,37 @@ pub fn print_count<P: Print>(to: &P, word: &[u8], x: u64, end: &[u8]) -> std::io
 pub fn print_restored<P: Print>(to: &P, restored: u32, lost: u32, end: &[u8]) -> std::io::Result<()>
     requires { length end.now ≤ 38 }
 {
-    print_count(to, b"restored ", restored as u64, b"")?;
-    print_count(to, b" lost ", lost as u64, end)
+    print_count(to, b"restored ", u64::from(restored), b"")?;
+    print_count(to, b" lost ", u64::from(lost), end)
 }
 
 // Says on standard error that a call refused, and its number.
-pub fn say_refused<P: Print>(err: &P, number: u32) -> std::io::Result<()> {
-    print_count(err, b"refused ", number as u64, b"\n")
+pub fn say_refused<P: Print>(err: &P, refusal: Refusal) -> std::io::Result<()> {
+    print_count(err, b"refused ", u64::from(refusal.number()), b"\n")
 }
 
 // Says on standard error why a table is refused.
-pub fn say_table_refused<P: Print>(err: &P, refusal: u32) -> std::io::Result<()>
-    requires { has refusal (1 ∷ 2 ∷ 3 ∷ 4 ∷ []) ≡ true }
+pub fn say_table_refused<P: Print>(err: &P, refusal: Refusal) -> std::io::Result<()>
+    requires { has (number_of refusal) (1 ∷ 2 ∷ 3 ∷ 4 ∷ []) ≡ true }
 {
-    if refusal == 1 {
-        return Print::write_all(err, b"refused 1: a table has at least 5 numbers\n");
-    }
-    if refusal == 2 {
-        return Print::write_all(
+    match refusal {
+        Refusal::ShortTable => {
+            Print::write_all(err, b"refused 1: a table has at least 5 numbers\n")
+        }
+        Refusal::Limits => Print::write_all(
             err,
             b"refused 2: the first number isn't 2, or places, packet size or checks are beyond their limits\n",
-        );
-    }
-    if refusal == 3 {
-        return Print::write_all(
+        ),
+        Refusal::Lengths => Print::write_all(
             err,
             b"refused 3: a weight over 64, more than 6,144 ones, or weights, ones and length that don't fit\n",
-        );
+        ),
+        // 4, by what is asked for
+        _ => Print::write_all(
+            err,
+            b"refused 4: a place that is no place of the block, or places of a check that don't ascend\n",
+        ),
     }
-    Print::write_all(
-        err,
-        b"refused 4: a place that is no place of the block, or places of a check that don't ascend\n",
-    )
 }
 
 // Says which check fails, and at which byte of its sum.
@@ -140,17 +132,17 @@ pub fn number_argument<R: Env, P: Print>(
     err: &P,
     number: usize,
     name: &[u8],
-) -> std::io::Result<Number> {
+) -> std::io::Result<Option<usize>> {
     let mut text = io::buffer();
     let Ok(length) = rt.arg(number, &mut text) else {
         say_no_number(err, name)?;
-        return Ok(Number::Nothing);
+        return Ok(None);
     };
-    let Number::Is(x) = numerals::number_of(&text[..length]) else {
+    let x = numerals::number_of(&text[..length]);
+    if x.is_none() {
         say_no_number(err, name)?;
-        return Ok(Number::Nothing);
-    };
-    Ok(Number::Is(x))
+    }
+    Ok(x)
 }
 
 // Whether there is an argument of this number; argument 0 is the program's name.
@@ -165,71 +157,71 @@ pub fn has_argument<R: Env>(rt: &R, number: usize) -> bool {
 // ---- files
 
 // One read. A failed one gives nothing, and has been said.
-fn read_some<F: Reader, R: Alloc, P: Print>(
+fn read_some<F: Read, R: Alloc, P: Print>(
     file: &mut F,
     rt: &R,
     err: &P,
     buf: &mut [u8],
-) -> std::io::Result<Read>
+) -> std::io::Result<Option<usize>>
     ensures { IfOk result (λ r. ReadInto r buf.new) }
 {
     match file.read(buf) {
-        Ok(n) => Ok(Read::Count(n)),
+        Ok(n) => Ok(Some(n)),
         Err(e) => {
             say_failed(rt, err, b"read", e)?;
-            Ok(Read::Nothing)
+            Ok(None)
         }
     }
 }
 
 // Reads until the buffer is full or the file ends; nothing where a read fails, which has been said.
-pub fn read_into<F: Reader, R: Alloc, P: Print>(
+pub fn read_into<F: Read, R: Alloc, P: Print>(
     file: &mut F,
     rt: &R,
     err: &P,
     buf: &mut [u8],
-) -> std::io::Result<Read>
+) -> std::io::Result<Option<usize>>
     ensures { IfOk result (λ r. ReadInto r buf.new) }
 {
     let mut n = 0;
     while n < buf.len() {
-        let Read::Count(more) = read_some(file, rt, err, &mut buf[n..])? else {
-            return Ok(Read::Nothing);
+        let Some(more) = read_some(file, rt, err, &mut buf[n..])? else {
+            return Ok(None);
         };
         if more == 0 {
-            return Ok(Read::Count(n));
+            return Ok(Some(n));
         }
         n += more;
     }
-    Ok(Read::Count(n))
+    Ok(Some(n))
 }
 
 // Reads a file whole. One that fails or has more bytes than the buffer gives nothing, and has been
 // said.
-fn read_whole<F: Reader, R: Alloc, P: Print>(
+fn read_whole<F: Read, R: Alloc, P: Print>(
     file: &mut F,
     rt: &R,
     err: &P,
     number: usize,
     buf: &mut [u8],
-) -> std::io::Result<Read>
+) -> std::io::Result<Option<usize>>
     ensures { IfOk result (λ r. ReadInto r buf.new) }
 {
-    let Read::Count(n) = read_into(file, rt, err, buf)? else {
-        return Ok(Read::Nothing);
+    let Some(n) = read_into(file, rt, err, buf)? else {
+        return Ok(None);
     };
     if n < buf.len() {
-        return Ok(Read::Count(n));
+        return Ok(Some(n));
     }
     let mut next = [0u8; 1];
-    let Read::Count(more) = read_into(file, rt, err, &mut next)? else {
-        return Ok(Read::Nothing);
+    let Some(more) = read_into(file, rt, err, &mut next)? else {
+        return Ok(None);
     };
     if more != 0 {
         say_overlong(err, number, buf.len())?;
-        return Ok(Read::Nothing);
+        return Ok(None);
     }
-    Ok(Read::Count(n))
+    Ok(Some(n))
 }
 
 // Reads the file that an argument names, likewise.
@@ -238,11 +230,11 @@ pub fn read_argument<R: Env + Files + Alloc, P: Print>(
     err: &P,
     number: usize,
     buf: &mut [u8],
-) -> std::io::Result<Read>
+) -> std::io::Result<Option<usize>>
     ensures { IfOk result (λ r. ReadInto r buf.new) }
 {
     let Some(mut file) = open_argument(rt, err, number)? else {
-        return Ok(Read::Nothing);
+        return Ok(None);
     };
     read_whole(&mut file, rt, err, number, buf)
 }
@@ -253,11 +245,11 @@ fn read_start<R: Env + Files + Alloc, P: Print>(
     err: &P,
     number: usize,
     buf: &mut [u8],
-) -> std::io::Result<Read>
+) -> std::io::Result<Option<usize>>
     ensures { IfOk result (λ r. ReadInto r buf.new) }
 {
     let Some(mut file) = open_argument(rt, err, number)? else {
-        return Ok(Read::Nothing);
+        return Ok(None);
     };
     read_into(&mut file, rt, err, buf)
 }
@@ -277,20 +269,20 @@ pub fn read_table<R: Env + Files + Alloc, P: Print>(
     err: &P,
     number: usize,
     words: &mut [u16],
-) -> std::io::Result<Read>
+) -> std::io::Result<Option<usize>>
     requires { 6661 ≤ length words.old }
     ensures { IfOk result (λ r. ReadInto r words.new) }
 {
     // one byte more shows that there are too many
     let mut file = [0u8; table_file::MOST_BYTES + 1];
-    let Read::Count(n) = read_start(rt, err, number, &mut file)? else {
-        return Ok(Read::Nothing);
+    let Some(n) = read_start(rt, err, number, &mut file)? else {
+        return Ok(None);
     };
-    let Words::Count(n) = table_file::words_in(&file[..n], words) else {
+    let Some(n) = table_file::words_in(&file[..n], words) else {
         say_unfit(err)?;
-        return Ok(Read::Nothing);
+        return Ok(None);
     };
-    Ok(Read::Count(n))
+    Ok(Some(n))
 }
 
 // Says on standard error why there is no argument of a number.

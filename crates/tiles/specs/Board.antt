@@ -3,6 +3,8 @@ use Rattle.std.specs.Prelude.{◌≡◌, Bool, true, false, ◌&&◌, List, ℕ,
 use Rattle.lists.specs.Lists.{bxor, par}
 use Rattle.gf2.specs.Gf2.{bit}
 use Rattle.bits.specs.Row.{row}
+use Rattle.tiles.specs.declared.Axis.{Axis}
+use Rattle.tiles.specs.declared.Axis.TheVariants.{Columns, Rows}
 
 -- bit q of row i
 abbrev pub on : List ℕ → ℕ → ℕ → Bool
@@ -29,6 +31,11 @@ in_column low span j f i q = eqb q j && (ltb i span && f (low + suc i))
 -- count lists, list q in column q
 abbrev pub in_columns : ℕ → ℕ → ℕ → (ℕ → List ℕ) → ℕ → ℕ → Bool
 in_columns low span count f i q = ltb q count && (ltb i span && par (low + suc i) (f q))
+
+-- whether lists stand in columns
+abbrev pub by_columns : Axis → Bool
+by_columns Columns = true
+by_columns Rows = false
 
 -- lists stand in columns, or else in rows
 abbrev pub turned : Bool → (ℕ → ℕ → Bool) → ℕ → ℕ → Bool

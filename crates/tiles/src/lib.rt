@@ -2,7 +2,7 @@
 #![tactic(auto)]
 
 ghost use Rattle.std.specs.Prelude.{◌≡◌, ◌≤◌, ◌<◌, eqb, length};
-ghost use Rattle.tiles.specs.Board.{Flips, in_column, turned};
+ghost use Rattle.tiles.specs.Board.{Flips, in_column, by_columns, turned};
 ghost use Rattle.tiles.specs.Tiles.{Marks, Unmarks, FlipsList, FlipsLists};
 
 // the words of a board
@@ -11,8 +11,15 @@ pub const BOARD_WORDS: usize = 16384;
 // the rows and columns of a tile
 pub const SIDE: usize = 1024;
 
+// whether lists stand in a tile's columns or in its rows
+#[derive(Clone, Copy, Debug, PartialEq, Eq)]
+pub enum Axis {
+    Columns,
+    Rows,
+}
+
 // two cursors: at a weight, and at its list
-#[derive(Drop)]
+#[derive(Clone, Copy, Debug, PartialEq, Eq)]
 pub struct Cursors {
     pub weights: usize,
     pub lists: usize,
@@ -60,14 +67,14 @@ pub fn unmark(board: &mut [u64], text: &[u8], at: usize, count: usize) -> usize
     next
 }
 
-// ---- lists in a tile: in its columns, or else in its rows
+// ---- lists in a tile
 
 // flips the bit of number x of list j, if x is one of the span numbers behind low
-fn flip_entry(board: &mut [u64], x: usize, low: usize, span: usize, j: usize, columns: bool)
+fn flip_entry(board: &mut [u64], x: usize, low: usize, span: usize, j: usize, axis: Axis)
     requires { (length board.old ≡ 16384)
         × (span ≤ 1024)
         × (j < 1024) }
-    ensures { Flips board.old (turned columns (in_column low span j (λ y. eqb y x))) board.new }
+    ensures { Flips board.old (turned (by_columns axis) (in_column low span j (λ y. eqb y x))) board.new }
 {
     if x <= low {
         return;
@@ -76,11 +83,10 @@ fn flip_entry(board: &mut [u64], x: usize, low: usize, span: usize, j: usize, co
     if span <= k {
         return;
     }
-    if columns {
-        bits::flip(board, k, j);
-        return;
+    match axis {
+        Axis::Columns => bits::flip(board, k, j),
+        Axis::Rows => bits::flip(board, j, k),
     }
-    bits::flip(board, j, k);
 }
 
 // flips the bits of list j, and says where its entries end
@@ -92,18 +98,18 @@ fn flip_list(
     low: usize,
     span: usize,
     j: usize,
-    columns: bool,
+    axis: Axis,
 ) -> usize
     requires { (length board.old ≡ 16384)
         × (span ≤ 1024)
         × (j < 1024) }
     ensures len { length board.new ≡ length board.old }
-    ensures flips { FlipsList text.now at weight low span j columns board.old result board.new }
+    ensures flips { FlipsList text.now at weight low span j (by_columns axis) board.old result board.new }
 {
     let mut next = at;
     for i in 0..weight {
         let spot = numbers::read(text, next);
-        flip_entry(board, spot.value, low, span, j, columns);
+        flip_entry(board, spot.value, low, span, j, axis);
         next = spot.next;
     }
     next
@@ -119,20 +125,20 @@ pub fn flip_lists(
     width: usize,
     low: usize,
     span: usize,
-    columns: bool,
+    axis: Axis,
 ) -> Cursors
     requires { (length board.old ≡ 16384)
         × (span ≤ 1024)
         × (count ≤ 1024) }
     ensures len { length board.new ≡ length board.old }
-    ensures flips { FlipsLists text.now weights at count width low span columns board.old result.weights result.lists board.new }
+    ensures flips { FlipsLists text.now weights at count width low span (by_columns axis) board.old result.weights result.lists board.new }
 {
     let mut weight = weights;
     let mut next = at;
     for j in 0..count {
         let spot = numbers::read(text, weight);
-        let padding = flip_list(board, text, next, spot.value, low, span, j, columns);
-        next = walks::skip_numbers(text, padding, walks::rest(width, spot.value));
+        let padding = flip_list(board, text, next, spot.value, low, span, j, axis);
+        next = walks::skip_numbers(text, padding, width.saturating_sub(spot.value));
         weight = spot.next;
     }
     Cursors {

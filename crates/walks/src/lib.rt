@@ -1,29 +1,10 @@
 // Walks over the numbers of a text.
 #![tactic(auto)]
 
-ghost use Rattle.std.specs.Prelude.{◌≡◌, ◌-◌, max, eqb};
+ghost use Rattle.std.specs.Prelude.{eqb};
 ghost use Rattle.lists.specs.Lists.{all_pass};
 ghost use Rattle.alist.specs.Alist.{greatest as greatest_of};
 ghost use Rattle.walks.specs.Walks.{Tells, Skips};
-
-// what is left of a after b, 0 if there is less
-pub fn rest(a: usize, b: usize) -> usize
-    ensures { result ≡ a - b }
-{
-    if a < b {
-        return 0;
-    }
-    a - b
-}
-
-fn larger(a: usize, b: usize) -> usize
-    ensures { result ≡ max a b }
-{
-    if a < b {
-        return b;
-    }
-    a
-}
 
 // behind count numbers
 pub fn skip_numbers(text: &[u8], at: usize, count: usize) -> usize
@@ -41,11 +22,11 @@ pub fn skip_numbers(text: &[u8], at: usize, count: usize) -> usize
 pub fn greatest(text: &[u8], at: usize, count: usize) -> usize
     ensures { Tells text.now at count greatest_of result }
 {
-    let mut most = 0;
+    let mut most: usize = 0;
     let mut next = at;
     for i in 0..count {
         let spot = numbers::read(text, next);
-        most = larger(most, spot.value);
+        most = most.max(spot.value);
         next = spot.next;
     }
     most

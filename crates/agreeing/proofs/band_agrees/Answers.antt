@@ -18,14 +18,11 @@ use Rattle.agreeing.proofs.band_agrees.Goals as goal
 pub loop-c-init : goal.loop-c-init
 loop-c-init c = (omega arith, refl, λ z. z, λ z ws l vs q g h. (g.weights-ahead, g.lists-ahead, λ i j a b. absurd (omega arith)))
 
-pub lesser-span-requires : goal.lesser-span-requires
-lesser-span-requires c = tt
-
 pub flip_lists-ends-requires : goal.flip_lists-ends-requires
-flip_lists-ends-requires c = let h = c.loop-c.invariant.1 in let g = c.requires in let e = c.lesser-span.ensures in (omega arith, omega arith, omega arith)
+flip_lists-ends-requires c = let h = c.loop-c.invariant.1 in let g = c.requires in let e = c.min-span.ensures in (omega arith, omega arith, omega arith)
 
 pub flip_lists-requires : goal.flip_lists-requires
-flip_lists-requires c = let h = c.loop-c.invariant.1 in let g = c.requires in let e = c.lesser-span.ensures in let l = c.flip_lists-ends.ensures.len in (omega arith, omega arith, omega arith)
+flip_lists-requires c = let h = c.loop-c.invariant.1 in let g = c.requires in let e = c.min-span.ensures in let l = c.flip_lists-ends.ensures.len in (omega arith, omega arith, omega arith)
 
 pub is_blank-requires : goal.is_blank-requires
 is_blank-requires c = let h = c.loop-c.invariant.1 in let g = c.requires in let l = c.flip_lists-ends.ensures.len in let k = c.flip_lists.ensures.len in omega arith
@@ -38,40 +35,40 @@ returns-then-not-is_blank c = let s = c.loop-c in let a = c.args in record {
   len = c.flip_lists.ensures.len ∙ c.flip_lists-ends.ensures.len ∙ s.invariant.1;
   agrees = λ z ws l vs q g h.
       let y = s.invariant.3 z ws l vs q g h in
-      let e = c.lesser-span.ensures in
-      let sub = lists-from g s.c c.lesser-span.result (omega arith) y.0 y.1 in
+      let e = c.min-span.ensures in
+      let sub = lists-from g s.c c.min-span.result (omega arith) y.0 y.1 in
       let f = c.flip_lists-ends.ensures.flips (drop s.c ws) (after s.c a.a l) sub in
       let o = c.flip_lists.ensures.flips vs q h in (
         record {
           yes = λ t. absurd (false≢true t);
-          no = λ p. absurd (true≢false (sym (c.is_blank.ensures.no (tile-blank a.r a.k s.c c.lesser-span.result (list_at a.a (drop s.c ws) (after s.c a.a l)) (list_at a.b vs q) (s.invariant.2 z) f.2 o.2
-              (band-tile a.r a.k s.c c.lesser-span.result (list_at a.a ws l) (list_at a.a (drop s.c ws) (after s.c a.a l)) (list_at a.b vs q) (λ j. list-from s.c j a.a ws l) a.n (omega arith) p))) ∙ not-true _ c.if-not-is_blank.true-raw));
+          no = λ p. absurd (true≢false (sym (c.is_blank.ensures.no (tile-blank a.r a.k s.c c.min-span.result (list_at a.a (drop s.c ws) (after s.c a.a l)) (list_at a.b vs q) (s.invariant.2 z) f.2 o.2
+              (band-tile a.r a.k s.c c.min-span.result (list_at a.a ws l) (list_at a.a (drop s.c ws) (after s.c a.a l)) (list_at a.b vs q) (λ j. list-from s.c j a.a ws l) a.n (omega arith) p))) ∙ c.if-not-is_blank.true));
         },
         λ t. absurd (false≢true t),
       );
 }
 
 pub overflow_add-c : goal.overflow_add-c
-overflow_add-c c = let e = c.lesser-span.ensures in omega arith
+overflow_add-c c = let e = c.min-span.ensures in omega arith
 
 pub loop-c-smaller : goal.loop-c-smaller
-loop-c-smaller c = let e = c.lesser-span.ensures in omega arith
+loop-c-smaller c = let e = c.min-span.ensures in omega arith
 
 pub loop-c-preserved : goal.loop-c-preserved
-loop-c-preserved c = let s = c.loop-c in let a = c.args in let e = c.lesser-span.ensures in let blank = c.is_blank.ensures.yes (not-false _ c.if-not-is_blank.false-raw) in (
+loop-c-preserved c = let s = c.loop-c in let a = c.args in let e = c.min-span.ensures in let blank = c.is_blank.ensures.yes c.if-not-is_blank.false in (
   omega arith,
   c.flip_lists.ensures.len ∙ c.flip_lists-ends.ensures.len ∙ s.invariant.1,
   λ z. blank,
   λ z ws l vs q g h.
       let y = s.invariant.3 z ws l vs q g h in
-      let e = c.lesser-span.ensures in
-      let sub = lists-from g s.c c.lesser-span.result (omega arith) y.0 y.1 in
+      let e = c.min-span.ensures in
+      let sub = lists-from g s.c c.min-span.result (omega arith) y.0 y.1 in
       let f = c.flip_lists-ends.ensures.flips (drop s.c ws) (after s.c a.a l) sub in
       let o = c.flip_lists.ensures.flips vs q h in (
-        subst (λ x. Ahead a.text.now c.flip_lists-ends.result.weights x) (drop-drop c.lesser-span.result s.c ws) f.0,
-        subst (λ x. Ahead a.text.now c.flip_lists-ends.result.lists x) (after_more s.c c.lesser-span.result a.a l) f.1,
-        tile-band a.r a.k s.c c.lesser-span.result (list_at a.a ws l) (list_at a.a (drop s.c ws) (after s.c a.a l)) (list_at a.b vs q) (λ j. list-from s.c j a.a ws l) y.2
-            (blank-tile a.r a.k s.c c.lesser-span.result (list_at a.a (drop s.c ws) (after s.c a.a l)) (list_at a.b vs q) (s.invariant.2 z) f.2 o.2 (omega arith) (omega arith) blank),
+        subst (λ x. Ahead a.text.now c.flip_lists-ends.result.weights x) (drop-drop c.min-span.result s.c ws) f.0,
+        subst (λ x. Ahead a.text.now c.flip_lists-ends.result.lists x) (after_more s.c c.min-span.result a.a l) f.1,
+        tile-band a.r a.k s.c c.min-span.result (list_at a.a ws l) (list_at a.a (drop s.c ws) (after s.c a.a l)) (list_at a.b vs q) (λ j. list-from s.c j a.a ws l) y.2
+            (blank-tile a.r a.k s.c c.min-span.result (list_at a.a (drop s.c ws) (after s.c a.a l)) (list_at a.b vs q) (s.invariant.2 z) f.2 o.2 (omega arith) (omega arith) blank),
       ),
 )
 

@@ -20,11 +20,8 @@ use Rattle.agreeing.proofs.lists_agree.Goals as goal
 pub loop-r-init : goal.loop-r-init
 loop-r-init c = (omega arith, refl, λ z ws l vs q g h. (z, h.weights-ahead, h.lists-ahead, λ i j a b. absurd (omega arith)))
 
-pub lesser-k-requires : goal.lesser-k-requires
-lesser-k-requires c = tt
-
 pub band_agrees-requires : goal.band_agrees-requires
-band_agrees-requires c = let h = c.loop-r.invariant.1 in let g = c.requires in let e = c.lesser-k.ensures in (omega arith, omega arith)
+band_agrees-requires c = let h = c.loop-r.invariant.1 in let g = c.requires in let e = c.min-k.ensures in (omega arith, omega arith)
 
 pub shape_of-board-then-not-band_agrees : goal.shape_of-board-then-not-band_agrees
 shape_of-board-then-not-band_agrees c = c.band_agrees.ensures.len ∙ c.loop-r.invariant.1
@@ -34,49 +31,43 @@ returns-then-not-band_agrees c = let s = c.loop-r in let a = c.args in record {
   len = c.band_agrees.ensures.len ∙ s.invariant.1;
   agrees = λ z ws l vs q g h.
       let y = s.invariant.2 z ws l vs q g h in
-      let e = c.lesser-k.ensures in
-      let sub = lists-from h s.r c.lesser-k.result (omega arith) y.1 y.2 in
+      let e = c.min-k.ensures in
+      let sub = lists-from h s.r c.min-k.result (omega arith) y.1 y.2 in
       let d = c.band_agrees.ensures.agrees y.0 ws l (drop s.r vs) (after s.r a.b q) g sub in (
         record {
           yes = λ t. absurd (false≢true t);
-          no = λ p. absurd (true≢false (sym (d.0.no (rows-band a.n s.r c.lesser-k.result a.m (list_at a.a ws l) (list_at a.b vs q) (list_at a.b (drop s.r vs) (after s.r a.b q)) (λ i. list-from s.r i a.b vs q) (omega arith) p)) ∙ not-true _ c.if-not-band_agrees.true-raw));
+          no = λ p. absurd (true≢false (sym (d.0.no (rows-band a.n s.r c.min-k.result a.m (list_at a.a ws l) (list_at a.b vs q) (list_at a.b (drop s.r vs) (after s.r a.b q)) (λ i. list-from s.r i a.b vs q) (omega arith) p)) ∙ c.if-not-band_agrees.true));
         },
         λ t. absurd (false≢true t),
       );
 }
 
-pub skip_numbers-weight-requires : goal.skip_numbers-weight-requires
-skip_numbers-weight-requires c = tt
-
 pub overflow_mul-k : goal.overflow_mul-k
-overflow_mul-k c = let e = c.lesser-k.ensures in let b = c.args.b in let g = c.requires.1 in
-    let p : c.lesser-k.result * b ≤ 1024 * 1000000 = mul-le-mul {n₁ = c.lesser-k.result} {m₁ = b} {n₂ = 1024} {m₂ = 1000000} (omega arith) (omega arith) in omega arith
-
-pub skip_numbers-next-requires : goal.skip_numbers-next-requires
-skip_numbers-next-requires c = tt
+overflow_mul-k c = let e = c.min-k.ensures in let b = c.args.b in let g = c.requires.1 in
+    let p : c.min-k.result * b ≤ 1024 * 1000000 = mul-le-mul {n₁ = c.min-k.result} {m₁ = b} {n₂ = 1024} {m₂ = 1000000} (omega arith) (omega arith) in omega arith
 
 pub overflow_add-r : goal.overflow_add-r
-overflow_add-r c = let e = c.lesser-k.ensures in omega arith
+overflow_add-r c = let e = c.min-k.ensures in omega arith
 
 pub loop-r-smaller : goal.loop-r-smaller
-loop-r-smaller c = let e = c.lesser-k.ensures in omega arith
+loop-r-smaller c = let e = c.min-k.ensures in omega arith
 
 pub loop-r-preserved : goal.loop-r-preserved
-loop-r-preserved c = let s = c.loop-r in let a = c.args in let e = c.lesser-k.ensures in (
+loop-r-preserved c = let s = c.loop-r in let a = c.args in let e = c.min-k.ensures in (
   omega arith,
   c.band_agrees.ensures.len ∙ s.invariant.1,
   λ z ws l vs q g h.
       let y = s.invariant.2 z ws l vs q g h in
-      let e = c.lesser-k.ensures in
-      let sub = lists-from h s.r c.lesser-k.result (omega arith) y.1 y.2 in
+      let e = c.min-k.ensures in
+      let sub = lists-from h s.r c.min-k.result (omega arith) y.1 y.2 in
       let d = c.band_agrees.ensures.agrees y.0 ws l (drop s.r vs) (after s.r a.b q) g sub in
-      let t = not-false _ c.if-not-band_agrees.false-raw in (
+      let t = c.if-not-band_agrees.false in (
         d.1 t,
-        subst (λ x. Ahead a.text.now c.skip_numbers-weight.result x) (drop-drop c.lesser-k.result s.r vs) (c.skip_numbers-weight.ensures (drop s.r vs) y.1 sub.enough),
+        subst (λ x. Ahead a.text.now c.skip_numbers-weight.result x) (drop-drop c.min-k.result s.r vs) (c.skip_numbers-weight.ensures (drop s.r vs) y.1 sub.enough),
         subst (λ x. Ahead a.text.now c.skip_numbers-next.result x)
-            (sym (after_is c.lesser-k.result a.b (after s.r a.b q)) ∙ after_more s.r c.lesser-k.result a.b q)
-            (c.skip_numbers-next.ensures (after s.r a.b q) y.2 (room-all c.lesser-k.result a.b (after s.r a.b q) sub.room)),
-        band-rows a.n s.r c.lesser-k.result a.m (list_at a.a ws l) (list_at a.b vs q) (list_at a.b (drop s.r vs) (after s.r a.b q)) (λ i. list-from s.r i a.b vs q) y.3 (d.0.yes t),
+            (sym (after_is c.min-k.result a.b (after s.r a.b q)) ∙ after_more s.r c.min-k.result a.b q)
+            (c.skip_numbers-next.ensures (after s.r a.b q) y.2 (room-all c.min-k.result a.b (after s.r a.b q) sub.room)),
+        band-rows a.n s.r c.min-k.result a.m (list_at a.a ws l) (list_at a.b vs q) (list_at a.b (drop s.r vs) (after s.r a.b q)) (λ i. list-from s.r i a.b vs q) y.3 (d.0.yes t),
       ),
 )
 

@@ -10,9 +10,5 @@ use Rattle.alist_numbers.proofs.put_row.Given as goal
 
 abbrev pub invariant-loop-i : goal.invariant-loop-i
 invariant-loop-i l =
-    (l.i ≤ 16)
-    × (l.k ≤ l.at + 320 * l.i)
+    (l.k ≤ l.at + 320 * l.i)
     × Part (λ x. Put l.initial.text l.at (numbers_on (eqb l.at l.start) x) l.text l.k) (map suc (places_in (row l.w l.r))) (map suc (places_from l.w l.r l.i (16 - l.i)))
-
-abbrev pub decreases-loop-i : goal.decreases-loop-i
-decreases-loop-i l = 16 - l.i

@@ -10,6 +10,3 @@ abbrev pub invariant-loop-i : goal.invariant-loop-i
 invariant-loop-i l =
     (l.next + 5 * (l.most - l.i) ≤ l.at + 5120)
     × Part (λ x. Put l.initial.text l.at (numbers_on (eqb l.at l.start) x) l.text l.next) (replicate (l.most - l.k) 0) (replicate (l.most - l.i) 0)
-
-abbrev pub decreases-loop-i : goal.decreases-loop-i
-decreases-loop-i l = l.most - l.i

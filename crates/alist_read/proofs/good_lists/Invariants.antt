@@ -11,10 +11,7 @@ use Rattle.tiles.specs.Board.{Blank}
 use Rattle.alist_read.proofs.good_lists.Given as goal
 
 abbrev pub invariant-loop-i : goal.invariant-loop-i
-invariant-loop-i l = (l.i ≤ l.count) × (length l.board ≡ length l.initial.board)
+invariant-loop-i l = (length l.board ≡ length l.initial.board)
     × (Blank l.initial.board → (ws xs : List ℕ) → ListsAhead l.text l.weights l.at l.count l.width ws xs
     → Blank l.board × Ahead l.text l.weight (drop l.i ws) × Ahead l.text l.next (after l.i l.width xs)
     × ((k : ℕ) → k < l.i → good_list l.most (get_or ws k 0) (take l.width (after k l.width xs)) ≡ true))
-
-abbrev pub decreases-loop-i : goal.decreases-loop-i
-decreases-loop-i l = l.count - l.i

@@ -25,7 +25,7 @@ returns-then-not-good_lists c = let a = c.args in record {
       let v = sym (c.greatest-2.ensures (drop a.n l) p.row-weights (enough-rows p)) ∙ c.if-greatest-b.false in
       let d = c.good_lists.ensures.good z l (drop a.m (drop a.n l)) (columns-lie p u) in (
         sym (sound-is a.n a.m a.a a.b l u v
-            ∙ ap (λ t. t && good_lists a.n (take a.m (drop a.n l)) (chunks a.m a.b (drop (a.n * a.a) (drop a.m (drop a.n l))))) (sym d.0 ∙ not-true _ c.if-not-good_lists.true-raw)),
+            ∙ ap (λ t. t && good_lists a.n (take a.m (drop a.n l)) (chunks a.m a.b (drop (a.n * a.a) (drop a.m (drop a.n l))))) (sym d.0 ∙ c.if-not-good_lists.true)),
         λ t. absurd (false≢true t),
       );
 }
@@ -36,7 +36,7 @@ returns c = let a = c.args in record {
   sound = λ z l p. let u = sym (c.greatest.ensures l p.column-weights (enough-columns p)) ∙ c.if-greatest-a.false in
       let v = sym (c.greatest-2.ensures (drop a.n l) p.row-weights (enough-rows p)) ∙ c.if-greatest-b.false in
       let d = c.good_lists.ensures.good z l (drop a.m (drop a.n l)) (columns-lie p u) in
-      let t = not-false _ c.if-not-good_lists.false-raw in
+      let t = c.if-not-good_lists.false in
       let o = c.good_lists-2.ensures.good (d.1 t) (drop a.n l) (drop (a.n * a.a) (drop a.m (drop a.n l))) (rows_lie p v) in (
         o.0 ∙ sym (sound-is a.n a.m a.a a.b l u v
             ∙ ap (λ x. x && good_lists a.n (take a.m (drop a.n l)) (chunks a.m a.b (drop (a.n * a.a) (drop a.m (drop a.n l))))) (sym d.0 ∙ t)),

@@ -26,38 +26,38 @@ pub overflow_add-n-3 : goal.overflow_add-n-3
 overflow_add-n-3 c = let a = c.args in let g = c.requires in let p = product_small a.n a.a g.1 g.3 in let q = product_small a.m a.b g.2 g.4 in omega arith
 
 pub returns-then-count-n : goal.returns-then-count-n
-returns-then-count-n c = let a = c.args in λ z l read e h. answer-as a.text.now a.s a.table.now c.refused.ensures (answer-bad a.text.now a.s a.table.now (whole a.n a.m a.a a.b l) read (miscounted a.n a.m a.a a.b l (λ q. c.if-count-n.true (h ∙ q))))
+returns-then-count-n c = let a = c.args in λ z l read e h. (answer-bad a.text.now a.s a.table.now (whole a.n a.m a.a a.b l) read (miscounted a.n a.m a.a a.b l (λ q. c.if-count-n.true (h ∙ q))))
 
 pub returns-then-not-is_sound : goal.returns-then-not-is_sound
 returns-then-not-is_sound c = let a = c.args in λ z l read e h.
     let y = sym h ∙ c.if-count-n.false in
     let p = parts_from y e c.skip_numbers-rw.ensures c.skip_numbers-cl.ensures c.skip_numbers-rl.ensures in
     let d = c.is_sound.ensures.sound z l p in
-    let r = not-true _ c.if-not-is_sound.true-raw in
-    answer-as a.text.now a.s a.table.now c.refused-then-not-is_sound.ensures (answer-bad a.text.now a.s a.table.now (whole a.n a.m a.a a.b l) read (counts-right a.n a.m a.a a.b l y ∙ sym d.0 ∙ r))
+    let r = c.if-not-is_sound.true in
+    (answer-bad a.text.now a.s a.table.now (whole a.n a.m a.a a.b l) read (counts-right a.n a.m a.a a.b l y ∙ sym d.0 ∙ r))
 
 pub returns-then-not-lists_agree : goal.returns-then-not-lists_agree
 returns-then-not-lists_agree c = let a = c.args in λ z l read e h.
     let y = sym h ∙ c.if-count-n.false in
     let p = parts_from y e c.skip_numbers-rw.ensures c.skip_numbers-cl.ensures c.skip_numbers-rl.ensures in
     let d = c.is_sound.ensures.sound z l p in
-    let r = not-false _ c.if-not-is_sound.false-raw in
+    let r = c.if-not-is_sound.false in
     let good = counts-right a.n a.m a.a a.b l y ∙ sym d.0 ∙ r in
     let q = sound-greatest a.n a.m a.a a.b l (sym d.0 ∙ r) in
     let g = columns-lie p q.0 in let f = rows_lie p q.1 in
     let o = c.lists_agree.ensures.agrees (d.1 r) l (drop a.m (drop a.n l)) (drop a.n l) (drop (a.n * a.a) (drop a.m (drop a.n l))) g f in
-    answer-as a.text.now a.s a.table.now c.refused-then-not-lists_agree.ensures (answer-13 a.text.now a.s a.table.now (whole a.n a.m a.a a.b l) read good
-    (by_bool (disagree (whole a.n a.m a.a a.b l)) (λ t. t) (λ t. absurd (true≢false (sym (o.0.no (bands-agree a.n a.m a.a a.b l good g f t)) ∙ not-true _ c.if-not-lists_agree.true-raw)))))
+    (answer-13 a.text.now a.s a.table.now (whole a.n a.m a.a a.b l) read good
+    (by_bool (disagree (whole a.n a.m a.a a.b l)) (λ t. t) (λ t. absurd (true≢false (sym (o.0.no (bands-agree a.n a.m a.a a.b l good g f t)) ∙ c.if-not-lists_agree.true)))))
 
 pub returns : goal.returns
 returns c = let a = c.args in λ z l read e h.
     let y = sym h ∙ c.if-count-n.false in
     let p = parts_from y e c.skip_numbers-rw.ensures c.skip_numbers-cl.ensures c.skip_numbers-rl.ensures in
     let d = c.is_sound.ensures.sound z l p in
-    let r = not-false _ c.if-not-is_sound.false-raw in
+    let r = c.if-not-is_sound.false in
     let good = counts-right a.n a.m a.a a.b l y ∙ sym d.0 ∙ r in
     let q = sound-greatest a.n a.m a.a a.b l (sym d.0 ∙ r) in
     let g = columns-lie p q.0 in let f = rows_lie p q.1 in
     let o = c.lists_agree.ensures.agrees (d.1 r) l (drop a.m (drop a.n l)) (drop a.n l) (drop (a.n * a.a) (drop a.m (drop a.n l))) g f in
-    let t = not-false _ c.if-not-lists_agree.false-raw in
+    let t = c.if-not-lists_agree.false in
     c.make.ensures (o.1 t) a.a l read good (agree-bands a.n a.m a.a a.b l good g f (o.0.yes t)) f

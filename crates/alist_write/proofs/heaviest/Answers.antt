@@ -11,7 +11,7 @@ pub loop-c-init : goal.loop-c-init
 loop-c-init c =
     let a = c.args in
     let e = ap (λ l. greatest (map length l)) (rows_all a.w.now a.count) in
-    (omega arith, omega arith, omega arith)
+    (omega arith, omega arith)
 
 pub loop-c-preserved : goal.loop-c-preserved
 loop-c-preserved c =
@@ -21,7 +21,7 @@ loop-c-preserved c =
     let o = c.ones_of.ensures in
     let v = o.0 in
     let l = o.1 in
-    (omega arith, omega arith, omega arith)
+    (omega arith, omega arith)
 
 pub returns : goal.returns
 returns c =

@@ -9,7 +9,4 @@ use Rattle.alist.specs.Alist.{greatest}
 use Rattle.alist_write.proofs.heaviest.Given as goal
 
 abbrev pub invariant-loop-c : goal.invariant-loop-c
-invariant-loop-c l = (l.c ≤ l.count) × (l.most ≤ 1024) × (max l.most (greatest (map length (rows_from l.w l.count l.c))) ≡ greatest (map length (rows_in l.w l.count)))
-
-abbrev pub decreases-loop-c : goal.decreases-loop-c
-decreases-loop-c l = l.count - l.c
+invariant-loop-c l = (l.most ≤ 1024) × (max l.most (greatest (map length (rows_from l.w l.count l.c))) ≡ greatest (map length (rows_in l.w l.count)))

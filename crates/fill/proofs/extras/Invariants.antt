@@ -1,5 +1,5 @@
 -- `extras` meets its contract: the rows from i on are left.
-use Prim.Native.Nat.{ℕ, ◌-◌, ◌≤◌}
+use Prim.Native.Nat.{ℕ, ◌-◌}
 use mathlib.Core.Path.{◌≡◌}
 use lib.ListN.{length}
 use Rattle.fill.specs.Fill.{State, extras}
@@ -9,7 +9,4 @@ use Rattle.fill.proofs.extras.Given as goal
 
 abbrev pub invariant-loop-i : goal.invariant-loop-i
 invariant-loop-i l =
-    (l.i ≤ l.m) × (length l.w ≡ length l.initial.w) × ((e : ℕ) (s : State) → Rep l.k l.m e l.initial.w l.raw l.left s → Rest (Rep l.k l.m e l.w l.x l.l) (extras l.k 0 l.m s) (extras l.k l.i (l.m - l.i)))
-
-abbrev pub decreases-loop-i : goal.decreases-loop-i
-decreases-loop-i l = l.m - l.i
+    (length l.w ≡ length l.initial.w) × ((e : ℕ) (s : State) → Rep l.k l.m e l.initial.w l.initial.draws.raw l.initial.draws.left s → Rest (Rep l.k l.m e l.w l.draws.raw l.draws.left) (extras l.k 0 l.m s) (extras l.k l.i (l.m - l.i)))

@@ -20,21 +20,18 @@ extra_any-requires c =
     let r = p.row in
     let a = c.args in
     let y = sym c.ones_of.ensures.0 ∙ c.if-ones_of-eq0.true in
-    let fr = none_free a.k p.m p.e a.w.now a.raw a.left p.state p.rep a.i r y in
-    (z.k-some, z.k-low, omega arith, p.rep.wide, p.rep.low, fr)
+    let fr = none_free a.k p.m p.e a.w.now a.draws.now.raw a.draws.now.left p.state p.rep a.i r y in
+    (z.k-some, z.k-low, omega arith, p.rep.wide, fr)
 
 pub returns-then-ones_of-eq0 : goal.returns-then-ones_of-eq0
 returns-then-ones_of-eq0 c =
     let a = c.args in
     let d = c.extra_any in
-    let r = d.result in
     let q = d.ensures in
     let z = sym c.ones_of.ensures.0 ∙ c.if-ones_of-eq0.true in
-    λ m e h s rep. first-put a.k m e a.w.now a.raw a.left s rep a.i h z
-    r.found r.value r.raw r.left q.0 _ q.1
+    λ m e h s rep. rw c.is_some.ensures (first-put a.k m e a.w.now a.draws.now.raw a.draws.now.left s rep a.i h z _ _ _ _ q.0 q.1)
 
 pub returns : goal.returns
 returns c =
     let a = c.args in
-    λ m e h s rep. first-keep a.k m e a.w.now a.raw a.left s rep a.i h
-    (λ z. c.if-ones_of-eq0.false (c.ones_of.ensures.0 ∙ z)) c.unchanged.ensures
+    λ m e h s rep. first-keep a.k m e a.w.now a.draws.now.raw a.draws.now.left s rep a.i h (λ z. c.if-ones_of-eq0.false (c.ones_of.ensures.0 ∙ z))

@@ -18,20 +18,17 @@ extra_free-requires c =
     let z = p.rep.sizes in
     let h = z.m-low in
     let r = p.row in
-    (z.k-some, z.k-low, omega arith, p.rep.wide, p.rep.low)
+    (z.k-some, z.k-low, omega arith, p.rep.wide)
 
 pub returns-then-ones_of-eq1 : goal.returns-then-ones_of-eq1
 returns-then-ones_of-eq1 c =
     let a = c.args in
     let d = c.extra_free in
-    let r = d.result in
     let q = d.ensures in
     let z = sym c.ones_of.ensures.0 ∙ c.if-ones_of-eq1.true in
-    λ m e h s rep. second-put a.k m e a.w.now a.raw a.left s rep a.i h z
-    r.found r.value r.raw r.left q.0 _ q.1
+    λ m e h s rep. rw c.is_some.ensures (second-put a.k m e a.w.now a.draws.now.raw a.draws.now.left s rep a.i h z _ _ _ _ q.0 q.1)
 
 pub returns : goal.returns
 returns c =
     let a = c.args in
-    λ m e h s rep. second-keep a.k m e a.w.now a.raw a.left s rep a.i h
-    (λ z. c.if-ones_of-eq1.false (c.ones_of.ensures.0 ∙ z)) c.unchanged.ensures
+    λ m e h s rep. second-keep a.k m e a.w.now a.draws.now.raw a.draws.now.left s rep a.i h (λ z. c.if-ones_of-eq1.false (c.ones_of.ensures.0 ∙ z))

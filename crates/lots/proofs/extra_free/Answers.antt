@@ -1,21 +1,14 @@
 -- `extra_free` meets its contract.
-use mathlib.Core.Path.{refl}
-use native.Mathlib.Omega.{arith}
+use Rattle.std.proofs.Common.{arith, rules}
+use Rattle.lots.specs.Grid.{free}
 use Rattle.lots.proofs.Seeking.{drawn-passes}
 use Rattle.lots.proofs.extra_free.Goals as goal
 
 pub put-requires : goal.put-requires
 put-requires c =
     let p = c.requires in
-    let s = c.draw_column-d.ensures in
-    let l = s.below in
-    (p.2, omega arith, p.3, drawn-passes s c.if-d.true)
+    let s = c.in_ok-j.ensures.sought (λ j. free c.args.w.now j c.args.i) (λ v b h p. search rules) in
+    (p.2, omega arith, p.3, drawn-passes s)
 
-pub shape_of-w-then-d : goal.shape_of-w-then-d
-shape_of-w-then-d c = c.put.ensures.len
-
-pub returns-then-d : goal.returns-then-d
-returns-then-d c = (c.draw_column-d.ensures, rw c.if-d.true c.put.ensures)
-
-pub returns-else-d : goal.returns-else-d
-returns-else-d c = (c.draw_column-d.ensures, rw c.if-d.false refl)
+pub returns : goal.returns
+returns c = (c.in_ok-j.ensures.sought (λ j. free c.args.w.now j c.args.i) (λ v b h p. search rules), c.put.ensures)

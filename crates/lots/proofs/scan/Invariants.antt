@@ -1,5 +1,4 @@
 -- `scan` meets its contract: no entry so far is free.
-use Prim.Native.Nat.{◌-◌, ◌≤◌}
 use mathlib.Core.Path.{◌≡◌}
 use lib.ListN.{take, drop}
 use Rattle.lists.specs.Lists.{any_of}
@@ -7,7 +6,4 @@ use Rattle.lots.specs.Grid.{free}
 use Rattle.lots.proofs.scan.Given as goal
 
 abbrev pub invariant-loop-i : goal.invariant-loop-i
-invariant-loop-i l = (l.t ≤ l.i) × (l.i ≤ l.e) × (any_of (free l.w l.j) (drop l.t (take l.e l.u)) ≡ any_of (free l.w l.j) (drop l.i (take l.e l.u)))
-
-abbrev pub decreases-loop-i : goal.decreases-loop-i
-decreases-loop-i l = l.e - l.i
+invariant-loop-i l = any_of (free l.w l.j) (drop l.t (take l.e l.u)) ≡ any_of (free l.w l.j) (drop l.i (take l.e l.u))

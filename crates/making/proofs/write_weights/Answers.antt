@@ -22,7 +22,7 @@ turn {l} {ws} rest e i v x h q w =
     subst (λ k. Left l 4 ws rest (set e (4 + i) v) k) z (subst (λ y. Left l 4 ws rest (set e (4 + i) y) (4 + i + 1)) (sym q) (left_one h w))
 
 pub loop-i-init : goal.loop-i-init
-loop-i-init c = let a = c.args in (omega arith, left_is _ (left-all _ _ _) (ap (map length) (rows_all a.w.now a.m)))
+loop-i-init c = let a = c.args in left_is _ (left-all _ _ _) (ap (map length) (rows_all a.w.now a.m))
 
 pub overflow_cast-table : goal.overflow_cast-table
 overflow_cast-table c = let z = c.ones_of.ensures.1 in omega arith
@@ -30,7 +30,7 @@ overflow_cast-table c = let z = c.ones_of.ensures.1 in omega arith
 pub bounds-table-i : goal.bounds-table-i
 bounds-table-i c =
     let a = c.args in
-    let l = left-length (room a.table.now a.w.now a.m c.requires.0) c.loop-i.invariant.1 in
+    let l = left-length (room a.table.now a.w.now a.m c.requires.0) c.loop-i.invariant in
     omega arith
 
 pub loop-i-preserved : goal.loop-i-preserved
@@ -39,12 +39,12 @@ loop-i-preserved c =
     let s = c.loop-i in
     let h = room a.table.now a.w.now a.m c.requires.0 in
     let n = ap (map length) (rows_next a.w.now a.m s.i c.loop-i-test.true) in
-    (omega arith, turn (map length (rows_from a.w.now a.m (s.i + 1))) s.table s.i _ (length (places_in (row a.w.now s.i))) h c.ones_of.ensures.0 (left_is _ s.invariant.1 n))
+    turn (map length (rows_from a.w.now a.m (s.i + 1))) s.table s.i _ (length (places_in (row a.w.now s.i))) h c.ones_of.ensures.0 (left_is _ s.invariant n)
 
 pub shape_of-table : goal.shape_of-table
 shape_of-table c =
     let a = c.args in
-    left-length (room a.table.now a.w.now a.m c.requires.0) c.loop-i.invariant.1
+    left-length (room a.table.now a.w.now a.m c.requires.0) c.loop-i.invariant
 
 pub returns : goal.returns
 returns c =
@@ -52,4 +52,4 @@ returns c =
     let s = c.loop-i in
     let e : s.i ≡ a.m = omega arith in
     subst (λ i. Wrote a.table.now 4 (map length (rows_in a.w.now a.m)) s.table (4 + i)) e
-    (left-done (left_is [] s.invariant.1 (ap (map length) (rows_none a.w.now a.m s.i c.loop-i-test.false))))
+    (left-done (left_is [] s.invariant (ap (map length) (rows_none a.w.now a.m s.i c.loop-i-test.false))))

@@ -1,30 +1,19 @@
--- `numbers::count` meets its contract. The loop's invariant: k numbers ended and d digits of another were seen in the bytes passed.
-use native.Mathlib.Omega.{arith}
-use Rattle.numbers.proofs.Laws.{passed_start, passed-bad, passed_on, passed-end, ends_next, ends-few}
+-- `numbers::count` meets its contract.
+use Rattle.std.proofs.Common.{arith, ◌∙◌}
+use Rattle.numbers.proofs.Laws.{passed_start, passed-bad, passed_on, ends_next}
 use Rattle.numbers.proofs.count.Goals as goal
 
-pub loop-i-init : goal.loop-i-init
-loop-i-init c = (omega arith, omega arith, omega arith, passed_start _)
+pub loop-byte-init : goal.loop-byte-init
+loop-byte-init c = (omega arith, omega arith, passed_start _)
 
-pub returns-then-e-eq7 : goal.returns-then-e-eq7
-returns-then-e-eq7 c =
-    let s = c.loop-i in
-    passed-bad c.digits_after-e.result s.invariant.3 (omega arith) s.invariant.1 c.digits_after-e.ensures (omega arith)
+pub returns-in_err-e : goal.returns-in_err-e
+returns-in_err-e c =
+    let s = c.loop-byte in
+    c.from_residual.ensures ∙ passed-bad 7 s.invariant.2 (omega arith) s.invariant.0 c.in_err-e.ensures.digits (omega arith)
 
-pub overflow_add-k : goal.overflow_add-k
-overflow_add-k c =
-    let e = c.ends_here-k.ensures in
-    let f = ends-few c.loop-i.d c.digits_after-e.result in
-    omega arith
-
-pub loop-i-preserved : goal.loop-i-preserved
-loop-i-preserved c =
-    let s = c.loop-i in
-    let d = c.digits_after-e in
-    let e = c.ends_here-k.ensures in
-    let p = passed_on d.result c.ends_here-k.result s.invariant.3 (omega arith) s.invariant.1 d.ensures (λ z. omega arith) e in
-    let n = ends_next s.k s.d d.result s.i s.invariant.2 in
-    (omega arith, p.1, omega arith, p.0)
-
-pub returns : goal.returns
-returns c = passed-end _ c.loop-i.invariant.3 (omega arith) c.ends_here.ensures
+pub loop-byte-preserved : goal.loop-byte-preserved
+loop-byte-preserved c =
+    let s = c.loop-byte in
+    let x = c.ends_here-k.ensures in
+    let n = ends_next s.k s.d c.in_ok-e.e s.byte-index s.invariant.1 in
+    (c.in_ok-e.ensures.few, omega arith, passed_on c.in_ok-e.e _ s.invariant.2 (omega arith) c.in_ok-e.ensures.digits c.in_ok-e.ensures.few x)

@@ -9,7 +9,7 @@ pub returns-then-bad_parameters : goal.returns-then-bad_parameters
 returns-then-bad_parameters c =
     let a = c.args in
     let x = answer-bad a.k a.n a.ones a.seed a.s a.table.now (sym c.bad_parameters.ensures ∙ c.if-bad_parameters.true) in
-    record { answer = c.refused.ensures ∙ x.answer; table = x.table }
+    record { answer = x.answer; table = x.table }
 
 pub overflow_sub-n : goal.overflow_sub-n
 overflow_sub-n c =
@@ -22,7 +22,7 @@ returns-then-beyond c =
     let a = c.args in
     let good = sym c.bad_parameters.ensures ∙ c.if-bad_parameters.false in
     let x = answer-beyond a.k a.n a.ones a.seed a.s a.table.now good (sym c.beyond.ensures ∙ c.if-beyond.true) in
-    record { answer = c.refused-then-beyond.ensures ∙ x.answer; table = x.table }
+    record { answer = x.answer; table = x.table }
 
 pub returns-then-table-ne-MOST_WORDS : goal.returns-then-table-ne-MOST_WORDS
 returns-then-table-ne-MOST_WORDS c =
@@ -30,7 +30,7 @@ returns-then-table-ne-MOST_WORDS c =
     let good = sym c.bad_parameters.ensures ∙ c.if-bad_parameters.false in
     let far = sym c.beyond.ensures ∙ c.if-beyond.false in
     let x = answer-length a.k a.n a.ones a.seed a.s a.table.now good far c.if-table-ne-MOST_WORDS.true in
-    record { answer = c.refused-then-table-ne-MOST_WORDS.ensures ∙ x.answer; table = x.table }
+    record { answer = x.answer; table = x.table }
 
 pub make_table-requires : goal.make_table-requires
 make_table-requires c =

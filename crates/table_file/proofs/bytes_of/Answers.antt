@@ -8,12 +8,6 @@ use Rattle.table_file.proofs.bytes_of.Goals as goal
 pub loop-i-init : goal.loop-i-init
 loop-i-init c = record { within = omega arith; long = omega arith; lows = λ k h. absurd (omega arith); highs = λ k h. absurd (omega arith) }
 
-pub low-requires : goal.low-requires
-low-requires c = tt
-
-pub high-requires : goal.high-requires
-high-requires c = tt
-
 pub bounds-file-i-in-loop-i : goal.bounds-file-i-in-loop-i
 bounds-file-i-in-loop-i c = simp length-set (omega arith)
 

@@ -11,18 +11,14 @@ use Rattle.table_file.proofs.Laws.{words-at}
 use Rattle.table_file.proofs.fill_words.Goals as goal
 
 pub loop-i-init : goal.loop-i-init
-loop-i-init c = (omega arith, refl, λ k h. absurd (omega arith))
-
-pub word-requires : goal.word-requires
-word-requires c = tt
+loop-i-init c = (refl, λ k h. absurd (omega arith))
 
 pub loop-i-preserved : goal.loop-i-preserved
 loop-i-preserved c =
     let s = c.loop-i in (
-      simp length-set (omega arith),
-      simp length-set s.invariant.1,
+      simp length-set s.invariant.0,
       below_more _ _
-          (λ k h. get_or-set_other s.words s.i k _ 0 (omega arith) ∙ s.invariant.2 k h)
+          (λ k h. get_or-set_other s.words s.i k _ 0 (omega arith) ∙ s.invariant.1 k h)
           (get_or-set_same s.words s.i _ 0 (omega arith) ∙ c.word.ensures),
     )
 
@@ -32,4 +28,4 @@ returns c =
     let f = c.args.file.now in
     let n = length s.words in
     let e : length f ≡ 2 * n = omega arith in
-    ext_get_or 0 s.words (words_of f) (sym (words-length f n e)) (λ i h. s.invariant.2 i (omega arith) ∙ sym (words-at f n i e h))
+    ext_get_or 0 s.words (words_of f) (sym (words-length f n e)) (λ i h. s.invariant.1 i (omega arith) ∙ sym (words-at f n i e h))

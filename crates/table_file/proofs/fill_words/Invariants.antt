@@ -5,7 +5,4 @@ use lib.ListN.{length, get_or}
 use Rattle.table_file.proofs.fill_words.Given as goal
 
 abbrev pub invariant-loop-i : goal.invariant-loop-i
-invariant-loop-i l = (l.i ≤ length l.words) × (length l.words ≡ length l.initial.words) × ((k : ℕ) → k < l.i → get_or l.words k 0 ≡ get_or l.file (2 * k) 0 + get_or l.file (2 * k + 1) 0 * 256)
-
-abbrev pub decreases-loop-i : goal.decreases-loop-i
-decreases-loop-i l = length l.initial.words - l.i
+invariant-loop-i l = (length l.words ≡ length l.initial.words) × ((k : ℕ) → k < l.i → get_or l.words k 0 ≡ get_or l.file (2 * k) 0 + get_or l.file (2 * k + 1) 0 * 256)

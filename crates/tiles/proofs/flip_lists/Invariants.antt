@@ -5,13 +5,10 @@ use Prim.Native.Nat.{ℕ, ◌-◌, ◌≤◌}
 use lib.ListN.{length, drop}
 use Rattle.numbers.specs.Cursor.{Ahead}
 use Rattle.walks.specs.Walks.{after, list_at, ListsAhead}
-use Rattle.tiles.specs.Board.{Flips, in_columns, turned}
+use Rattle.tiles.specs.Board.{by_columns, Flips, in_columns, turned}
 use Rattle.tiles.proofs.flip_lists.Given as goal
 
 abbrev pub invariant-loop-j : goal.invariant-loop-j
-invariant-loop-j l = (l.j ≤ l.count) × (length l.board ≡ length l.initial.board)
+invariant-loop-j l = (length l.board ≡ length l.initial.board)
     × ((ws xs : List ℕ) → ListsAhead l.text l.weights l.at l.count l.width ws xs
-    → Ahead l.text l.weight (drop l.j ws) × Ahead l.text l.next (after l.j l.width xs) × Flips l.initial.board (turned l.columns (in_columns l.low l.span l.j (list_at l.width ws xs))) l.board)
-
-abbrev pub decreases-loop-j : goal.decreases-loop-j
-decreases-loop-j l = l.count - l.j
+    → Ahead l.text l.weight (drop l.j ws) × Ahead l.text l.next (after l.j l.width xs) × Flips l.initial.board (turned (by_columns l.axis) (in_columns l.low l.span l.j (list_at l.width ws xs))) l.board)

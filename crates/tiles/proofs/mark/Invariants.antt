@@ -11,9 +11,6 @@ use Rattle.tiles.specs.Board.{Blank, Flips, named}
 use Rattle.tiles.proofs.mark.Given as goal
 
 abbrev pub invariant-loop-i : goal.invariant-loop-i
-invariant-loop-i l = (l.i ≤ l.count) × (length l.board ≡ length l.initial.board)
+invariant-loop-i l = (length l.board ≡ length l.initial.board)
     × (Blank l.initial.board → (xs : List ℕ) → Ahead l.text l.at xs → l.count ≤ length xs
     → Ahead l.text l.next (drop l.i xs) × (all_pass (in_range l.most) (take l.i xs) ≡ true) × (all_differ (take l.i xs) ≡ true) × Flips l.initial.board (named (take l.i xs)) l.board)
-
-abbrev pub decreases-loop-i : goal.decreases-loop-i
-decreases-loop-i l = l.count - l.i

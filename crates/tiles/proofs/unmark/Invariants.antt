@@ -8,8 +8,5 @@ use Rattle.tiles.specs.Board.{Flips, named}
 use Rattle.tiles.proofs.unmark.Given as goal
 
 abbrev pub invariant-loop-i : goal.invariant-loop-i
-invariant-loop-i l = (l.i ≤ l.count) × (length l.board ≡ length l.initial.board)
+invariant-loop-i l = (length l.board ≡ length l.initial.board)
     × ((xs : List ℕ) → Ahead l.text l.at xs → l.count ≤ length xs → Ahead l.text l.next (drop l.i xs) × Flips l.initial.board (named (take l.i xs)) l.board)
-
-abbrev pub decreases-loop-i : goal.decreases-loop-i
-decreases-loop-i l = l.count - l.i

@@ -13,7 +13,4 @@ abbrev is_zero : ℕ → Bool
 is_zero x = eqb x 0
 
 abbrev pub invariant-loop-i : goal.invariant-loop-i
-invariant-loop-i l = (l.i ≤ l.count) × ((xs : List ℕ) → Ahead l.text l.at xs → l.count ≤ length xs → Ahead l.text l.next (drop l.i xs) × (all_pass is_zero (take l.i xs) ≡ true))
-
-abbrev pub decreases-loop-i : goal.decreases-loop-i
-decreases-loop-i l = l.count - l.i
+invariant-loop-i l = ((xs : List ℕ) → Ahead l.text l.at xs → l.count ≤ length xs → Ahead l.text l.next (drop l.i xs) × (all_pass is_zero (take l.i xs) ≡ true))
