@@ -142,7 +142,8 @@ fn write_checks(need: &[u64], ids: &[u16], list: &mut [u16]) -> usize
     requires { (16 ≤ length need.now)
         × (length ids.now ≤ 1024)
         × (length ids.now ≤ length list.old) }
-    ensures { Front (named (bits_below (length ids.now) (row need.now 0)) ids.now) list.old list.new result }
+    ensures list { Front (named (bits_below (length ids.now) (row need.now 0)) ids.now) list.old list.new result }
+    ensures few { result ≤ length ids.now }
 {
     let mut c = 0;
     for (i, id) in ids.iter().enumerate() {
@@ -166,8 +167,9 @@ pub fn list_checks(
         × (length ids.now ≤ 1024)
         × (length ids.now ≤ length list.old) }
     requires led { Led owner.now noted.now }
-    ensures { Front (named (bits_below (length ids.now) (traced (row feed.now) (length ids.now) (row_of (map (number_in owner.now) noted.now))))
+    ensures list { Front (named (bits_below (length ids.now) (traced (row feed.now) (length ids.now) (row_of (map (number_in owner.now) noted.now))))
         ids.now) list.old list.new result }
+    ensures few { result ≤ length ids.now }
 {
     let mut need = [0u64; 16];
     note_feeders(&mut need, 0, owner, noted);
