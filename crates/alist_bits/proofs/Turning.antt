@@ -7,8 +7,9 @@ use native.Mathlib.Omega.{arith}
 use borrow.Author.Tests.{ne_eqb}
 use lib.Bits.{bit_xor}
 use lib.Dec.{eqb, ltb, leb}
-use lib.ListN.{length, get_or, take, drop}
-use Rattle.lists.specs.Buffers.{part-snoc}
+use lib.Seq.{take-suc}
+use native.Mathlib.Numerals.{add-one}
+use lib.ListN.{length, get_or, take}
 use Rattle.lists.specs.ListLaws.{all_map, filter-append, filter_none, filter_same, has-low, map_same}
 use Rattle.lists.specs.Lists.{bxor, has, par, filter, from}
 use Rattle.lists.specs.Numbers.{from-add, from_all}
@@ -51,14 +52,14 @@ module _ {w e : List ℕ} (p j : ℕ) (r : RowPut w p (bit_xor (row w p) (2 ^ j)
       (λ t. ap (bit q) (row_other r c (eqb-false c p t)))
 
 -- one place more
-pub flipped-more : {j : ℕ} {w x y : List ℕ} (t : List ℕ) (at i p : ℕ) → at + i < length t → p ≡ get_or t (at + i) 0 → Flipped j (take i (drop at t)) w x
-    → RowPut x p (bit_xor (row x p) (2 ^ j)) y → Flipped j (take (i + 1) (drop at t)) w y
-flipped-more {j} {w} t at i p h v f r =
-    let ps = take i (drop at t) in
+pub flipped-more : {j : ℕ} {w x y : List ℕ} (places : List ℕ) (i p : ℕ) → i < length places → p ≡ get_or places i 0 → Flipped j (take i places) w x
+    → RowPut x p (bit_xor (row x p) (2 ^ j)) y → Flipped j (take (i + 1) places) w y
+flipped-more {j} {w} places i p h v f r =
+    let ps = take i places in
     record {
       len = r.len ∙ f.len;
       here = λ c. here-flipped p j r c ∙ ap (bxor (eqb c p)) (f.here c) ∙ sym (bxor-assoc (eqb c p) (par c ps) (bit j (row w c)))
-          ∙ ap (λ b. bxor b (bit j (row w c))) (sym (ap (par c) (part-snoc t at i h ∙ ap (λ u. ps ++ (u ∷ [])) (sym v)) ∙ par-snoc c p ps));
+          ∙ ap (λ b. bxor b (bit j (row w c))) (sym (ap (par c) (rw add-one (take-suc places i 0 h) ∙ ap (λ u. ps ++ (u ∷ [])) (sym v)) ∙ par-snoc c p ps));
       rest = λ c q n. rest-kept p j r c q n ∙ f.rest c q n;
     }
 

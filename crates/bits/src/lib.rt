@@ -3,6 +3,7 @@
 
 ghost use Rattle.std.specs.Prelude.{◌≡◌, ℕ, ◌+◌, ◌*◌, ◌≤◌, ◌<◌, ◌^◌, length, get_or, take, drop};
 ghost use Rattle.std.specs.Int.Bits.{bit_xor};
+ghost use Rattle.lists.specs.Lists.{All};
 ghost use Rattle.gf2.specs.Gf2.{bit, Short, Bits, row_of};
 ghost use Rattle.bits.specs.Row.{row, places_in, above, RowPut};
 
@@ -46,15 +47,14 @@ pub fn clear(w: &mut [u64], r: usize)
     w[r * 16..r * 16 + 16].fill(0);
 }
 
-// n places of t from at become row r
-pub fn load(w: &mut [u64], r: usize, t: &[u16], at: usize, n: usize)
+// some places become row r
+pub fn load(w: &mut [u64], r: usize, places: &[u16])
     requires { (r * 16 + 16 ≤ length w.old)
-        × (at + n ≤ length t.now)
-        × ((i : ℕ) → i < n → get_or t.now (at + i) 0 < 1024) }
-    ensures { RowPut w.old r (row_of (take n (drop at t.now))) w.new }
+        × All (λ p. p < 1024) places.now }
+    ensures { RowPut w.old r (row_of places.now) w.new }
 {
     clear(w, r);
-    for p in &t[at..at + n] {
+    for p in places {
         flip(w, r, usize::from(*p));
     }
 }

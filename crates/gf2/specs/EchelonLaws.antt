@@ -38,11 +38,15 @@ row_low : (n : ℕ) (l : List ℕ) → ((i : ℕ) → i < length l → get_or l 
 row_low n [] h = pow_pos n
 row_low n (p ∷ l) h = xor_lt n (2 ^ p) (row_of l) (pow-lt (h 0 (omega arith))) (row_low n l (λ i z. h (suc i) (omega arith)))
 
+-- the row of some places
+pub list-short : (l : List ℕ) (n : ℕ) → ((i : ℕ) → i < length l → get_or l i 0 < n) → Short n (row_of l)
+list-short l n h = short-lt n _ (row_low n l h)
+
 -- the row of wt places of t from at
 pub places-short : (t : List ℕ) (at wt n : ℕ) → ((i : ℕ) → i < wt → get_or t (at + i) 0 < n) → Short n (row_of (take wt (drop at t)))
-places-short t at wt n h = short-lt n _ (row_low n (take wt (drop at t)) (λ j z.
+places-short t at wt n h = list-short (take wt (drop at t)) n (λ j z.
     let zw : j < wt = omega (arith, simp length-take at z) in
-    subst (λ (y : ℕ). y < n) (sym (get_or-take wt (drop at t) j 0 zw ∙ get_or-drop at t j 0)) (h j zw)))
+    subst (λ (y : ℕ). y < n) (sym (get_or-take wt (drop at t) j 0 zw ∙ get_or-drop at t j 0)) (h j zw))
 
 -- ---- sums of some of the rows
 pub sums-sound : (R : List ℕ) (x : ℕ) → sums R x ≡ true → Span xor_group R x

@@ -2,34 +2,33 @@
 #![tactic(auto)]
 
 ghost use Rattle.std.specs.Prelude.{◌≡◌, ℕ, ◌+◌, ◌*◌, ◌≤◌, ◌<◌, length, get_or, take, drop, replicate};
+ghost use Rattle.lists.specs.Lists.{All};
 ghost use Rattle.gf2.specs.Gf2.{row_of};
 ghost use Rattle.bits.specs.Front.{Front};
+ghost use Rattle.bits.specs.Row.{above};
 ghost use Rattle.rows.specs.Leads.{Owners, Lowered};
 ghost use Rattle.keep.specs.Kept.{kept_of};
 
 use table::{MOST_PLACES, Table};
 
-// weight places of t from at become row k, reduced; one more than the highest place left, 0 if the row is zero
+// a check's places become row k, reduced; the highest place left, if the row isn't zero
 fn eliminate(
     w: &mut [u64],
     k: usize,
     owner: &[u16],
-    t: &[u16],
-    at: usize,
-    weight: usize,
+    places: &[u16],
     n: usize,
     noted: &mut [u16],
-) -> usize
+) -> Option<usize>
     requires room { (k * 16 + 16 ≤ length w.old)
         × (n ≤ 1024)
         × (n ≤ length owner.now)
         × (n ≤ length noted.old) }
     requires owners { Owners w.old owner.now k }
-    requires check { (at + weight ≤ length t.now)
-        × ((i : ℕ) → i < weight → get_or t.now (at + i) 0 < n) }
-    ensures { Lowered w.old owner.now k n (row_of (take weight (drop at t.now))) w.new result }
+    requires check { All (λ p. p < n) places.now }
+    ensures { Lowered w.old owner.now k n (row_of places.now) w.new (above result) }
 {
-    bits::load(w, k, t, at, weight);
+    bits::load(w, k, places);
     rows::reduce(w, owner, k, n, noted).lead
 }
 
@@ -46,18 +45,9 @@ fn keep(table: &Table, w: &mut [u64], owner: &mut [u16], ids: &mut [u16]) -> usi
     let mut at = 5 + table.checks;
     for i in 0..table.checks {
         let weight = usize::from(table.words[4 + i]);
-        let l = eliminate(
-            w,
-            k,
-            owner,
-            table.words,
-            at,
-            weight,
-            table.places,
-            &mut noted,
-        );
-        if 0 < l {
-            owner[l - 1] = (k + 1) as u16;
+        let places = table::run(table.words, at, weight);
+        if let Some(p) = eliminate(w, k, owner, places, table.places, &mut noted) {
+            owner[p] = (k + 1) as u16;
             ids[k] = i as u16;
             k += 1;
         }
@@ -75,6 +65,6 @@ pub fn keep_checks(table: &Table, work: &mut [u64], ids: &mut [u16]) -> usize
 {
     let mut owner = [0u16; MOST_PLACES];
     let k = keep(table, work, &mut owner, ids);
-    bits::clear_work(work);
+    work.fill(0);
     k
 }

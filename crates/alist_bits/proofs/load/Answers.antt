@@ -2,6 +2,7 @@
 use mathlib.Core.Path.{◌≡◌, refl, subst, ◌∙◌}
 use native.Mathlib.Omega.{arith}
 use Rattle.table.specs.Accepted.{by_number, few-checks, has-weights, check-is, check-fits, places-wide, few-places, few_words, offset-more}
+use Rattle.table.specs.SumLaws.{places-low}
 use Rattle.table.specs.ChecksLaws.{offset-none}
 use Rattle.alist_bits.proofs.Turning.{Turned, turned_none, turned_more, Listed, listed-none, listed_more, loaded}
 use Rattle.alist_bits.proofs.load.Goals as goal
@@ -23,6 +24,11 @@ offset_bounds-table-j c = let f = few-checks _ _ _ _ (by_number _ _ _ _ c.args.t
 pub bounds-table-j : goal.bounds-table-j
 bounds-table-j c = let f = has-weights _ _ _ _ (by_number _ _ _ _ c.args.table.now.accepted) in omega arith
 
+pub run-places-requires : goal.run-places-requires
+run-places-requires c =
+    let s = c.loop-j in
+    check-fits _ _ _ _ (by_number _ _ _ _ c.args.table.now.accepted) s.j c.loop-j-test.true s.at _ s.invariant.0 c.from-weight.ensures
+
 pub load-requires : goal.load-requires
 load-requires c =
     let s = c.loop-j in
@@ -31,7 +37,7 @@ load-requires c =
     let l = s.invariant.2 in
     let r = c.requires.room.1 in
     let p = places-wide _ _ _ _ k s.j c.loop-j-test.true s.at _ s.invariant.0 c.from-weight.ensures 1024 (few-places _ _ _ _ k) in
-    (omega arith, p.room, p.below)
+    (omega arith, rw c.run-places.ensures (places-low p))
 
 pub turn_check-requires : goal.turn_check-requires
 turn_check-requires c =
@@ -39,7 +45,7 @@ turn_check-requires c =
     let k = by_number _ _ _ _ c.args.table.now.accepted in
     let f = few-checks _ _ _ _ k in
     let p = places-wide _ _ _ _ k s.j c.loop-j-test.true s.at _ s.invariant.0 c.from-weight.ensures 1024 (few-places _ _ _ _ k) in
-    (s.invariant.1 ∙ c.requires.room.0, omega arith, p.room, p.below)
+    (s.invariant.1 ∙ c.requires.room.0, omega arith, rw c.run-places.ensures (places-low p))
 
 pub overflow_add-at-in-loop-j : goal.overflow_add-at-in-loop-j
 overflow_add-at-in-loop-j c =
@@ -57,8 +63,8 @@ loop-j-preserved c =
     let w = c.from-weight.ensures in
     let f = few-checks _ _ _ _ k in
     let e = check-is _ _ _ _ k s.j c.loop-j-test.true s.at _ s.invariant.0 w in
-    let x = c.load.ensures in
-    let y = c.turn_check.ensures in
+    let x = rw c.run-places.ensures at c.load.ensures in
+    let y = rw c.run-places.ensures at c.turn_check.ensures in
     (offset-more a.table.now.words.now a.table.now.checks s.j s.at _ s.invariant.0 w, y.len ∙ s.invariant.1, x.len ∙ s.invariant.2, turned_more _ (omega arith) s.invariant.3 e y, listed_more _ s.invariant.4 e x)
 
 pub shape_of-columns : goal.shape_of-columns

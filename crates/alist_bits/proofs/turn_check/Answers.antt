@@ -1,33 +1,29 @@
 -- `turn_check` meets its contract: place after place.
-use mathlib.Core.Path.{◌≡◌, subst}
+use Prim.Native.Nat.{◌<◌}
 use native.Mathlib.Omega.{arith}
-use lib.ListN.{take, drop}
-use Rattle.alist_bits.specs.Loaded.{Flipped}
+use lib.ListN.{take}
+use lib.Seq.{take_all}
+use mathlib.Core.Path.{◌≡◌}
+use Rattle.lists.specs.ListLaws.{all-at}
 use Rattle.alist_bits.proofs.Turning.{flipped-none, flipped-more}
 use Rattle.alist_bits.proofs.turn_check.Goals as goal
 
-pub loop-i-init : goal.loop-i-init
-loop-i-init c = flipped-none _ _
+pub loop-p-init : goal.loop-p-init
+loop-p-init c = flipped-none _ _
 
 pub flip-requires : goal.flip-requires
 flip-requires c =
-    let v = c.from.ensures in
-    let h = c.requires.3 c.loop-i.i (omega arith) in
-    let l = c.loop-i.invariant.len in
+    let h : c.from.result < 1024 = rw c.from.ensures (all-at 0 c.requires.2 c.loop-p.p-index c.loop-p-test.true) in
+    let l = c.loop-p.invariant.len in
     (omega arith, omega arith)
 
-pub loop-i-preserved : goal.loop-i-preserved
-loop-i-preserved c =
-    let a = c.args in
-    let s = c.loop-i in
-    flipped-more a.t.now a.at s.i _ (omega arith) c.from.ensures s.invariant c.flip.ensures
+pub loop-p-preserved : goal.loop-p-preserved
+loop-p-preserved c = flipped-more c.args.places.now c.loop-p.p-index _ c.loop-p-test.true c.from.ensures c.loop-p.invariant c.flip.ensures
 
 pub shape_of-columns : goal.shape_of-columns
-shape_of-columns c = c.loop-i.invariant.len
+shape_of-columns c = c.loop-p.invariant.len
 
 pub returns : goal.returns
 returns c =
-    let a = c.args in
-    let s = c.loop-i in
-    let e : s.i ≡ a.weight = omega arith in
-    subst (λ i. Flipped a.j (take i (drop a.at a.t.now)) a.columns.now s.columns) e s.invariant
+    let e : take c.loop-p.p-index c.args.places.now ≡ c.args.places.now = take_all _ _ c.loop-p-test.false in
+    rw e at c.loop-p.invariant

@@ -5,4 +5,4 @@ use lib.ListN.{take}
 use Rattle.bits.proofs.load.Given as goal
 
 abbrev pub invariant-loop-p : goal.invariant-loop-p
-invariant-loop-p l = RowPut l.initial.w l.r (row_of (take l.p-index l.p-items)) l.w
+invariant-loop-p l = RowPut l.initial.w l.r (row_of (take l.p-index l.places)) l.w
