@@ -1,7 +1,7 @@
 -- `flip_lists` meets its contract.
 use mathlib.Core.Path.{◌≡◌}
 use mathlib.Core.List.{List}
-use Prim.Native.Nat.{ℕ, ◌-◌, ◌≤◌}
+use Prim.Native.Nat.{ℕ}
 use lib.ListN.{length, drop}
 use Rattle.numbers.specs.Cursor.{Ahead}
 use Rattle.walks.specs.Walks.{after, list_at, ListsAhead}
