@@ -7,7 +7,9 @@ ghost use Rattle.erasure.specs.Offered.{held};
 ghost use Rattle.aerials.specs.Aerials.{heard, packet_of, kind_of, kinds, merged};
 ghost use Rattle.packets.specs.Filling.{Sized};
 
-// The kinds of a place; those from SILENT on are lost.
+use table::Table;
+
+// The kinds of a place; those from SILENT on are lost. They are bytes, since they are written into the third map: memory is fixed.
 pub const AGREED: u8 = 0;
 
 pub const SINGLE: u8 = 1;
@@ -15,20 +17,6 @@ pub const SINGLE: u8 = 1;
 pub const SILENT: u8 = 2;
 
 pub const CLASH: u8 = 3;
-
-// whether two packets are the same
-fn same(x: &[u8], y: &[u8]) -> bool
-    requires { length x.now ≡ length y.now }
-    ensures { result ≡ same_list x.now y.now }
-{
-    let mut all = true;
-    for i in 0..x.len() {
-        if x[i] != y[i] {
-            all = false;
-        }
-    }
-    all
-}
 
 // What the place whose packets stand at at comes to: the packet goes into the third block, the kind is returned.
 fn hear(
@@ -53,7 +41,7 @@ fn hear(
             packets::copy(block3, at, block1, at, s);
             return SINGLE;
         }
-        if same(&block1[at..end], &block2[at..end]) {
+        if block1[at..end] == block2[at..end] {
             packets::copy(block3, at, block1, at, s);
             return AGREED;
         }
@@ -70,8 +58,7 @@ fn hear(
 
 // All places: the merged packets in the third block, their kinds in the third map.
 pub fn hear_all(
-    n: usize,
-    s: usize,
+    table: &Table,
     block1: &[u8],
     map1: &[u8],
     block2: &[u8],
@@ -79,21 +66,22 @@ pub fn hear_all(
     block3: &mut [u8],
     map3: &mut [u8],
 )
-    requires { Sized n s block1.now map1.now
-        × Sized n s block2.now map2.now
-        × Sized n s block3.old map3.old }
+    requires { Sized table.now.places table.now.size block1.now map1.now
+        × Sized table.now.places table.now.size block2.now map2.now
+        × Sized table.now.places table.now.size block3.old map3.old }
     ensures block { block3.new
-        ≡ (merged s
+        ≡ (merged table.now.size
         (held block1.now map1.now)
         (held block2.now map2.now)
-        n).block }
+        table.now.places).block }
     ensures kinds { map3.new
-        ≡ kinds s
+        ≡ kinds table.now.size
         (held block1.now map1.now)
         (held block2.now map2.now)
-        n }
+        table.now.places }
 {
-    for p in 0..n {
+    let s = table.size;
+    for p in 0..table.places {
         map3[p] = hear(map1[p], map2[p], block1, block2, block3, p * s, s);
     }
 }
@@ -102,11 +90,7 @@ pub fn hear_all(
 pub fn mark_lost(map: &mut [u8])
     ensures { map.new ≡ each (λ k. cond (ltb 1 k) 1 0) map.old }
 {
-    for p in 0..map.len() {
-        if map[p] > SINGLE {
-            map[p] = 1;
-        } else {
-            map[p] = 0;
-        }
+    for kind in map.iter_mut() {
+        *kind = u8::from(*kind > SINGLE);
     }
 }

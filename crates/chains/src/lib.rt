@@ -1,11 +1,12 @@
 // Counts and chains: for each check the number of its lost places, for each place the chain of its checks.
 #![tactic(auto)]
 
-ghost use Rattle.std.specs.Prelude.{List, ◌≡◌, ℕ, ◌+◌, ◌≤◌, length, get_or, take, drop};
+ghost use Rattle.std.specs.Prelude.{List, ◌≡◌, ℕ, ◌+◌, ◌≤◌, ◌<◌, length, get_or, take, drop, MatchOption};
 ghost use Rattle.table.specs.Checks.{check, Places, Starts};
-ghost use Rattle.table.specs.Accepted.{Accepted};
 ghost use Rattle.erasure.specs.Restoring.{lost_places};
 ghost use Rattle.chains.specs.Linked.{Links, with_check, Counted, Walk, Walked, LowestOne, holders};
+
+use table::Located;
 
 // the number of lost places of a check
 fn lost_in(t: &[u16], at: usize, weight: usize, map: &[u8]) -> usize
@@ -23,23 +24,19 @@ fn lost_in(t: &[u16], at: usize, weight: usize, map: &[u8]) -> usize
 }
 
 // the number of lost places of each check
-pub fn count_all(
-    t: &[u16],
-    m: usize,
-    n: usize,
-    s: usize,
-    starts: &[u16],
-    map: &[u8],
-    count: &mut [u16],
-)
-    requires { Accepted t.now m n s
-        × Starts t.now m starts.now
-        × (length map.now ≡ n)
-        × (m ≤ length count.old) }
-    ensures { Counted t.now m map.now count.new }
+pub fn count_all(located: &Located, map: &[u8], count: &mut [u16])
+    requires { (length map.now ≡ located.now.table.places)
+        × (located.now.table.checks ≤ length count.old) }
+    ensures { Counted located.now.table.words.now located.now.table.checks map.now count.new }
 {
-    for j in 0..m {
-        count[j] = lost_in(t, usize::from(starts[j]), usize::from(t[4 + j]), map) as u16;
+    let table = &located.table;
+    for j in 0..table.checks {
+        count[j] = lost_in(
+            table.words,
+            usize::from(located.starts[j]),
+            usize::from(table.words[4 + j]),
+            map,
+        ) as u16;
     }
 }
 
@@ -74,36 +71,26 @@ fn link_check(
 }
 
 // every check goes to the chains of its places
-pub fn link_all(
-    t: &[u16],
-    m: usize,
-    n: usize,
-    s: usize,
-    starts: &[u16],
-    head: &mut [u16],
-    next: &mut [u16],
-    owner: &mut [u16],
-)
-    requires { Accepted t.now m n s
-        × Starts t.now m starts.now
-        × (n ≤ length head.old)
-        × (length t.now ≤ length next.old)
-        × (length t.now ≤ length owner.old)
+pub fn link_all(located: &Located, head: &mut [u16], next: &mut [u16], owner: &mut [u16])
+    requires { (located.now.table.places ≤ length head.old)
+        × (length located.now.table.words.now ≤ length next.old)
+        × (length located.now.table.words.now ≤ length owner.old)
         × (length next.old ≤ 65535)
         × ((p : ℕ) → get_or head.old p 0 ≡ 0) }
     ensures { (length head.new ≡ length head.old)
         × (length next.new ≡ length next.old)
         × (length owner.new ≡ length owner.old)
-        × Links next.new owner.new head.new (length t.now) (λ p. holders (check t.now m) p m) }
+        × Links next.new owner.new head.new (length located.now.table.words.now) (λ p. holders (check located.now.table.words.now located.now.table.checks) p located.now.table.checks) }
 {
-    for j in 0..m {
+    let table = &located.table;
+    for j in 0..table.checks {
         link_check(
             head,
             next,
             owner,
-            t,
-            usize::from(starts[j]),
-            usize::from(t[4 + j]),
+            table.words,
+            usize::from(located.starts[j]),
+            usize::from(table.words[4 + j]),
             j as u16,
         );
     }
@@ -115,31 +102,25 @@ pub fn walk(next: &[u16], owner: &[u16], count: &mut [u16], first: usize, bound:
     ensures { Walked next.now owner.now first count.old count.new bound result }
 {
     let mut low = bound;
+    // 0 ends a chain: a link is one word of the fixed buffers
     let mut i = first;
     while 0 < i {
         let j = usize::from(owner[i - 1]);
         let left = count[j] - 1;
         count[j] = left;
         if left == 1 {
-            if j < low {
-                low = j;
-            }
+            low = low.min(j);
         }
         i = usize::from(next[i - 1]);
     }
     low
 }
 
-// the lowest check from low on with exactly one lost place, m if there is none
-pub fn lowest_one(count: &[u16], low: usize, m: usize) -> usize
+// the lowest check from low on with exactly one lost place
+pub fn lowest_one(count: &[u16], low: usize, m: usize) -> Option<usize>
     requires { (low ≤ m)
         × (m ≤ length count.now) }
-    ensures { LowestOne count.now low m result }
+    ensures { MatchOption result (LowestOne count.now low m m) (λ j. (j < m) × LowestOne count.now low m j) }
 {
-    for j in low..m {
-        if count[j] == 1 {
-            return j;
-        }
-    }
-    m
+    (low..m).find(|j| count[*j] == 1)
 }

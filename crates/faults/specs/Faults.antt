@@ -2,6 +2,9 @@
 -- is "the lowest byte that isn't zero" of "the sum over one check": "The byte is its position from 0." So are checks numbered.
 use Rattle.std.specs.Prelude.{◌≡◌, Bool, true, false, not, ◌&&◌, List, [], ◌∷◌, ◌≢◌, ℕ, suc, ◌<◌, length, get_or, take, replicate}
 use Rattle.std.proofs.Math.Option.{Option, none, some}
+use Rattle.std.specs.declared.option.Option.{Option as Found}
+use Rattle.std.specs.declared.option.Option.TheVariants.{None, Some}
+use Rattle.refusals.specs.declared.Fault.{Fault as FaultFound}
 use Rattle.lists.specs.Lists.{All}
 use Rattle.table.specs.Codewords.{zero_sum}
 use Rattle.table.specs.Packets.{packet_sum, lowest_nonzero}
@@ -10,6 +13,11 @@ use Rattle.table.specs.Packets.{packet_sum, lowest_nonzero}
 pub record Fault : Type 0 where
   pub check : ℕ
   pub byte : ℕ
+
+-- what the code finds
+abbrev pub fault_found : Found FaultFound → Option Fault
+fault_found None = none
+fault_found (Some f) = some (record { check = f.check; byte = f.byte })
 
 -- nothing fails
 abbrev pub no_fault : Option Fault → Bool

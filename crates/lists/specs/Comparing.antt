@@ -1,6 +1,7 @@
 -- Two lists compared number by number: the rest decides.
-use Rattle.std.specs.Prelude.{◌≡◌, refl, Bool, true, false, ◌&&◌, List, ◌∷◌, ◌≢◌, ℕ, ◌+◌, ◌<◌, ◌≤◌, length, get_or, drop}
+use Rattle.std.specs.Prelude.{◌≡◌, refl, Bool, true, false, ◌&&◌, List, [], ◌∷◌, ◌≢◌, ℕ, eqb, ◌+◌, ◌<◌, ◌≤◌, length, get_or, drop}
 use Rattle.std.proofs.Common.{sym, ap, ◌∙◌, arith, eq-eqb, ne_eqb, add-one, drop_of_length-le, drop-cons}
+use lib.Pointwise.{pointwise}
 use Rattle.lists.specs.Lists.{same_list}
 use Rattle.lists.specs.Tests.{and-false}
 
@@ -23,3 +24,10 @@ missed a b c d e f = and-false a b e ∙ sym (ap (λ x. x && d) f)
 pub ended : (a b : Bool) → b ≡ true → (a && b) ≡ a
 ended true b e = e
 ended false b e = refl
+
+-- what a comparison of two slices says
+pub pointwise-same : (x y : List ℕ) → pointwise eqb x y ≡ same_list x y
+pointwise-same [] [] = refl
+pointwise-same [] (b ∷ y) = refl
+pointwise-same (a ∷ x) [] = refl
+pointwise-same (a ∷ x) (b ∷ y) = ap (λ r. eqb a b && r) (pointwise-same x y)

@@ -6,37 +6,23 @@ ghost use Rattle.std.specs.Prelude.{◌≡◌, true, false, ◌||◌, ◌*◌, �
 ghost use Rattle.lists.specs.Lists.{any_of};
 ghost use Rattle.table.specs.FirstCause.{wrong_length};
 ghost use Rattle.table.specs.Packets.{packets, joined};
-ghost use Rattle.erasure.specs.Offered.{byte_over};
 ghost use Rattle.erasure.specs.Restoring.{tally, zero_lost};
 
-// a block and map that aren't of n places of s bytes
-pub fn wrong_lengths(block: &[u8], map: &[u8], n: usize, s: usize) -> bool
-    requires { n * s ≤ 1048576 }
-    ensures { result ≡ (wrong_length (length block.now) (n * s) || wrong_length (length map.now) n) }
+use table::Table;
+
+// a block and map that aren't of the table's lengths
+pub fn wrong_lengths(table: &Table, block: &[u8], map: &[u8]) -> bool
+    ensures { result
+        ≡ (wrong_length (length block.now) (table.now.places * table.now.size) || wrong_length (length map.now) table.now.places) }
 {
-    if block.len() != n * s {
-        return true;
-    }
-    map.len() != n
+    block.len() != table.places * table.size || map.len() != table.places
 }
 
 // a map byte over most
 pub fn over(map: &[u8], most: u8) -> bool
     ensures { result ≡ any_of (ltb most) map.now }
 {
-    for p in 0..map.len() {
-        if map[p] > most {
-            return true;
-        }
-    }
-    false
-}
-
-// a map byte over 1
-pub fn over_one(map: &[u8]) -> bool
-    ensures { result ≡ byte_over map.now }
-{
-    over(map, 1)
+    map.iter().any(|b| *b > most)
 }
 
 // how many map bytes are v
@@ -44,24 +30,19 @@ pub fn tally_of(map: &[u8], v: u8) -> u32
     requires { length map.now ≤ 1024 }
     ensures { result ≡ tally v map.now }
 {
-    let mut k = 0;
-    for p in 0..map.len() {
-        if map[p] == v {
-            k += 1;
-        }
-    }
-    k
+    map.iter().filter(|b| **b == v).count() as u32
 }
 
 // zero bytes at every lost place
-pub fn zero_lost(block: &mut [u8], map: &[u8], n: usize, s: usize)
-    requires { (length block.old ≡ n * s)
-        × (length map.now ≡ n) }
-    ensures { block.new ≡ joined (zero_lost s map.now (packets s n block.old)) }
+pub fn zero_lost(table: &Table, block: &mut [u8], map: &[u8])
+    requires { (length block.old ≡ table.now.places * table.now.size)
+        × (length map.now ≡ table.now.places) }
+    ensures { block.new
+        ≡ joined (zero_lost table.now.size map.now (packets table.now.size table.now.places block.old)) }
 {
-    for p in 0..n {
-        if map[p] == 1 {
-            packets::clear(block, p * s, s);
+    for (p, mark) in map.iter().enumerate() {
+        if *mark == 1 {
+            packets::clear(block, p * table.size, table.size);
         }
     }
 }
@@ -71,8 +52,5 @@ pub fn to_sum(count: u16, used: u8) -> bool
     ensures { (result ≡ true → count ≡ 0)
         × (result ≡ false → count ≡ 0 → used ≡ 1) }
 {
-    if count == 0 {
-        return used != 1;
-    }
-    false
+    count == 0 && used != 1
 }

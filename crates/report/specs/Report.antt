@@ -1,5 +1,9 @@
 -- What repair and the calls that go on with it report (document 01, "Repair and the other calls"; document 02, C-12).
 use Rattle.std.specs.Prelude.{ℕ}
+use Rattle.std.specs.declared.result.Result.{Result}
+use Rattle.std.specs.declared.result.Result.TheVariants.{Ok, Err}
+use Rattle.refusals.specs.Refusals.{number_of, check_of, byte_of}
+use Rattle.refusals.specs.declared.Refusal.{Refusal}
 use Rattle.report.specs.declared.Repaired.{Repaired}
 
 -- "Reported: restored, still lost, and additions"; counts 0 on refusal; the check that fails and its byte, both 0 but for refusal 8
@@ -20,5 +24,6 @@ abbrev pub refused_with : ℕ → ℕ → ℕ → RepairAnswer
 refused_with r check byte = record { refusal = r; restored = 0; lost = 0; additions = 0; check = check; byte = byte }
 
 -- the papers' numbers of an answer
-abbrev pub repair_answer_of : Repaired → RepairAnswer
-repair_answer_of r = record { refusal = r.refusal; restored = r.restored; lost = r.lost; additions = r.additions; check = r.check; byte = r.byte }
+abbrev pub repair_answer_of : Result Repaired Refusal → RepairAnswer
+repair_answer_of (Ok r) = accepted_with r.restored r.lost r.additions
+repair_answer_of (Err r) = refused_with (number_of r) (check_of r) (byte_of r)

@@ -1,8 +1,6 @@
--- The look at the checks: those that have restored a place, none at the start, needn't be summed; what is told of one that fails.
+-- The look at the checks: those that have restored a place, none at the start, needn't be summed.
 use mathlib.Core.Path.{◌≡◌, sym, ap, ◌∙◌}
-use mathlib.Core.Bool.{true, false}
 use mathlib.Core.List.{List, []}
-use mathlib.Core.Option.{Option, none, some}
 use Prim.Native.Nat.{ℕ, ◌+◌, ◌<◌, ◌≤◌}
 use native.Mathlib.Omega.{arith}
 use lib.Dec.{eqb}
@@ -18,10 +16,8 @@ use Rattle.table.specs.CodewordLaws.{zero-complete}
 use Rattle.chains.specs.Linked.{Counted}
 use Rattle.erasure.specs.Restoring.{none_lost}
 use Rattle.faults.proofs.FaultLaws.{fault-zero, fault_past}
-use Rattle.faults.specs.Faults.{Fault, no_fault, check_of, byte_of, failing}
+use Rattle.faults.specs.Faults.{failing}
 use Rattle.turns.specs.Spent.{Spent}
-use Rattle.restore.specs.Mending.{Tells}
-use Rattle.restore.specs.declared.Judged.{Judged}
 
 pub spent-start : (t : List ℕ) (m n s : ℕ) (b l : List ℕ) → m ≤ 512 → Spent t m n s b l (replicate 512 0)
 spent-start t m n s b l few = record {
@@ -46,10 +42,3 @@ byte_fits t m n s k b at w c r e =
     let long = sum-length t at w b n s c in
     let few = few_bytes t m n s k in
     omega arith
-
--- what is told of a check that fails, and where none does
-pub tells-fault : (r : Judged) (f : Option Fault) (k y : ℕ) → f ≡ some (record { check = k; byte = y }) → r.agrees ≡ false → r.check ≡ k → r.byte ≡ y → Tells r f
-tells-fault r f k y is e1 e2 e3 = record { agrees-is = e1 ∙ sym (ap no_fault is); check-is = e2 ∙ sym (ap check_of is); byte-is = e3 ∙ sym (ap byte_of is) }
-
-pub tells_none : (r : Judged) (f : Option Fault) → f ≡ none → r.agrees ≡ true → r.check ≡ 0 → r.byte ≡ 0 → Tells r f
-tells_none r f is e1 e2 e3 = record { agrees-is = e1 ∙ sym (ap no_fault is); check-is = e2 ∙ sym (ap check_of is); byte-is = e3 ∙ sym (ap byte_of is) }

@@ -109,7 +109,7 @@ fn or_into(o: &mut [u8], a: &[u8])
         → (lowest_nonzero o.old ≡ length a.now) × (lowest_nonzero a.now ≡ length a.now) }
 {
     for i in 0..o.len() {
-        o[i] = o[i] | a[i];
+        o[i] |= a[i];
     }
 }
 

@@ -124,12 +124,9 @@ module _ (t : List ℕ) (m n s : ℕ) (k : Accepted t m n s) (l : List ℕ) (j :
   pub none-next : j ≡ m → ready l (checks t) ≡ none
   none-next e = number-none l (checks t) (sym number ∙ e ∙ sym (check-count t m n s k))
 
-  module _ (more : j ≡ m → ⊥) where
-    pub next-in : j < m
-    next-in = let a = number-least l (checks t) in let b = check-count t m n s k in omega arith
-
+  module _ (next-in : j < m) where
     pub next-is : ready l (checks t) ≡ some (get_or (checks t) j [])
-    next-is = rw number (number-ready l (checks t) (λ e. more (number ∙ e ∙ check-count t m n s k)))
+    next-is = rw number (number-ready l (checks t) (λ e. omega (arith, number, e, check-count t m n s k, next-in)))
 
     module _ (starts : List ℕ) (st : Starts t m starts) (a w : ℕ) (at : a ≡ get_or starts j 0) (weight : w ≡ get_or t (4 + j) 0) where
       pub next-places : Places t a w n

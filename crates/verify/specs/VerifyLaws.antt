@@ -6,6 +6,13 @@ use Rattle.std.proofs.lemmas.Bool.{false≢true, not-false}
 use Rattle.std.proofs.Math.Option.{Option, none, some, none-ne-some, some-ne-none, some-injective}
 use Prim.Native.Nat.{ℕ, zero, suc, ◌*◌}
 use Rattle.std.proofs.Math.ListN.{length}
+use Rattle.std.specs.declared.option.Option.{Option as Found}
+use Rattle.std.specs.declared.option.Option.TheVariants.{None, Some}
+use Rattle.std.specs.declared.result.Result.{Result}
+use Rattle.std.specs.declared.result.Result.TheVariants.{Ok, Err}
+use Rattle.refusals.proofs.Numbers.{number-tells}
+use Rattle.refusals.specs.declared.Fault.{Fault as FaultFound}
+use Rattle.refusals.specs.declared.Refusal.{Refusal}
 use Rattle.lists.specs.Tests.{eqb-true}
 use Rattle.lists.specs.Lists.{All.cons}
 use Rattle.faults.specs.Faults.{Fault, failing, every_check}
@@ -13,9 +20,7 @@ use Rattle.table.specs.FirstCause.{first_cause, wrong_length, NoneHolds}
 use Rattle.table.specs.FirstCauseLaws.{none-holds, none-refuses, first-decides, rest-decides}
 use Rattle.table.specs.Packets.{packets}
 use Rattle.table.specs.Table.{places, size, checks, table_causes, refusal}
-use Rattle.verify.specs.Verify.{values_of, verify_refusal, verdict, verify_answer_at, verify_answer}
-use Rattle.verify.specs.declared.Verified.{Verified}
-use Rattle.verify.specs.declared.Verified.TheVariants.{Refused, Codeword, Fails}
+use Rattle.verify.specs.Verify.{values_of, refused_with, verify_refusal, verdict, verify_answer_at, verify_answer}
 
 -- ---- the call by cases
 module _ (t b : List ℕ) where
@@ -35,16 +40,16 @@ module _ (t b : List ℕ) where
   says e = ap (λ (r : ℕ). verify_answer_at r lowest) e
 
   -- a table that is refused
-  pub verification-refused : refusal t ≢ 0 → verify_answer t b ≡ values_of (Refused (refusal t))
+  pub verification-refused : refusal t ≢ 0 → verify_answer t b ≡ refused_with (refusal t)
   unfolding verify_refusal
   verification-refused ne = says (first-decides (table_causes t) own ne) ∙ refused (refusal t) ne
     where
-      refused : (r : ℕ) → r ≢ 0 → verify_answer_at r lowest ≡ values_of (Refused r)
+      refused : (r : ℕ) → r ≢ 0 → verify_answer_at r lowest ≡ refused_with r
       refused zero z = absurd (z refl)
       refused (suc r) z = refl
 
   -- a block of another length
-  pub verification-short : refusal t ≡ 0 → length b ≢ places t * size t → verify_answer t b ≡ values_of (Refused 5)
+  pub verification-short : refusal t ≡ 0 → length b ≢ places t * size t → verify_answer t b ≡ refused_with 5
   verification-short ok ne = let five : first_cause own ≡ 5 = rw (ne_eqb (length b) (places t * size t) ne) in says (at_length ok ∙ five)
 
   -- the verdict of a call that is not refused
@@ -70,14 +75,14 @@ failed-at zero none f h = absurd (none-ne-some f h)
 failed-at zero (some g) f h = (refl, h)
 failed-at (suc r) v f h = absurd (none-ne-some f h)
 
--- no two answers have the same values
-pub values-tell : (a b : Verified) → values_of a ≡ values_of b → a ≡ b
-values-tell (Refused r) (Refused q) h = ap (λ x. Refused x.refusal) h
-values-tell (Refused r) Codeword h = absurd (false≢true (ap (λ x. x.codeword) h))
-values-tell (Refused r) (Fails k i) h = absurd (none-ne-some _ (ap (λ x. x.fault) h))
-values-tell Codeword (Refused q) h = absurd (true≢false (ap (λ x. x.codeword) h))
-values-tell Codeword Codeword h = refl
-values-tell Codeword (Fails k i) h = absurd (true≢false (ap (λ x. x.codeword) h))
-values-tell (Fails j i) (Refused q) h = absurd (some-ne-none _ (ap (λ x. x.fault) h))
-values-tell (Fails j i) Codeword h = absurd (false≢true (ap (λ x. x.codeword) h))
-values-tell (Fails j i) (Fails k l) h = ap (λ (f : Fault). Fails f.check f.byte) (some-injective _ _ (ap (λ x. x.fault) h))
+-- no two answers have the same values, but for the two causes with number 8
+pub values-tell : (a b : Result (Found FaultFound) Refusal) → (values_of a).refusal ≢ 8 → values_of a ≡ values_of b → a ≡ b
+values-tell (Err r) (Err q) n h = ap (λ (x : Refusal). Err x) (number-tells r q n (ap (λ x. x.refusal) h))
+values-tell (Err r) (Ok None) n h = absurd (false≢true (ap (λ x. x.codeword) h))
+values-tell (Err r) (Ok (Some f)) n h = absurd (none-ne-some _ (ap (λ x. x.fault) h))
+values-tell (Ok None) (Err q) n h = absurd (true≢false (ap (λ x. x.codeword) h))
+values-tell (Ok None) (Ok None) n h = refl
+values-tell (Ok None) (Ok (Some f)) n h = absurd (true≢false (ap (λ x. x.codeword) h))
+values-tell (Ok (Some f)) (Err q) n h = absurd (some-ne-none _ (ap (λ x. x.fault) h))
+values-tell (Ok (Some f)) (Ok None) n h = absurd (false≢true (ap (λ x. x.codeword) h))
+values-tell (Ok (Some f)) (Ok (Some g)) n h = ap (λ (x : Fault). Ok (Some (record { check = x.check; byte = x.byte }))) (some-injective _ _ (ap (λ x. x.fault) h))

@@ -14,7 +14,8 @@ use Rattle.table.specs.Table.{places, size, checks, refusal}
 use Rattle.table.specs.TableLaws.{accepted}
 use Rattle.verify.specs.Verify.{values_of, verify_refusal, verdict, verify_answer}
 use Rattle.verify.specs.VerifyLaws.{lowest, verification-is, not-refused, passed-at, failed-at}
-use Rattle.verify.specs.declared.Verified.TheVariants.{Codeword, Fails}
+use Rattle.std.specs.declared.result.Result.TheVariants.{Ok}
+use Rattle.std.specs.declared.option.Option.TheVariants.{None}
 
 -- "verification says that the block is a codeword": if and only if the table is accepted, the block is n·s bytes, and every check sums to zero
 pub passes-codeword : (t b : List ℕ) → (verify_answer t b).codeword ≡ true → (refusal t ≡ 0) × IsCodeword t b
@@ -23,7 +24,7 @@ passes-codeword t b h =
     let r = not-refused t b p.0 in
     (r.0, record { size_fits = r.1; sums = all_map (λ c z. z refl) (none-fails every_check (size t) (packets (size t) (places t) b) 0 (checks t) p.1) })
 
-pub codeword-passes : (t b : List ℕ) → refusal t ≡ 0 → IsCodeword t b → verify_answer t b ≡ values_of Codeword
+pub codeword-passes : (t b : List ℕ) → refusal t ≡ 0 → IsCodeword t b → verify_answer t b ≡ values_of (Ok None)
 codeword-passes t b ok w = verification-is t b ok w.size_fits ∙ ap verdict (fails-none every_check (size t) (packets (size t) (places t) b) 0 (all_map (λ c z e. z) w.sums))
 
 -- "or gives the lowest check that fails", "with that byte"
@@ -53,6 +54,6 @@ fails-lowest t b f h =
 
 -- .. and the lowest is given
 pub lowest-given : (t b : List ℕ) (f : Fault) → refusal t ≡ 0 → length b ≡ places t * size t → FirstFault every_check (size t) (packets (size t) (places t) b) (checks t) f
-    → verify_answer t b ≡ values_of (Fails f.check f.byte)
+    → verify_answer t b ≡ verdict (some f)
 lowest-given t b f ok fits first = verification-is t b ok fits
     ∙ ap verdict (fault-first every_check (size t) (packets (size t) (places t) b) (sized t b ok fits) (checks t) (low t b ok fits) f first)

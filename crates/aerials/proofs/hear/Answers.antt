@@ -1,5 +1,5 @@
 -- `aerials::hear` meets its contract.
-use mathlib.Core.Path.{refl, sym, ◌∙◌}
+use mathlib.Core.Path.{refl, ◌∙◌}
 use lib.ListN.{take, drop}
 use Rattle.aerials.specs.Aerials.{agreed, single, silent, clash, heard, packet_of, kind_of}
 use Rattle.aerials.specs.HeardLaws.{heard-agreed, heard-clash, heard-first, heard-second, heard-silent}
@@ -15,12 +15,12 @@ returns-then-mark2-ne0 c =
     let q = told kind_of (packet_of a.s) a.at 1 a.block3.now _ (heard a.mark1 a.mark2 x y) (single x) (heard-first a.mark1 a.mark2 x y c.if-mark1-eq0.true c.if-mark2-ne0.true) refl c.copy.ensures in
     record { kind = q.0; packet = q.1 }
 
-pub returns-then-same : goal.returns-then-same
-returns-then-same c =
+pub returns-then-eq : goal.returns-then-eq
+returns-then-eq c =
     let a = c.args in
     let x = take a.s (drop a.at a.block1.now) in
     let y = take a.s (drop a.at a.block2.now) in
-    let q = told kind_of (packet_of a.s) a.at 0 a.block3.now _ (heard a.mark1 a.mark2 x y) (agreed x) (heard-agreed a.mark1 a.mark2 x y c.if-mark1-eq0.true c.if-mark2-ne0.false (parts_same a.block1.now a.block2.now a.at a.s ∙ sym c.same.ensures ∙ c.if-same.true)) refl c.copy-then-same.ensures in
+    let q = told kind_of (packet_of a.s) a.at 0 a.block3.now _ (heard a.mark1 a.mark2 x y) (agreed x) (heard-agreed a.mark1 a.mark2 x y c.if-mark1-eq0.true c.if-mark2-ne0.false (parts_same a.block1.now a.block2.now a.at a.s _ c.eq.ensures ∙ c.if-eq.true)) refl c.copy-then-eq.ensures in
     record { kind = q.0; packet = q.1 }
 
 pub returns-then-mark1-eq0 : goal.returns-then-mark1-eq0
@@ -28,7 +28,7 @@ returns-then-mark1-eq0 c =
     let a = c.args in
     let x = take a.s (drop a.at a.block1.now) in
     let y = take a.s (drop a.at a.block2.now) in
-    let q = told kind_of (packet_of a.s) a.at 3 a.block3.now _ (heard a.mark1 a.mark2 x y) clash (heard-clash a.mark1 a.mark2 x y c.if-mark1-eq0.true c.if-mark2-ne0.false (parts_same a.block1.now a.block2.now a.at a.s ∙ sym c.same.ensures ∙ c.if-same.false)) refl c.clear.ensures in
+    let q = told kind_of (packet_of a.s) a.at 3 a.block3.now _ (heard a.mark1 a.mark2 x y) clash (heard-clash a.mark1 a.mark2 x y c.if-mark1-eq0.true c.if-mark2-ne0.false (parts_same a.block1.now a.block2.now a.at a.s _ c.eq.ensures ∙ c.if-eq.false)) refl c.clear.ensures in
     record { kind = q.0; packet = q.1 }
 
 pub returns-then-mark2-eq0 : goal.returns-then-mark2-eq0

@@ -1,5 +1,4 @@
 -- `aerials::hear_all` meets its contract.
-use mathlib.Core.Path.{sym, ◌∙◌}
 use native.Mathlib.Omega.{arith}
 use lib.ListN.{get_or}
 use Rattle.table.specs.BufferLaws.{place-fits}
@@ -10,7 +9,7 @@ use Rattle.packets.specs.Filling.{none_filled, one-filled, block-filled, map-fil
 use Rattle.aerials.proofs.hear_all.Goals as goal
 
 pub loop-p-init : goal.loop-p-init
-loop-p-init c = (omega arith, none_filled _ _ _ _ _ _ c.requires.2)
+loop-p-init c = (none_filled _ _ _ _ _ _ c.requires.2)
 
 pub bounds-map1-p : goal.bounds-map1-p
 bounds-map1-p c = let e = c.requires.0.marks in omega arith
@@ -21,17 +20,17 @@ bounds-map2-p c = let e = c.requires.1.marks in omega arith
 pub overflow_mul-p : goal.overflow_mul-p
 overflow_mul-p c =
     let a = c.args in
-    omega (arith, place-fits c.loop-p.p a.n a.s c.loop-p-test.true, c.requires.0.bytes, c.well_formed)
+    omega (arith, place-fits c.loop-p.p a.table.now.places a.table.now.size c.loop-p-test.true, c.requires.0.bytes, c.well_formed)
 
 pub hear-requires : goal.hear-requires
 hear-requires c =
     let a = c.args in
     let f = c.requires in
-    let k = place-fits c.loop-p.p a.n a.s c.loop-p-test.true in
-    (omega (arith, k, f.0.bytes), omega (arith, k, f.1.bytes), omega (arith, k, c.loop-p.invariant.1.sized.bytes))
+    let k = place-fits c.loop-p.p a.table.now.places a.table.now.size c.loop-p-test.true in
+    (omega (arith, k, f.0.bytes), omega (arith, k, f.1.bytes), omega (arith, k, c.loop-p.invariant.sized.bytes))
 
 pub bounds-map3-p : goal.bounds-map3-p
-bounds-map3-p c = let e = c.loop-p.invariant.1.sized.marks in omega arith
+bounds-map3-p c = let e = c.loop-p.invariant.sized.marks in omega arith
 
 pub loop-p-preserved : goal.loop-p-preserved
 loop-p-preserved c =
@@ -40,16 +39,10 @@ loop-p-preserved c =
     let l = c.loop-p in
     let more = c.loop-p-test.true in
     let h = c.hear.ensures in
-    let long = packet-sized (get_or a.map1.now l.p 0) (get_or a.map2.now l.p 0) (part_at a.s l.p a.block1.now) (part_at a.s l.p a.block2.now) a.s
-    (part-sized a.n a.s a.block1.now f.0.bytes l.p more) (part-sized a.n a.s a.block2.now f.1.bytes l.p more) in
-    (omega arith, one-filled _ _ _ _ _ _ l.p l.block3 l.map3 l.invariant.1 more _ _ h.packet long h.kind)
-
-pub shape_of-block3 : goal.shape_of-block3
-shape_of-block3 c = c.loop-p.invariant.1.sized.bytes ∙ sym c.requires.2.bytes
-
-pub shape_of-map3 : goal.shape_of-map3
-shape_of-map3 c = c.loop-p.invariant.1.sized.marks ∙ sym c.requires.2.marks
+    let long = packet-sized (get_or a.map1.now l.p 0) (get_or a.map2.now l.p 0) (part_at a.table.now.size l.p a.block1.now) (part_at a.table.now.size l.p a.block2.now) a.table.now.size
+    (part-sized a.table.now.places a.table.now.size a.block1.now f.0.bytes l.p more) (part-sized a.table.now.places a.table.now.size a.block2.now f.1.bytes l.p more) in
+    (one-filled _ _ _ _ _ _ l.p l.block3 l.map3 l.invariant more _ _ h.packet long h.kind)
 
 pub returns : goal.returns
 returns c = let l = c.loop-p in
-    record { block = block-filled _ _ _ _ _ _ l.p l.block3 l.map3 l.invariant.1 (omega arith); kinds = map-filled _ _ _ _ _ _ l.p l.block3 l.map3 l.invariant.1 (omega arith) }
+    record { block = block-filled _ _ _ _ _ _ l.p l.block3 l.map3 l.invariant (omega arith); kinds = map-filled _ _ _ _ _ _ l.p l.block3 l.map3 l.invariant (omega arith) }

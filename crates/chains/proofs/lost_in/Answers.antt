@@ -14,7 +14,7 @@ pub loop-i-init : goal.loop-i-init
 loop-i-init c =
     let a = c.args in
     let z : a.at + a.weight - a.at ≡ a.weight = omega arith in
-    (omega arith, omega arith, omega arith, rw z (omega arith))
+    (omega arith, rw z (omega arith))
 
 pub bounds-map-from : goal.bounds-map-from
 bounds-map-from c =
@@ -31,8 +31,8 @@ loop-i-preserved c =
     let p = c.from.ensures in
     let more = c.loop-i-test.true in
     elim c.if-map-from-eq1.branch [
-      | then-map-from-eq1 w ↦ let e = ap length (lost-hit a.map.now a.t.now s.i (a.at + a.weight) more r (rw p at w.if-map-from-eq1.true)) in (omega arith, omega arith, omega (arith, w.k-is), omega (arith, w.k-is))
-      | else-map-from-eq1 w ↦ let e = ap length (lost-miss a.map.now a.t.now s.i (a.at + a.weight) more r (rw p at w.if-map-from-eq1.false)) in (omega arith, omega arith, omega (arith, w.k-is), omega (arith, w.k-is))
+      | then-map-from-eq1 w ↦ let e = ap length (lost-hit a.map.now a.t.now s.i (a.at + a.weight) more r (rw p at w.if-map-from-eq1.true)) in (omega (arith, w.k-is), omega (arith, w.k-is))
+      | else-map-from-eq1 w ↦ let e = ap length (lost-miss a.map.now a.t.now s.i (a.at + a.weight) more r (rw p at w.if-map-from-eq1.false)) in (omega (arith, w.k-is), omega (arith, w.k-is))
     ]
 
 pub returns : goal.returns

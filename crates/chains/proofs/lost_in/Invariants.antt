@@ -6,7 +6,4 @@ use lib.ListN.{length, take, drop}
 use Rattle.chains.proofs.lost_in.Given as goal
 
 abbrev pub invariant-loop-i : goal.invariant-loop-i
-invariant-loop-i l = (l.at ≤ l.i) × (l.i ≤ l.end) × (l.k + l.end ≤ l.i + l.weight) × (length (lost_places l.map (take l.weight (drop l.at l.t))) ≡ l.k + length (lost_places l.map (take (l.end - l.i) (drop l.i l.t))))
-
-abbrev pub decreases-loop-i : goal.decreases-loop-i
-decreases-loop-i l = l.end - l.i
+invariant-loop-i l = (l.k + l.end ≤ l.i + l.weight) × (length (lost_places l.map (take l.weight (drop l.at l.t))) ≡ l.k + length (lost_places l.map (take (l.end - l.i) (drop l.i l.t))))

@@ -5,7 +5,7 @@ use mathlib.Core.Path.{◌≡◌, refl}
 use native.Mathlib.Omega.{arith}
 use lib.ListN.{get_or}
 use Rattle.chains.proofs.walk.Goals as goal
-use Rattle.chains.proofs.walk.Goals.{then-left-eq1+then-j-low, then-left-eq1+else-j-low, else-left-eq1}
+use Rattle.chains.proofs.walk.Goals.{then-left-eq1, else-left-eq1}
 
 pub loop-i-init : goal.loop-i-init
 loop-i-init c = walk_start _ _ _ _ _ c.requires
@@ -46,14 +46,10 @@ loop-i-preserved c =
     let j = c.from-j.result in
     let l : (get_or s.count j 0 - 1 ≡ 1 → c.if-left-eq1.low ≤ j) × (c.if-left-eq1.low ≤ s.low) =
     elim c.if-left-eq1.branch [
-      | then-left-eq1+then-j-low u ↦ ((λ e. omega (arith, u.low-is)), omega (arith, u.low-is, u.if-j-low.true))
-      | then-left-eq1+else-j-low u ↦ ((λ e. omega (arith, u.low-is, u.if-j-low.false)), omega (arith, u.low-is))
+      | then-left-eq1 u ↦ ((λ e. omega (arith, u.low-is, u.min-low.ensures)), omega (arith, u.low-is, u.min-low.ensures))
       | else-left-eq1 u ↦ ((λ e. absurd (u.if-left-eq1.false e)), omega (arith, u.low-is))
     ] in
     walk_turn _ _ _ _ _ _ _ _ s.invariant c.loop-i-test.true _ c.from-j.ensures _ _ _ refl l.0 l.1 c.from-i.ensures
-
-pub shape_of-count : goal.shape_of-count
-shape_of-count c = c.loop-i.invariant.len
 
 pub returns : goal.returns
 returns c = walk_end _ _ _ _ _ _ _ _ c.loop-i.invariant c.loop-i-test.false

@@ -1,44 +1,43 @@
 -- `marks::zero_lost` meets its contract.
+use Rattle.table.specs.Accepted.{block-small}
 use Rattle.table.specs.BufferLaws.{place-fits}
 use Rattle.table.specs.Packets.{joined}
 use Rattle.marks.proofs.BlockLaws.{cleared-hit, cleared-miss, cleared-end}
 use mathlib.Core.Path.{refl, sym, ap, ◌∙◌}
 use native.Mathlib.Omega.{arith}
+use Prim.Native.Nat.{◌<◌}
 use Rattle.marks.proofs.zero_lost.Goals as goal
-use Rattle.marks.proofs.zero_lost.Goals.{then-map-p-eq1, else-map-p-eq1}
+use Rattle.marks.proofs.zero_lost.Goals.{then-mark-eq1, else-mark-eq1}
 
 pub loop-p-init : goal.loop-p-init
-loop-p-init c = (omega arith, c.requires.0, refl)
+loop-p-init c = (c.requires.0, refl)
 
 pub overflow_mul-p : goal.overflow_mul-p
 overflow_mul-p c =
     let a = c.args in
     let s = c.loop-p in
-    omega (arith, place-fits s.p a.n a.s c.loop-p-test.true, c.requires.0, c.well_formed.0.0)
+    omega (arith, place-fits s.p a.table.now.places a.table.now.size (omega (arith, c.requires.1)), block-small _ _ _ _ a.table.now.accepted)
 
 pub clear-requires : goal.clear-requires
 clear-requires c =
     let a = c.args in
     let s = c.loop-p in
-    let f = place-fits s.p a.n a.s c.loop-p-test.true in
-    omega (arith, f, s.invariant.1)
+    let f = place-fits s.p a.table.now.places a.table.now.size (omega (arith, c.requires.1)) in
+    omega (arith, f, s.invariant.0)
 
 pub loop-p-preserved : goal.loop-p-preserved
 loop-p-preserved c =
     let a = c.args in
     let s = c.loop-p in
-    let more = c.loop-p-test.true in
-    elim c.if-map-p-eq1.branch [
-      | then-map-p-eq1 w ↦ let z = cleared-hit a.s a.n a.map.now s.block s.invariant.1 c.requires.1 s.p more c.if-map-p-eq1.block (w.block-is ∙ w.clear.ensures) w.if-map-p-eq1.true in
-          (omega arith, z.0, s.invariant.2 ∙ z.1)
-      | else-map-p-eq1 w ↦ let e = w.block-is in (omega arith, rw e s.invariant.1, s.invariant.2 ∙ rw e (cleared-miss a.s a.n a.map.now s.block s.invariant.1 c.requires.1 s.p more w.if-map-p-eq1.false))
+    let more : s.p < a.table.now.places = omega (arith, c.requires.1) in
+    elim c.if-mark-eq1.branch [
+      | then-mark-eq1 w ↦ let z = cleared-hit a.table.now.size a.table.now.places a.map.now s.block s.invariant.0 c.requires.1 s.p more c.if-mark-eq1.block (w.block-is ∙ w.clear.ensures) w.if-mark-eq1.true in
+          (z.0, s.invariant.1 ∙ z.1)
+      | else-mark-eq1 w ↦ let e = w.block-is in (rw e s.invariant.0, s.invariant.1 ∙ rw e (cleared-miss a.table.now.size a.table.now.places a.map.now s.block s.invariant.0 c.requires.1 s.p more w.if-mark-eq1.false))
     ]
-
-pub shape_of-block : goal.shape_of-block
-shape_of-block c = c.loop-p.invariant.1 ∙ sym c.requires.0
 
 pub returns : goal.returns
 returns c =
     let a = c.args in
     let s = c.loop-p in
-    sym (ap joined s.invariant.2 ∙ cleared-end a.s a.n a.map.now s.block s.invariant.1 s.p c.loop-p-test.false)
+    sym (ap joined s.invariant.1 ∙ cleared-end a.table.now.size a.table.now.places a.map.now s.block s.invariant.0 s.p (omega (arith, c.requires.1)))

@@ -5,13 +5,11 @@ use Rattle.table.specs.Table.{checks}
 use Rattle.erasure.specs.Restoring.{none_lost, contradiction}
 use Rattle.erasure.specs.States.{state_of}
 use Rattle.faults.specs.Faults.{failing}
-use Prim.Native.Nat.{◌+◌, ◌-◌, ◌≤◌}
+use Prim.Native.Nat.{◌+◌}
 use mathlib.Core.Path.{◌≡◌}
 use lib.ListN.{drop}
 use Rattle.restore.proofs.judge.Given as goal
 
 abbrev pub invariant-loop-j : goal.invariant-loop-j
-invariant-loop-j l = (l.j ≤ l.m) × (l.at ≡ 5 + l.m + offset l.t l.j) × (contradiction l.s (checks l.t) (state_of l.s l.n l.block l.map 0) ≡ failing (none_lost l.map) l.s (packets l.s l.n l.block) l.j (drop l.j (checks l.t)))
-
-abbrev pub decreases-loop-j : goal.decreases-loop-j
-decreases-loop-j l = l.m - l.j
+invariant-loop-j l = let t = l.table.words.now in let n = l.table.places in let s = l.table.size in
+    (l.at ≡ 5 + l.table.checks + offset t l.j) × (contradiction s (checks t) (state_of s n l.block l.map 0) ≡ failing (none_lost l.map) s (packets s n l.block) l.j (drop l.j (checks t)))

@@ -10,7 +10,7 @@ pub loop-i-init : goal.loop-i-init
 loop-i-init c =
     let a = c.args in
     let z : a.at + a.weight - a.at ≡ a.weight = omega arith in
-    (omega arith, omega arith, rw z)
+    rw z
 
 pub bounds-map-p : goal.bounds-map-p
 bounds-map-p c =
@@ -25,7 +25,7 @@ returns-then-map-p-eq1 c =
     let a = c.args in
     let r : a.at + a.weight ≤ length a.t.now = c.requires.room in
     let p = c.from-p.ensures in
-    p ∙ sym (s.invariant.2 ∙ ap (λ l. get_or l 0 0) (lost-hit a.map.now a.t.now s.i (a.at + a.weight) c.loop-i-test.true r (rw p at c.if-map-p-eq1.true)))
+    p ∙ sym (s.invariant ∙ ap (λ l. get_or l 0 0) (lost-hit a.map.now a.t.now s.i (a.at + a.weight) c.loop-i-test.true r (rw p at c.if-map-p-eq1.true)))
 
 pub loop-i-preserved : goal.loop-i-preserved
 loop-i-preserved c =
@@ -33,10 +33,10 @@ loop-i-preserved c =
     let a = c.args in
     let r : a.at + a.weight ≤ length a.t.now = c.requires.room in
     let p = c.from-p.ensures in
-    (omega arith, omega arith, s.invariant.2 ∙ ap (λ l. get_or l 0 0) (lost-miss a.map.now a.t.now s.i (a.at + a.weight) c.loop-i-test.true r (rw p at c.if-map-p-eq1.false)))
+    s.invariant ∙ ap (λ l. get_or l 0 0) (lost-miss a.map.now a.t.now s.i (a.at + a.weight) c.loop-i-test.true r (rw p at c.if-map-p-eq1.false))
 
 pub returns : goal.returns
 returns c =
     let s = c.loop-i in
     let a = c.args in
-    sym (s.invariant.2 ∙ ap (λ l. get_or l 0 0) (lost-end a.map.now a.t.now s.i (a.at + a.weight) c.loop-i-test.false))
+    sym (s.invariant ∙ ap (λ l. get_or l 0 0) (lost-end a.map.now a.t.now s.i (a.at + a.weight) c.loop-i-test.false))

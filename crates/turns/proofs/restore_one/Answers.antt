@@ -8,19 +8,19 @@ use lib.ListN.{take, drop}
 use Rattle.turns.proofs.restore_one.Goals as goal
 
 pub first_lost-p-requires : goal.first_lost-p-requires
-first_lost-p-requires c = let p = c.requires in subst (λ k. Places c.args.t.now c.args.at c.args.weight k) (sym p.2) p.0
+first_lost-p-requires c = let p = c.requires in subst (λ k. Places c.args.table.now.words.now c.args.at c.args.weight k) (sym p.2) p.0
 
 pub restore-requires : goal.restore-requires
 restore-requires c =
     let p = c.requires in
     let a = c.args in
-    (places-in _ _ _ _ _ _ p.0 p.1, lost-place-in a.map.now (take a.weight (drop a.at a.t.now)) _ _ p.2 p.3 c.first_lost-p.ensures)
+    (places-in _ _ _ _ _ _ p.0 p.1, lost-place-in a.map.now (take a.weight (drop a.at a.table.now.words.now)) _ _ p.2 p.3 c.first_lost-p.ensures)
 
 pub bounds-map-p : goal.bounds-map-p
 bounds-map-p c =
     let p = c.requires in
     let a = c.args in
-    let h = lost-place-in a.map.now (take a.weight (drop a.at a.t.now)) _ _ p.2 p.3 c.first_lost-p.ensures in
+    let h = lost-place-in a.map.now (take a.weight (drop a.at a.table.now.words.now)) _ _ p.2 p.3 c.first_lost-p.ensures in
     omega arith
 
 pub returns : goal.returns
