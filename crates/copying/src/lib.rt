@@ -2,49 +2,40 @@
 #![tactic(auto)]
 
 ghost use Rattle.std.specs.Prelude.{◌≡◌, ◌*◌, ◌<◌, ◌≤◌, length, take};
-ghost use Rattle.plan.specs.Layout.{plan_places, info_count, info_in, step_count, steps_of, plan_refusal};
+ghost use Rattle.plan.specs.Layout.{plan_places, info_count, step_count, steps_of};
 ghost use Rattle.start.specs.Kept.{OthersKept};
 ghost use Rattle.start.specs.Start.{Lent, with_information, Together, PreparedFor};
+
+use plan::Plan;
 
 // ---- copying
 
 // Past the information places from the k-th on that follow each other.
-fn together(plan: &[u32], k: usize, count: usize) -> usize
-    requires formed { plan_refusal plan.now ≡ 0 }
-    requires number { (k < count)
-        × (count ≡ info_count plan.now) }
-    ensures { Together (info_in plan.now) k count result }
+fn together(info: &[u32], k: usize) -> usize
+    requires { k < length info.now }
+    ensures { Together info.now k (length info.now) result }
 {
-    let place = plan::info_place(plan, k);
-    let mut r = k + 1;
-    while r < count {
-        if plan::info_place(plan, r) != place + (r - k) {
+    let place = info[k] as usize;
+    for r in k + 1..info.len() {
+        if info[r] as usize != place + (r - k) {
             return r;
         }
-        r += 1;
     }
-    r
+    info.len()
 }
 
 // The k-th information packet is copied to the k-th information place: run by run.
-fn copy_information(plan: &[u32], s: usize, information: &[u8], block: &mut [u8])
-    requires formed { plan_refusal plan.now ≡ 0 }
-    requires information { length information.now ≡ info_count plan.now * s }
-    requires block { length block.old ≡ plan_places plan.now * s }
-    ensures copied { block.new ≡ with_information plan.now s information.now block.old }
-    ensures others { OthersKept plan.now s block.old block.new }
+fn copy_information(plan: &Plan, s: usize, information: &[u8], block: &mut [u8])
+    requires information { length information.now ≡ info_count plan.now.words.now * s }
+    requires block { length block.old ≡ plan_places plan.now.words.now * s }
+    ensures copied { block.new ≡ with_information plan.now.words.now s information.now block.old }
+    ensures others { OthersKept plan.now.words.now s block.old block.new }
 {
-    let count = plan::info_count(plan);
+    let info = plan.info();
     let mut k = 0;
-    while k < count {
-        let r = together(plan, k, count);
-        packets::copy(
-            block,
-            plan::info_place(plan, k) * s,
-            information,
-            k * s,
-            (r - k) * s,
-        );
+    while k < info.len() {
+        let r = together(info, k);
+        packets::copy(block, info[k] as usize * s, information, k * s, (r - k) * s);
         k = r;
     }
 }
@@ -53,17 +44,17 @@ fn copy_information(plan: &[u32], s: usize, information: &[u8], block: &mut [u8]
 
 // Block and scratch before the first of so many steps.
 pub fn prepare(
-    plan: &[u32],
+    plan: &Plan,
     s: usize,
     steps: usize,
     information: &[u8],
     block: &mut [u8],
     scratch: &mut [u8],
 )
-    requires lent { Lent plan.now s (length block.old) (length scratch.old) }
-    requires steps { steps ≤ step_count plan.now }
-    requires information { length information.now ≡ info_count plan.now * s }
-    ensures { PreparedFor plan.now s (take steps (steps_of plan.now)) information.now
+    requires lent { Lent plan.now.words.now s (length block.old) (length scratch.old) }
+    requires steps { steps ≤ step_count plan.now.words.now }
+    requires information { length information.now ≡ info_count plan.now.words.now * s }
+    ensures { PreparedFor plan.now.words.now s (take steps (steps_of plan.now.words.now)) information.now
         block.new scratch.new }
 {
     start::clear_others(plan, s, steps, block, scratch);

@@ -13,7 +13,7 @@ use lib.Seq.{drop-cons}
 use Rattle.lists.specs.Lists.{all_pass, has}
 use Rattle.lists.specs.Tests.{by_bool}
 use Rattle.table.specs.Table.{rising}
-use Rattle.plan.specs.declared.Decoded.TheVariants.{Valid, Invalid}
+use Rattle.std.specs.declared.option.Option.TheVariants.{Some, None}
 use Rattle.plan.specs.declared.Step.{Step}
 use Rattle.plan.specs.declared.Step.TheVariants.{Clear, Add}
 use Rattle.plan.specs.Layout.{good_step, info_in, steps_in, slots, plan_refusal, bad_counts, plan_places, plan_gap, steps_at}
@@ -40,11 +40,11 @@ module _ (k : ℕ) (kept : ℕ → Bool) where
   add-good to from h n = rw (lt-ltb from k h, ne_eqb to from n)
 
   -- decoding decides
-  pub good-decoded : (o : Option Step) (x : Step) → decoded_of o ≡ Valid x → good_step_by k kept (some x) ≡ good_step_by k kept o
+  pub good-decoded : (o : Option Step) (x : Step) → decoded_of o ≡ Some x → good_step_by k kept (some x) ≡ good_step_by k kept o
   good-decoded none x h = absurd (let z : ◌≡◌ {A = ℕ} 0 1 = cc in omega arith)
   good-decoded (some y) x h = let e : y ≡ x = cc in rw e
 
-  pub good-invalid : (o : Option Step) → decoded_of o ≡ Invalid → false ≡ good_step_by k kept o
+  pub good-invalid : (o : Option Step) → decoded_of o ≡ None → false ≡ good_step_by k kept o
   good-invalid none h = refl
   good-invalid (some y) h = absurd (let z : ◌≡◌ {A = ℕ} 0 1 = cc in omega arith)
 

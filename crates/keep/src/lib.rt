@@ -3,13 +3,11 @@
 
 ghost use Rattle.std.specs.Prelude.{◌≡◌, ℕ, ◌+◌, ◌*◌, ◌≤◌, ◌<◌, length, get_or, take, drop, replicate};
 ghost use Rattle.gf2.specs.Gf2.{row_of};
-ghost use Rattle.table.specs.Accepted.{Accepted};
-ghost use Rattle.table.specs.Table.{size};
 ghost use Rattle.bits.specs.Front.{Front};
 ghost use Rattle.rows.specs.Leads.{Owners, Lowered};
 ghost use Rattle.keep.specs.Kept.{kept_of};
 
-use table::MOST_PLACES;
+use table::{MOST_PLACES, Table};
 
 // weight places of t from at become row k, reduced; one more than the highest place left, 0 if the row is zero
 fn eliminate(
@@ -36,20 +34,28 @@ fn eliminate(
 }
 
 // the numbers of the kept checks, and how many
-fn keep(t: &[u16], m: usize, n: usize, w: &mut [u64], owner: &mut [u16], ids: &mut [u16]) -> usize
-    requires table { Accepted t.now m n (size t.now) }
-    requires room { (m * 16 ≤ length w.old)
-        × (n ≤ length owner.old)
-        × (m ≤ length ids.old) }
+fn keep(table: &Table, w: &mut [u64], owner: &mut [u16], ids: &mut [u16]) -> usize
+    requires room { (table.now.checks * 16 ≤ length w.old)
+        × (table.now.places ≤ length owner.old)
+        × (table.now.checks ≤ length ids.old) }
     requires unowned { (p : ℕ) → get_or owner.old p 0 ≡ 0 }
-    ensures { Front (kept_of t.now m) ids.old ids.new result }
+    ensures { Front (kept_of table.now.words.now table.now.checks) ids.old ids.new result }
 {
     let mut noted = [0u16; MOST_PLACES];
     let mut k = 0;
-    let mut at = 5 + m;
-    for i in 0..m {
-        let weight = usize::from(t[4 + i]);
-        let l = eliminate(w, k, owner, t, at, weight, n, &mut noted);
+    let mut at = 5 + table.checks;
+    for i in 0..table.checks {
+        let weight = usize::from(table.words[4 + i]);
+        let l = eliminate(
+            w,
+            k,
+            owner,
+            table.words,
+            at,
+            weight,
+            table.places,
+            &mut noted,
+        );
         if 0 < l {
             owner[l - 1] = (k + 1) as u16;
             ids[k] = i as u16;
@@ -61,15 +67,14 @@ fn keep(t: &[u16], m: usize, n: usize, w: &mut [u64], owner: &mut [u16], ids: &m
 }
 
 // step 1: the numbers of the kept checks, and how many; the work is zero afterwards
-pub fn keep_checks(t: &[u16], m: usize, n: usize, work: &mut [u64], ids: &mut [u16]) -> usize
-    requires table { Accepted t.now m n (size t.now) }
-    requires room { (m * 16 ≤ length work.old)
-        × (m ≤ length ids.old) }
-    ensures kept { Front (kept_of t.now m) ids.old ids.new result }
+pub fn keep_checks(table: &Table, work: &mut [u64], ids: &mut [u16]) -> usize
+    requires room { (table.now.checks * 16 ≤ length work.old)
+        × (table.now.checks ≤ length ids.old) }
+    ensures kept { Front (kept_of table.now.words.now table.now.checks) ids.old ids.new result }
     ensures work { work.new ≡ replicate (length work.old) 0 }
 {
     let mut owner = [0u16; MOST_PLACES];
-    let k = keep(t, m, n, work, &mut owner, ids);
+    let k = keep(table, work, &mut owner, ids);
     bits::clear_work(work);
     k
 }

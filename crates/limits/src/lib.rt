@@ -4,7 +4,7 @@
 ghost use Rattle.std.specs.Prelude.{◌≡◌, ◌≤◌, length};
 ghost use Rattle.plan.specs.Layout.{least_numbers, plan_places, plan_kept, bad_lengths, bad_limits, bad_counts};
 
-use plan::{HEAD_COUNT, LEAST_NUMBERS, gap, info_count, kept, places, step_count, steps_at, wide};
+use plan::{HEAD_COUNT, LEAST_NUMBERS, gap, info_count, kept, places, step_count, steps_at};
 use table::{MOST_CHECKS, MOST_PLACES};
 
 // ---- the limits of a plan
@@ -43,26 +43,11 @@ fn bad_limits(w: &[u32]) -> bool
     let n = places(w);
     let g = gap(w);
     let m = kept(w);
-    if table::outside(MOST_PLACES, n) {
-        return true;
-    }
-    if MOST_ASIDE < g || m < g || n < m || MOST_CHECKS < m {
-        return true;
-    }
-    false
+    table::outside(MOST_PLACES, n) || MOST_ASIDE < g || m < g || n < m || MOST_CHECKS < m
 }
 
 pub fn bad_counts(w: &[u32]) -> bool
     ensures { result ≡ bad_counts w.now }
 {
-    if w.len() < LEAST_NUMBERS {
-        return true;
-    }
-    if wide(w[0]) != HEAD_COUNT {
-        return true;
-    }
-    if bad_limits(w) {
-        return true;
-    }
-    bad_lengths(w)
+    w.len() < LEAST_NUMBERS || w[0] as usize != HEAD_COUNT || bad_limits(w) || bad_lengths(w)
 }

@@ -4,8 +4,8 @@ use Rattle.std.proofs.Math.Option.{Option, none, some}
 use Rattle.std.specs.Int.Bits.{bit_xor}
 use Rattle.gf2.specs.Gf2.{xor_group, sum_over}
 use Rattle.lists.specs.Lists.{has, count}
-use Rattle.live.specs.declared.Found.{Found}
-use Rattle.live.specs.declared.Found.TheVariants.{At, Nothing}
+use Rattle.std.specs.declared.option.Option.{Option as Optional}
+use Rattle.std.specs.declared.option.Option.TheVariants.{Some, None}
 
 -- c is c₀ with f done at each place of ps
 pub record Upd (f : ℕ → ℕ) (c₀ ps c : List ℕ) : Type 0 where
@@ -25,9 +25,9 @@ Noted = Marked (λ a. a + 1)
 abbrev pub Forgot : (c₀ x₀ ps : List ℕ) (j : ℕ) (c x : List ℕ) → Type 0
 Forgot = Marked (λ a. a - 1)
 
-unfoldable pub found : Option ℕ → Found
-found (some p) = At p
-found none = Nothing
+unfoldable pub found : Option ℕ → Optional ℕ
+found (some p) = Some p
+found none = None
 
 -- c and x tell of the checks g j, j in JS
 pub record Tally (g : ℕ → List ℕ) (JS : List ℕ) (c x : List ℕ) : Type 0 where

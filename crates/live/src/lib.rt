@@ -6,12 +6,6 @@ ghost use Rattle.lists.specs.Lists.{highest};
 ghost use Rattle.table.specs.Checks.{Places};
 ghost use Rattle.live.specs.Live.{Noted, Forgot, Raised, found};
 
-#[derive(Drop)]
-pub enum Found {
-    At(usize),
-    Nothing,
-}
-
 // check j, the weight places of t from at, becomes live
 pub fn note(count: &mut [u16], names: &mut [u16], t: &[u16], at: usize, weight: usize, j: u16)
     requires places { Places t.now at weight (length count.old) }
@@ -22,12 +16,12 @@ pub fn note(count: &mut [u16], names: &mut [u16], t: &[u16], at: usize, weight: 
 {
     for i in 0..weight {
         let p = usize::from(t[at + i]);
-        count[p] = count[p] + 1;
-        names[p] = names[p] ^ j;
+        count[p] += 1;
+        names[p] ^= j;
     }
 }
 
-// check j is no longer live
+// check j is no longer live; one function for this and note would take a closure, and clauses on it longer than these lines
 pub fn forget(count: &mut [u16], names: &mut [u16], t: &[u16], at: usize, weight: usize, j: u16)
     requires places { Places t.now at weight (length count.old) }
     requires names { length count.old ≤ length names.old }
@@ -37,26 +31,22 @@ pub fn forget(count: &mut [u16], names: &mut [u16], t: &[u16], at: usize, weight
 {
     for i in 0..weight {
         let p = usize::from(t[at + i]);
-        count[p] = count[p] - 1;
-        names[p] = names[p] ^ j;
+        count[p] -= 1;
+        names[p] ^= j;
     }
 }
 
 // the highest place below n in exactly one live check
-pub fn single(count: &[u16], n: usize) -> Found
+pub fn single(count: &[u16], n: usize) -> Option<usize>
     requires { n ≤ length count.now }
     ensures { result ≡ found (highest n (λ p. eqb (get_or count.now p 0) 1)) }
 {
-    let mut p = n;
-    loop {
-        if p == 0 {
-            break Found::Nothing;
-        }
-        p -= 1;
+    for p in (0..n).rev() {
         if count[p] == 1 {
-            break Found::At(p);
+            return Some(p);
         }
     }
+    None
 }
 
 // top, raised above each of the weight places of t from at that lies in exactly one live check
@@ -69,9 +59,7 @@ pub fn raise(count: &[u16], t: &[u16], at: usize, weight: usize, top: usize) -> 
     for i in 0..weight {
         let p = usize::from(t[at + i]);
         if count[p] == 1 {
-            if r <= p {
-                r = p + 1;
-            }
+            r = r.max(p + 1);
         }
     }
     r

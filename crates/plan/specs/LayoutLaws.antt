@@ -202,6 +202,10 @@ not-refused w h = by_bool (well_formed w) (λ e. e) (λ e. let z : ◌≡◌ {A 
 pub well : (w : List ℕ) → plan_refusal w ≡ 0 → Formed w
 well w h = formed w (not-refused w h)
 
+-- the steps of a well-formed plan start within it
+pub steps_within : (w : List ℕ) → plan_refusal w ≡ 0 → steps_at w ≤ length w
+steps_within w h = let c = (well w h).counts in omega arith
+
 pub refused : (w : List ℕ) → (plan_refusal w ≡ 0 → ⊥) → plan_refusal w ≡ 9
 refused w h = by_bool (well_formed w) (λ e. absurd (h (rw e))) (λ e. rw e)
 

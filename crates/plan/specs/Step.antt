@@ -2,8 +2,8 @@
 -- kind 1 is add".
 use Rattle.std.specs.Prelude.{List, [], ◌∷◌, ℕ, zero, suc, ◌+◌, ◌*◌, ◌/◌, ◌%◌, ◌<◌}
 use Rattle.std.proofs.Math.Option.{Option, none, some}
-use Rattle.plan.specs.declared.Decoded.{Decoded}
-use Rattle.plan.specs.declared.Decoded.TheVariants.{Valid, Invalid}
+use Rattle.std.specs.declared.option.Option.{Option as Optional}
+use Rattle.std.specs.declared.option.Option.TheVariants.{Some, None}
 use Rattle.plan.specs.declared.Step.{Step}
 use Rattle.plan.specs.declared.Step.TheVariants.{Clear, Add}
 
@@ -34,9 +34,9 @@ add_steps (Clear to ∷ xs) = add_steps xs
 add_steps (Add to from ∷ xs) = suc (add_steps xs)
 
 -- a step as code has it, or none
-abbrev pub decoded_of : Option Step → Decoded
-decoded_of none = Invalid
-decoded_of (some x) = Valid x
+abbrev pub decoded_of : Option Step → Optional Step
+decoded_of none = None
+decoded_of (some x) = Some x
 
 -- the slots of a step are below k; below 4,096 they can be packed
 abbrev pub SlotsBelow : ℕ → Step → Type 0

@@ -5,21 +5,18 @@ ghost use Rattle.std.specs.Prelude.{◌≡◌, ◌+◌, ◌*◌, ◌<◌, ◌≤
 ghost use Rattle.lists.specs.Lists.{written};
 ghost use Rattle.plan.specs.Head.{HeadFits};
 ghost use Rattle.plan.specs.Layout.{least_numbers, plan_head, plan_places, plan_gap, plan_kept};
-ghost use Rattle.plan.specs.Layout.{info_at, info_count, info_in, step_count, steps_at};
+ghost use Rattle.plan.specs.Layout.{info_at, info_count, info_in, step_count, steps_at, steps_in};
 ghost use Rattle.plan.specs.Step.{SlotsBelow, pack, unpack, decoded_of};
 
+mod formed;
+
+pub use formed::Plan;
+
 // clears a slot, or adds one slot into another: Add(to, from)
-#[derive(Clone, Copy)]
+#[derive(Clone, Copy, Debug, PartialEq, Eq)]
 pub enum Step {
     Clear(usize),
     Add(usize, usize),
-}
-
-// what a plan number is decoded to
-#[derive(Drop)]
-pub enum Decoded {
-    Valid(Step),
-    Invalid,
 }
 
 impl Step {
@@ -46,19 +43,19 @@ impl Step {
     }
 
     // the step of a plan number, if it is one
-    pub fn unpack(word: u32) -> Decoded
+    pub fn unpack(word: u32) -> Option<Step>
         ensures { result ≡ decoded_of (unpack word) }
     {
         let kind = word / Step::KIND;
         let to = (word / Step::SLOT % Step::SLOT) as usize;
         let from = (word % Step::SLOT) as usize;
         if kind == Step::ADD {
-            return Decoded::Valid(Step::Add(to, from));
+            return Some(Step::Add(to, from));
         }
         if kind == 0 && from == 0 {
-            return Decoded::Valid(Step::Clear(to));
+            return Some(Step::Clear(to));
         }
-        Decoded::Invalid
+        None
     }
 }
 
@@ -74,12 +71,6 @@ const INFO_AT: usize = INFO_COUNT_AT + 1;
 
 // the numbers of a plan of no information places and no steps
 pub const LEAST_NUMBERS: usize = INFO_AT + 1;
-
-pub fn wide(x: u32) -> usize
-    ensures { result ≡ x }
-{
-    x as usize
-}
 
 // ---- writing
 // the first section: n, g and M behind their count
@@ -98,35 +89,35 @@ pub fn places(w: &[u32]) -> usize
     requires { least_numbers ≤ length w.now }
     ensures { result ≡ plan_places w.now }
 {
-    wide(w[1])
+    w[1] as usize
 }
 
 pub fn gap(w: &[u32]) -> usize
     requires { least_numbers ≤ length w.now }
     ensures { result ≡ plan_gap w.now }
 {
-    wide(w[2])
+    w[2] as usize
 }
 
 pub fn kept(w: &[u32]) -> usize
     requires { least_numbers ≤ length w.now }
     ensures { result ≡ plan_kept w.now }
 {
-    wide(w[3])
+    w[3] as usize
 }
 
 pub fn info_count(w: &[u32]) -> usize
     requires { least_numbers ≤ length w.now }
     ensures { result ≡ info_count w.now }
 {
-    wide(w[INFO_COUNT_AT])
+    w[INFO_COUNT_AT] as usize
 }
 
 pub fn step_count(w: &[u32]) -> usize
     requires { info_at + info_count w.now < length w.now }
     ensures { result ≡ step_count w.now }
 {
-    wide(w[INFO_AT + info_count(w)])
+    w[INFO_AT + info_count(w)] as usize
 }
 
 // where the steps start
@@ -137,11 +128,29 @@ pub fn steps_at(w: &[u32]) -> usize
     LEAST_NUMBERS + info_count(w)
 }
 
+// the information places
+pub fn info(w: &[u32]) -> &[u32]
+    requires { steps_at w.now ≤ length w.now }
+    ensures { result.now ≡ info_in w.now }
+{
+    let end = INFO_AT + info_count(w);
+    &w[INFO_AT..end]
+}
+
+// the steps' numbers
+pub fn steps(w: &[u32]) -> &[u32]
+    requires { steps_at w.now ≤ length w.now }
+    ensures { result.now ≡ steps_in w.now }
+{
+    let at = steps_at(w);
+    &w[at..]
+}
+
 // the k-th information place
 pub fn info_place(w: &[u32], k: usize) -> usize
     requires number { k < info_count w.now }
     requires places { info_at + info_count w.now ≤ length w.now }
     ensures { result ≡ get_or (info_in w.now) k 0 }
 {
-    wide(w[INFO_AT + k])
+    w[INFO_AT + k] as usize
 }

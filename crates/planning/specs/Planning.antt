@@ -9,6 +9,10 @@ pub use Rattle.plan.specs.Layout.{least_plan}
 use Rattle.rule.specs.PlanOf.{with_numbers}
 unfoldable pub use Rattle.rule.specs.PlanOf.{plan_of_by, numbers_by}
 pub use Rattle.rule.specs.PlanOf.{plan_of, numbers_of}
+use Rattle.std.specs.declared.result.Result.{Result}
+use Rattle.std.specs.declared.result.Result.TheVariants.{Ok, Err}
+use Rattle.refusals.specs.declared.Refusal.{Refusal}
+use Rattle.refusals.specs.Refusals.{number_of}
 use Rattle.planning.specs.declared.Planned.{Planned}
 
 -- 5: a plan buffer too short, or work of wrong length
@@ -50,9 +54,10 @@ planning_answer_at zero t = record {
 planning_answer_at (suc r) t = refused_by (suc r)
 
 -- what the code answers
-abbrev pub planning_answer_of : Planned → PlanningAnswer
-planning_answer_of p = record {
-  refusal = p.refusal;
+abbrev pub planning_answer_of : Result Planned Refusal → PlanningAnswer
+planning_answer_of (Err r) = refused_by (number_of r)
+planning_answer_of (Ok p) = record {
+  refusal = 0;
   length = p.length;
   kept = p.kept;
   ones = p.ones;

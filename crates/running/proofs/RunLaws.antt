@@ -7,6 +7,7 @@ use Prim.Native.Nat.{ℕ, suc, ◌+◌, ◌*◌, ◌<◌, ◌≤◌}
 use native.Mathlib.Omega.{arith}
 use lib.ListN.{length, get_or, take, drop, length-set, length-take, length-drop, length-map, get_or-map}
 use lib.Seq.{take-suc, take-add, ext_get_or, get_or-take, get_or-drop, length-take-le}
+use mir.Val.{bool_byte}
 use Rattle.plan.specs.declared.Step.{Step}
 use Rattle.plan.specs.declared.Step.TheVariants.{Clear, Add}
 use Rattle.plan.specs.Layout.{plan_places, plan_gap, info_in, slots, step_count, steps_at, steps_of}
@@ -70,6 +71,11 @@ pub record Found (w : List ℕ) (at i : ℕ) (x : Step) (to : ℕ) (fresh : Bool
 pub found : (w : List ℕ) (at i : ℕ) {x : Step} {to : ℕ} {fresh : Bool} {d : ℕ} → x ≡ step_in (unpack (get_or w (at + i) 0)) → to ≡ target_of x → fresh ≡ is_clear x
     → d ≡ cond fresh 1 0 → Found w at i x to fresh d
 found w at i a b c e = record { step = a; target = b; clear = c; skip = e }
+
+-- a bool as a number
+pub bool-number : (b : Bool) → bool_byte b ≡ cond b 1 0
+bool-number true = refl
+bool-number false = refl
 
 pub skip-most : (fresh : Bool) → cond fresh 1 0 ≤ 1
 skip-most true = omega arith

@@ -6,6 +6,9 @@ ghost use Rattle.std.specs.Prelude.{◌≡◌, ◌+◌, ◌≤◌, ◌<◌, leng
 ghost use Rattle.slots.specs.Runs.{sources_of, RunAt, Listed};
 ghost use Rattle.slots.specs.Slots.{RunIn, Gathers};
 
+// A run's slot and whether it is cleared, and the slots' n, s, block and scratch, are handed on one by one: a struct of lent buffers
+// is no plainer, since contracts say of each what it holds before and after.
+
 // ---- a run whose sources are listed
 
 // The bytes of slot to from off on, as many as acc has, become what the run gives; acc is zero.
@@ -31,8 +34,8 @@ fn run_part(
     slots::put_part(acc, to, off, n, s, block, scratch);
 }
 
-// The same for 128 bytes.
-fn run_big(
+// The same for N bytes.
+fn run_chunk<const N: usize>(
     sources: &[u16],
     to: usize,
     fresh: bool,
@@ -43,31 +46,11 @@ fn run_big(
     scratch: &mut [u8],
 )
     requires slots { RunIn n s (length block.old) (length scratch.old) to sources.now }
-    requires room { off + 128 ≤ s }
-    ensures { Gathers n s fresh to sources.now off (off + 128)
+    requires room { off + N ≤ s }
+    ensures { Gathers n s fresh to sources.now off (off + N)
         block.old scratch.old block.new scratch.new }
 {
-    let mut acc = [0u8; 128];
-    run_part(&mut acc, sources, to, fresh, off, n, s, block, scratch);
-}
-
-// The same for 64 bytes.
-fn run_chunk(
-    sources: &[u16],
-    to: usize,
-    fresh: bool,
-    off: usize,
-    n: usize,
-    s: usize,
-    block: &mut [u8],
-    scratch: &mut [u8],
-)
-    requires slots { RunIn n s (length block.old) (length scratch.old) to sources.now }
-    requires room { off + 64 ≤ s }
-    ensures { Gathers n s fresh to sources.now off (off + 64)
-        block.old scratch.old block.new scratch.new }
-{
-    let mut acc = [0u8; 64];
+    let mut acc = [0u8; N];
     run_part(&mut acc, sources, to, fresh, off, n, s, block, scratch);
 }
 
@@ -110,11 +93,11 @@ fn add_rest(
 {
     let mut off = 64;
     while 128 <= s - off {
-        run_big(sources, to, fresh, off, n, s, block, scratch);
+        run_chunk::<128>(sources, to, fresh, off, n, s, block, scratch);
         off += 128;
     }
     while 64 <= s - off {
-        run_chunk(sources, to, fresh, off, n, s, block, scratch);
+        run_chunk::<64>(sources, to, fresh, off, n, s, block, scratch);
         off += 64;
     }
     if off == s {
@@ -175,18 +158,9 @@ pub fn add_run(
         block.old scratch.old block.new scratch.new }
 {
     if s < 64 {
-        let mut none = [0u8; 1];
+        let mut none = [0u8; 0];
         let count = slots::collect(
-            &mut none[..0],
-            plan,
-            first,
-            end,
-            to,
-            sources,
-            n,
-            s,
-            block,
-            scratch,
+            &mut none, plan, first, end, to, sources, n, s, block, scratch,
         );
         run_rest(&sources[..count], to, fresh, 0, n, s, block, scratch);
         return count;

@@ -10,7 +10,7 @@ use lib.Dec.{eqb}
 use lib.ListN.{length, get_or, take, drop, length-drop}
 use lib.Seq.{take-suc, drop-cons}
 use Rattle.lists.specs.Tests.{by_bool}
-use Rattle.plan.specs.declared.Decoded.TheVariants.{Valid, Invalid}
+use Rattle.std.specs.declared.option.Option.TheVariants.{Some, None}
 use Rattle.plan.specs.declared.Step.{Step}
 use Rattle.plan.specs.declared.Step.TheVariants.{Clear, Add}
 use Rattle.plan.specs.Step.{unpack, decoded_of}
@@ -19,11 +19,11 @@ use Rattle.slots.specs.RunLaws.{sources_next, sources-past}
 use Rattle.slots.specs.Runs.{no_slot, step_in, source_into, source_before, sources_of}
 
 -- ---- what decoding tells
-pub decoded-valid : (o : Option Step) (x : Step) → decoded_of o ≡ Valid x → x ≡ step_in o
+pub decoded-valid : (o : Option Step) (x : Step) → decoded_of o ≡ Some x → x ≡ step_in o
 decoded-valid none x h = absurd (let z : ◌≡◌ {A = ℕ} 0 1 = cc in omega arith)
 decoded-valid (some y) x h = cc
 
-pub decoded-invalid : (o : Option Step) → decoded_of o ≡ Invalid → Clear 0 ≡ step_in o
+pub decoded-invalid : (o : Option Step) → decoded_of o ≡ None → Clear 0 ≡ step_in o
 decoded-invalid none h = refl
 decoded-invalid (some y) h = absurd (let z : ◌≡◌ {A = ℕ} 0 1 = cc in omega arith)
 

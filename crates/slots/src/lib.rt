@@ -1,15 +1,12 @@
 // The slots of an encoding in block and scratch, steps as they are decoded, and parts of slots: added, and put back.
 #![tactic(auto)]
 
-ghost use Rattle.std.specs.Prelude.{◌≡◌, ◌+◌, ◌≤◌, length};
+ghost use Rattle.std.specs.Prelude.{◌≡◌, ◌+◌, ◌<◌, ◌≤◌, length, unwrap_or, IfSome};
 ghost use Rattle.plan.specs.Step.{unpack};
-ghost use Rattle.slots.specs.Runs.{step_in, is_clear, target_of, source_into, sources_of, RunAt, Listed};
+ghost use Rattle.slots.specs.Runs.{no_slot, step_in, is_clear, target_of, source_into, sources_of, RunAt, Listed};
 ghost use Rattle.slots.specs.Slots.{SlotIn, SlotsIn, PartAdded, PartsAdded, PartPut, BaseAdded};
 
-use plan::{Decoded, Step};
-
-// A number that is no slot's.
-const NO_SLOT: usize = Step::SLOT as usize;
+use plan::Step;
 
 // ---- steps
 
@@ -17,19 +14,13 @@ const NO_SLOT: usize = Step::SLOT as usize;
 pub fn decode(word: u32) -> Step
     ensures { result ≡ step_in (unpack word) }
 {
-    match Step::unpack(word) {
-        Decoded::Valid(x) => x,
-        Decoded::Invalid => Step::Clear(0),
-    }
+    Step::unpack(word).unwrap_or(Step::Clear(0))
 }
 
 pub fn is_clear(x: Step) -> bool
     ensures { result ≡ is_clear x }
 {
-    match x {
-        Step::Clear(_) => true,
-        Step::Add(_, _) => false,
-    }
+    matches!(x, Step::Clear(_))
 }
 
 // The slot that a step writes.
@@ -37,23 +28,18 @@ pub fn target(x: Step) -> usize
     ensures { result ≡ target_of x }
 {
     match x {
-        Step::Clear(to) => to,
-        Step::Add(to, _) => to,
+        Step::Clear(to) | Step::Add(to, _) => to,
     }
 }
 
-// The slot that it adds into slot to; NO_SLOT if it adds nothing there.
-fn source_into(x: Step, to: usize) -> usize
-    ensures { result ≡ source_into x to }
+// The slot that the step of a plan number adds into slot to, if it does.
+fn source_into(word: u32, to: usize) -> Option<usize>
+    ensures source { unwrap_or result no_slot ≡ source_into (step_in (unpack word)) to }
+    ensures slot { IfSome result (λ f. f < no_slot) }
 {
-    match x {
-        Step::Clear(_) => NO_SLOT,
-        Step::Add(t, from) => {
-            if t == to {
-                return from;
-            }
-            NO_SLOT
-        }
+    match Step::unpack(word) {
+        Some(Step::Add(t, from)) if t == to => Some(from),
+        _ => None,
     }
 }
 
@@ -87,8 +73,8 @@ pub fn add_sources(
     requires room { off + length acc.old ≤ s }
     ensures { PartsAdded n s sources.now off block.now scratch.now acc.old acc.new }
 {
-    for m in 0..sources.len() {
-        add_part(acc, usize::from(sources[m]), off, n, s, block, scratch);
+    for from in sources {
+        add_part(acc, usize::from(*from), off, n, s, block, scratch);
     }
 }
 
@@ -114,7 +100,8 @@ pub fn put_part(
     }
 }
 
-// What a run starts from is added into acc: the bytes of slot to, none after a clear.
+// What a run starts from is added into acc: the bytes of slot to, none after a clear. Whether there is a clear is read from the
+// plan's number, so it is a bool and no step of the caller's.
 pub fn add_base(
     acc: &mut [u8],
     to: usize,
@@ -158,15 +145,12 @@ pub fn collect(
         block.now scratch.now acc.old acc.new }
 {
     let most = end - first;
-    let mut count = 0;
-    while count < most {
-        let from = source_into(decode(plan[first + count]), to);
-        if from >= NO_SLOT {
+    for count in 0..most {
+        let Some(from) = source_into(plan[first + count], to) else {
             return count;
-        }
+        };
         sources[count] = from as u16;
         add_part(acc, from, 0, n, s, block, scratch);
-        count += 1;
     }
-    count
+    most
 }

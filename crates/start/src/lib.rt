@@ -4,13 +4,13 @@
 
 ghost use Rattle.std.specs.Prelude.{◌≡◌, List, [], ◌∷◌, ◌+◌, ◌*◌, ◌≤◌, length, take};
 ghost use Rattle.plan.specs.declared.Step.{Step as StepValue};
-ghost use Rattle.plan.specs.Layout.{plan_places, info_count, slots, step_count, steps_of, plan_refusal};
+ghost use Rattle.plan.specs.Layout.{plan_places, info_count, slots, step_count, steps_of};
 ghost use Rattle.plan.specs.Step.{SlotsBelow};
 ghost use Rattle.start.specs.Kept.{InformationKept};
 ghost use Rattle.start.specs.Start.{Lent, Marked, MarkedOnly, Alike, GapCleared, GapsCleared, ClearedFor};
 
 use limits::MOST_SLOTS;
-use plan::Step;
+use plan::{Plan, Step};
 
 // ---- marks: slots that need no clearing
 
@@ -31,18 +31,15 @@ fn mark_step(x: Step, marks: &mut [u8])
 }
 
 // For the plan's first steps, from the last of them to the first.
-fn mark_cleared(plan: &[u32], steps: usize, marks: &mut [u8])
-    requires formed { plan_refusal plan.now ≡ 0 }
-    requires steps { steps ≤ step_count plan.now }
-    requires room { slots plan.now ≤ length marks.old }
+fn mark_cleared(plan: &Plan, steps: usize, marks: &mut [u8])
+    requires steps { steps ≤ step_count plan.now.words.now }
+    requires room { slots plan.now.words.now ≤ length marks.old }
     requires none { Marked [] marks.old }
-    ensures { Marked (take steps (steps_of plan.now)) marks.new }
+    ensures { Marked (take steps (steps_of plan.now.words.now)) marks.new }
 {
-    let at = plan::steps_at(plan);
-    let mut i = steps;
-    while 0 < i {
-        i -= 1;
-        mark_step(slots::decode(plan[at + i]), marks);
+    let at = plan.steps_at();
+    for i in (0..steps).rev() {
+        mark_step(slots::decode(plan.words[at + i]), marks);
     }
 }
 
@@ -50,12 +47,11 @@ fn mark_cleared(plan: &[u32], steps: usize, marks: &mut [u8])
 const LONG: usize = 512;
 
 // Marks for the clearing of slots of s bytes.
-fn mark_slots(plan: &[u32], s: usize, steps: usize, marks: &mut [u8])
-    requires formed { plan_refusal plan.now ≡ 0 }
-    requires steps { steps ≤ step_count plan.now }
-    requires room { slots plan.now ≤ length marks.old }
+fn mark_slots(plan: &Plan, s: usize, steps: usize, marks: &mut [u8])
+    requires steps { steps ≤ step_count plan.now.words.now }
+    requires room { slots plan.now.words.now ≤ length marks.old }
     requires none { Marked [] marks.old }
-    ensures { MarkedOnly (take steps (steps_of plan.now)) marks.new }
+    ensures { MarkedOnly (take steps (steps_of plan.now.words.now)) marks.new }
 {
     if LONG <= s {
         mark_cleared(plan, steps, marks);
@@ -68,14 +64,12 @@ fn past(marks: &[u8], marked: bool, first: usize, i: usize, high: usize) -> usiz
         × (first + high ≤ length marks.now) }
     ensures { Alike marks.now marked first i high result }
 {
-    let mut r = i;
-    while r < high {
+    for r in i..high {
         if (marks[first + r] == 1) != marked {
             return r;
         }
-        r += 1;
     }
-    r
+    high
 }
 
 // ---- clearing
@@ -112,16 +106,14 @@ fn clear_gap(b: &mut [u8], marks: &[u8], first: usize, low: usize, high: usize, 
 
 // The gaps before and between the information places become zero, but for packets that have a mark. The place behind the last
 // of them, 0 if there is none.
-fn clear_gaps(plan: &[u32], s: usize, marks: &[u8], block: &mut [u8]) -> usize
-    requires formed { plan_refusal plan.now ≡ 0 }
-    requires marks { slots plan.now ≤ length marks.now }
-    requires block { length block.old ≡ plan_places plan.now * s }
-    ensures { GapsCleared plan.now marks.now s (info_count plan.now) result block.old block.new }
+fn clear_gaps(plan: &Plan, s: usize, marks: &[u8], block: &mut [u8]) -> usize
+    requires marks { slots plan.now.words.now ≤ length marks.now }
+    requires block { length block.old ≡ plan_places plan.now.words.now * s }
+    ensures { GapsCleared plan.now.words.now marks.now s (info_count plan.now.words.now) result block.old block.new }
 {
-    let count = plan::info_count(plan);
     let mut low = 0;
-    for i in 0..count {
-        let place = plan::info_place(plan, i);
+    for place in plan.info() {
+        let place = *place as usize;
         clear_gap(block, marks, 0, low, place, s);
         low = place + 1;
     }
@@ -129,14 +121,14 @@ fn clear_gaps(plan: &[u32], s: usize, marks: &[u8], block: &mut [u8]) -> usize
 }
 
 // Every slot becomes zero, but the information places, which stay, and some that the plan's first steps clear first.
-pub fn clear_others(plan: &[u32], s: usize, steps: usize, block: &mut [u8], scratch: &mut [u8])
-    requires lent { Lent plan.now s (length block.old) (length scratch.old) }
-    requires steps { steps ≤ step_count plan.now }
-    ensures cleared { ClearedFor plan.now s (take steps (steps_of plan.now)) block.new scratch.new }
-    ensures keeps { InformationKept plan.now s block.old block.new }
+pub fn clear_others(plan: &Plan, s: usize, steps: usize, block: &mut [u8], scratch: &mut [u8])
+    requires lent { Lent plan.now.words.now s (length block.old) (length scratch.old) }
+    requires steps { steps ≤ step_count plan.now.words.now }
+    ensures cleared { ClearedFor plan.now.words.now s (take steps (steps_of plan.now.words.now)) block.new scratch.new }
+    ensures keeps { InformationKept plan.now.words.now s block.old block.new }
 {
-    let n = plan::places(plan);
-    let g = plan::gap(plan);
+    let n = plan.places();
+    let g = plan.gap();
     let mut marks = [0u8; MOST_SLOTS];
     mark_slots(plan, s, steps, &mut marks);
     let low = clear_gaps(plan, s, &marks, block);

@@ -1,19 +1,8 @@
 -- `start::clear_gap` meets its contract: by the runs without a mark, as one run, or nothing is to be cleared.
+use Rattle.std.proofs.Common.{arith}
 use Rattle.start.specs.RunBytes.{run-bytes}
 use Rattle.start.proofs.ClearLaws.{gap-none, gap_more}
-use mathlib.Core.Path.{◌≡◌}
-use native.Mathlib.Nat.{mul-le-mul_right}
-use native.Mathlib.Omega.{arith}
 use Rattle.start.proofs.clear_gap.Goals as goal
-
-pub overflow_mul-low : goal.overflow_mul-low
-overflow_mul-low c = let p = c.requires in let m = mul-le-mul_right c.args.s p.order in omega (arith, p.bytes)
-
-pub overflow_sub-high : goal.overflow_sub-high
-overflow_sub-high c = c.requires.order
-
-pub overflow_mul-high : goal.overflow_mul-high
-overflow_mul-high c = let a = c.args in let p = c.requires in omega (arith, run-bytes a.low a.high a.high a.s p.order (omega arith), p.bytes)
 
 pub clear-requires : goal.clear-requires
 clear-requires c = let a = c.args in let p = c.requires in omega (arith, run-bytes a.low a.high a.high a.s p.order (omega arith), p.bytes)
@@ -24,8 +13,3 @@ returns-then-low-high c =
     rw c.clear.ensures
     (gap_more a.marks.now a.s a.first a.low a.low a.low a.high a.b.now a.b.now (omega arith) (omega arith) p.order p.bytes (λ q h g. absurd (omega arith))
     (gap-none a.marks.now a.s a.first a.low a.b.now))
-
-pub returns-else-low-high : goal.returns-else-low-high
-returns-else-low-high c =
-    let a = c.args in let p = c.requires in let e : a.low ≡ a.high = omega (arith, p.order) in
-    rw (← e) (gap-none a.marks.now a.s a.first a.low a.b.now)

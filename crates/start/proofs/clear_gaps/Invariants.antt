@@ -1,13 +1,6 @@
--- `start::clear_gaps` meets its contract: the gaps before the first i information places are done.
-use Prim.Native.Nat.{◌-◌, ◌≤◌}
-use mathlib.Core.Path.{◌≡◌}
-use lib.ListN.{length}
+-- `start::clear_gaps` meets its contract: the gaps before the information places that are passed are done.
 use Rattle.start.specs.Start.{GapsCleared}
 use Rattle.start.proofs.clear_gaps.Given as goal
 
-abbrev pub invariant-loop-i : goal.invariant-loop-i
-invariant-loop-i l =
-    GapsCleared l.plan l.marks l.s l.i l.low l.initial.block l.block × (l.i ≤ l.count) × (length l.block ≡ length l.initial.block)
-
-abbrev pub decreases-loop-i : goal.decreases-loop-i
-decreases-loop-i l = l.count - l.i
+abbrev pub invariant-loop-place : goal.invariant-loop-place
+invariant-loop-place l = GapsCleared l.plan.words.now l.marks l.s l.place-index l.low l.initial.block l.block
