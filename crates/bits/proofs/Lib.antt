@@ -1,3 +1,3 @@
 pub mod Words
-pub mod Highest
+pub mod TopWord
 pub mod Loading

@@ -3,10 +3,9 @@ use mathlib.Core.Path.{◌≡◌, sym, ap, ap₂, ◌∙◌}
 use mathlib.Core.List.{List, [], ◌∷◌}
 use Prim.Native.Nat.{ℕ, ◌+◌, ◌^◌, ◌<◌}
 use native.Mathlib.Numerals.{add-one}
-use native.Mathlib.Omega.{arith}
 use lib.Bits.{bit_xor, xor_zero_r}
-use lib.ListN.{length, get_or, take, drop, length-drop}
-use lib.Seq.{take-suc, get_or-drop}
+use lib.ListN.{length, get_or, take}
+use lib.Seq.{take-suc}
 use Rattle.gf2.specs.Gf2.{xor_group, row_of}
 use Rattle.gf2.specs.Group.{sum_over-append}
 use Rattle.bits.specs.Row.{row, RowPut}
@@ -17,8 +16,6 @@ row_more l i h = ap row_of (ap (λ (k : ℕ). take k l) (add-one i) ∙ take-suc
     ∙ sum_over-append xor_group (λ (p : ℕ). 2 ^ p) (take i l) (get_or l i 0 ∷ [])
     ∙ ap (bit_xor (row_of (take i l))) (xor_zero_r (2 ^ get_or l i 0))
 
-pub load-turn : {w e f : List ℕ} {r : ℕ} (t : List ℕ) (at i p : ℕ) → at + i < length t → p ≡ get_or t (at + i) 0
-    → RowPut w r (row_of (take i (drop at t))) e → RowPut e r (bit_xor (row e r) (2 ^ p)) f → RowPut w r (row_of (take (i + 1) (drop at t))) f
-load-turn t at i p h q d s =
-    let l : i < length (drop at t) = simp length-drop (omega arith) in
-    put_is (put-put d s) (ap₂ (λ (x y : ℕ). bit_xor x (2 ^ y)) d.here (q ∙ sym (get_or-drop at t i 0)) ∙ sym (row_more (drop at t) i l))
+pub load-turn : {w e f : List ℕ} {r : ℕ} (l : List ℕ) (i p : ℕ) → i < length l → p ≡ get_or l i 0
+    → RowPut w r (row_of (take i l)) e → RowPut e r (bit_xor (row e r) (2 ^ p)) f → RowPut w r (row_of (take (i + 1) l)) f
+load-turn l i p h q d s = put_is (put-put d s) (ap₂ (λ (x y : ℕ). bit_xor x (2 ^ y)) d.here q ∙ sym (row_more l i h))

@@ -1,12 +1,16 @@
 -- Words and the number they make: words added, a bit flipped, and a loop over the words of a row.
 use mathlib.Core.Path.{◌≡◌, refl, sym, ap, ap₂, ◌∙◌}
-use mathlib.Core.List.{List}
-use Prim.Native.Nat.{ℕ, zero, suc, ◌+◌, ◌*◌, ◌/◌, ◌%◌, ◌^◌, ◌<◌, ◌≤◌}
+use mathlib.Core.List.{List, ◌++◌}
+use Prim.Native.Nat.{ℕ, zero, suc, ◌+◌, ◌*◌, ◌-◌, ◌/◌, ◌%◌, ◌^◌, ◌<◌, ◌≤◌}
 use native.Mathlib.Nat.{mod-lt, suc-mul, zero-mul, mod-eq_of_lt, one-mul}
 use native.Mathlib.Omega.{arith}
 use lib.Bits.{bit_xor, xor_block, xor_mod, xor_zero_r}
-use lib.Dec.{lit<}
-use lib.ListN.{length, get_or, set, length-set}
+use lib.Dec.{lit<, ltb}
+use lib.ListN.{length, get_or, set, take, drop, length-set, length-append, length-drop, replicate}
+use borrow.Rule.Slice.PartMut.{put_mid}
+use borrow.Author.Tests.{ltb-true, ltb-false}
+use Rattle.lists.specs.Tests.{by_bool}
+use Rattle.std.proofs.lemmas.List.{length-replicate, length-take-le, get_or-replicate, get_or_append_left, get_or-append_right, get_or-take, get_or-drop}
 use lib.Pow.{pow_pos, pow-add, pow-lt, shl_exact}
 use lib.Seq.{get_or-set_same, get_or-set_other}
 use borrow.Author.Count.{below_more}
@@ -107,8 +111,45 @@ wrote-row {w} {r} {f} {e} d = record {
   rest = λ j n. d.rest j (λ a b. n a);
 }
 
-pub cleared : {w : List ℕ} {r : ℕ} {e : List ℕ} → Wrote w r (λ _. 0) 16 e → RowPut w r 0 e
-cleared d = put_is (wrote-row d) (num-zero 64 (λ _. 0) 16 (λ j h. refl))
+-- a row of zeros written
+module _ (w ys : List ℕ) (r k n : ℕ) (room : r * 16 + 16 ≤ length w) (a : k ≡ 16) (b : n ≡ 16) (z : ys ≡ replicate n 0) where
+  front : length (take (r * 16) w) ≡ r * 16
+  front = length-take-le (r * 16) w (omega arith)
+
+  many : length ys ≡ 16
+  many = ap length z ∙ length-replicate n 0 ∙ b
+
+  abbrev put : List ℕ
+  put = put_mid (r * 16) k w ys
+
+  put_length : length put ≡ length w
+  put_length = simp (length-append, length-drop, front, many) (omega arith)
+
+  zero-at : (j : ℕ) → j < 16 → get_or put (r * 16 + j) 0 ≡ 0
+  zero-at j h = get_or-append_right (take (r * 16) w) (ys ++ drop k (drop (r * 16) w)) (r * 16) (r * 16 + j) 0 front (omega arith)
+      ∙ get_or_append_left ys (drop k (drop (r * 16) w)) 0 (r * 16 + j - r * 16) (omega (arith, many))
+      ∙ ap (λ (l : List ℕ). get_or l (r * 16 + j - r * 16) 0) z ∙ get_or-replicate n (r * 16 + j - r * 16) 0 0 (omega arith)
+
+  before : (j : ℕ) → j < r * 16 → get_or put j 0 ≡ get_or w j 0
+  before j h = get_or_append_left (take (r * 16) w) (ys ++ drop k (drop (r * 16) w)) 0 j (omega (arith, front)) ∙ get_or-take (r * 16) w j 0 h
+
+  behind : (j : ℕ) → r * 16 + 16 ≤ j → get_or put j 0 ≡ get_or w j 0
+  behind j h =
+      let i : r * 16 + (k + (j - r * 16 - 16)) ≡ j = omega arith in
+      get_or-append_right (take (r * 16) w) (ys ++ drop k (drop (r * 16) w)) (r * 16) j 0 front (omega arith)
+      ∙ get_or-append_right ys (drop k (drop (r * 16) w)) 16 (j - r * 16) 0 many (omega arith)
+      ∙ get_or-drop k (drop (r * 16) w) (j - r * 16 - 16) 0 ∙ get_or-drop (r * 16) w (k + (j - r * 16 - 16)) 0 ∙ ap (λ (v : ℕ). get_or w v 0) i
+
+  pub cleared : RowPut w r 0 put
+  cleared = put_is (wrote-row {f = λ _. 0} (record {
+    len = put_length;
+    done = zero-at;
+    rest = λ j h. by_bool (ltb j (r * 16))
+        (λ c. before j (ltb-true j (r * 16) c))
+        (λ c. let d = ltb-false j (r * 16) c in behind j (by_bool (ltb j (r * 16 + 16))
+        (λ y. let x = ltb-true j (r * 16 + 16) y in absurd (h (omega arith) (omega arith)))
+        (λ y. ltb-false j (r * 16 + 16) y)));
+  })) (num-zero 64 (λ _. 0) 16 (λ j h. refl))
 
 abbrev pub both : List ℕ → ℕ → ℕ → ℕ → ℕ
 both w a b k = bit_xor (get_or w (a * 16 + k) 0) (get_or w (b * 16 + k) 0)

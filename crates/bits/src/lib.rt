@@ -1,10 +1,10 @@
 // Rows of 16 words in a work buffer: loading, flipping, adding, the highest place.
 #![tactic(auto)]
 
-ghost use Rattle.std.specs.Prelude.{◌≡◌, ℕ, ◌+◌, ◌*◌, ◌≤◌, ◌<◌, ◌^◌, length, get_or, take, drop, replicate};
+ghost use Rattle.std.specs.Prelude.{◌≡◌, ℕ, ◌+◌, ◌*◌, ◌≤◌, ◌<◌, ◌^◌, length, get_or, take, drop};
 ghost use Rattle.std.specs.Int.Bits.{bit_xor};
 ghost use Rattle.gf2.specs.Gf2.{bit, Short, Bits, row_of};
-ghost use Rattle.bits.specs.Row.{row, places_in, RowPut};
+ghost use Rattle.bits.specs.Row.{row, places_in, above, RowPut};
 
 // place p of row r is flipped
 pub fn flip(w: &mut [u64], r: usize, p: usize)
@@ -32,8 +32,8 @@ pub fn ones_of(w: &[u64], r: usize) -> usize
         × (result ≤ 1024) }
 {
     let mut n = 0;
-    for i in 0..16 {
-        n += u64::count_ones(w[r * 16 + i]) as usize;
+    for x in &w[r * 16..r * 16 + 16] {
+        n += x.count_ones() as usize;
     }
     n
 }
@@ -43,9 +43,7 @@ pub fn clear(w: &mut [u64], r: usize)
     requires { r * 16 + 16 ≤ length w.old }
     ensures { RowPut w.old r 0 w.new }
 {
-    for i in 0..16 {
-        w[r * 16 + i] = 0;
-    }
+    w[r * 16..r * 16 + 16].fill(0);
 }
 
 // n places of t from at become row r
@@ -56,27 +54,25 @@ pub fn load(w: &mut [u64], r: usize, t: &[u16], at: usize, n: usize)
     ensures { RowPut w.old r (row_of (take n (drop at t.now))) w.new }
 {
     clear(w, r);
-    for i in 0..n {
-        flip(w, r, usize::from(t[at + i]));
+    for p in &t[at..at + n] {
+        flip(w, r, usize::from(*p));
     }
 }
 
-// one more than the highest place of row r, which has none from l on; 0 if the row is zero
-pub fn bits_of(w: &[u64], r: usize, l: usize) -> usize
+// the highest place of row r, which has none from l on
+pub fn highest(w: &[u64], r: usize, l: usize) -> Option<usize>
     requires { (r * 16 + 16 ≤ length w.now)
         × (l ≤ 1024)
         × Short l (row w.now r) }
-    ensures { Bits (row w.now r) result }
+    ensures { Bits (row w.now r) (above result) }
 {
-    let mut j = (l + 63) / 64;
-    while 0 < j {
-        j -= 1;
+    for j in (0..(l + 63) / 64).rev() {
         let x = w[r * 16 + j];
         if x != 0 {
-            return j * 64 + 64 - (u64::leading_zeros(x) as usize);
+            return Some(j * 64 + x.ilog2() as usize);
         }
     }
-    0
+    None
 }
 
 // row a, which has no place from l on, is added into row b
@@ -101,14 +97,5 @@ pub fn add_from(w: &mut [u64], b: usize, from: &[u64], a: usize)
 {
     for i in 0..16 {
         w[b * 16 + i] = from[a * 16 + i] ^ w[b * 16 + i];
-    }
-}
-
-// every word becomes zero
-pub fn clear_work(work: &mut [u64])
-    ensures { work.new ≡ replicate (length work.old) 0 }
-{
-    for i in 0..work.len() {
-        work[i] = 0;
     }
 }

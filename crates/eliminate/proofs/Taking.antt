@@ -1,18 +1,19 @@
 -- A check's parts, the list of places that are summed for its row, and its sum.
 use mathlib.Core.Path.{◌≡◌, refl, sym, ap, ap₂, ◌∙◌, subst}
-use mathlib.Core.Bool.{false, not, false≢true}
+use mathlib.Core.Bool.{not, false≢true, true≢false}
 use mathlib.Core.List.{List, [], ◌∷◌, ◌++◌, append_assoc, append-nil}
 use Prim.Native.Nat.{ℕ, zero, suc, ◌+◌, ◌-◌, ◌*◌, ◌<◌, ◌≤◌}
 use native.Mathlib.Omega.{arith}
 use lib.ListN.{length, get_or, set, take, drop, replicate, length-append, length-replicate}
 use lib.Bits.{bit_xor}
-use lib.Dec.{eqb}
 use lib.Seq.{take_at}
-use borrow.Author.Tests.{not-true, not-false}
+use Rattle.std.specs.declared.option.Option.TheVariants.{None, Some}
+use Rattle.std.specs.declared.result.Result.TheVariants.{Ok, Err}
+use Rattle.eliminate.specs.declared.Clash.{Clash}
 use Rattle.lists.specs.Buffers.{part_length}
 use Rattle.lists.specs.ListLaws.{all_append, all_filter, all_map, get_d-zeros}
 use Rattle.lists.specs.Lists.{minus, All}
-use Rattle.lists.specs.Tests.{by_bool, eqb-true, eqb-false}
+use Rattle.lists.specs.Tests.{by_bool}
 use Rattle.gf2.specs.Bit.{bit-zero}
 use Rattle.gf2.specs.EchelonLaws.{path-low, passed-skip, short-lt}
 use Rattle.gf2.specs.Gf2.{bit, is_zero, Short, Bits, xor_group, sum_over, down, path, row_of}
@@ -122,35 +123,40 @@ module _ (t : List ℕ) (at weight n s : ℕ) (lost : List ℕ) (f : ℕ → ℕ
   abbrev c : List ℕ
   c = take weight (drop at t)
 
-  pub skipped : (lost_places lost c ≡ [] → packet_sum s (packets s n b) c ≡ replicate s 0) → lost_places lost c ≡ [] → Summed s n lost c f b (record { clash = false; lead = 0 }) b
-  skipped known none = record {
-    stored = λ h. absurd (omega arith);
-    kept = λ h. refl;
-    calm = λ u v. ap (packet_sum s (packets s n b)) (summed-all lost c none f n) ∙ known none;
-    clashed = λ h. absurd (false≢true h);
-  }
+  -- nothing is left of the row, and its sum is zero
+  calm_sum : row_sum s n lost c f b ≡ replicate s 0 → Summed s n lost c f b (Ok None) b
+  calm_sum z = record { stored = λ h. absurd (omega arith); kept = λ h. refl; calm = λ u v. z; clashed = λ h. absurd (false≢true h) }
+
+  pub skipped : (lost_places lost c ≡ [] → packet_sum s (packets s n b) c ≡ replicate s 0) → lost_places lost c ≡ [] → Summed s n lost c f b (Ok None) b
+  skipped known none = calm_sum (ap (packet_sum s (packets s n b)) (summed-all lost c none f n) ∙ known none)
 
   -- the places that are summed stand in x
   module _ {x : List ℕ} {all : ℕ} (nd : Noted x all (summed_places lost c f n)) where
     -- nothing is left of the row
-    pub judged : {low : ℕ} → low ≡ lowest_nonzero (check_sum x 0 all b n s) → Summed s n lost c f b (record { clash = not (eqb low s); lead = 0 }) b
-    judged {low} e =
-        let is : low ≡ lowest_nonzero (row_sum s n lost c f b) = e ∙ ap (λ l. lowest_nonzero (packet_sum s (packets s n b) l)) nd.list in
-        record {
-          stored = λ h. absurd (omega arith);
-          kept = λ h. refl;
-          calm = λ u v. zero-sum (row_sum s n lost c f b) s (row-view n lost f (places-low places) s b bytes).0 (sym is ∙ eqb-true low s (not-false (eqb low s) u));
-          clashed = λ u. (refl, λ z. eqb-false low s (not-true (eqb low s) u) (is ∙ sum-zero (row_sum s n lost c f b) s z));
-        }
+    low-is : {low : ℕ} → low ≡ lowest_nonzero (check_sum x 0 all b n s) → low ≡ lowest_nonzero (row_sum s n lost c f b)
+    low-is e = e ∙ ap (λ l. lowest_nonzero (packet_sum s (packets s n b) l)) nd.list
+
+    pub judged-calm : {low : ℕ} → low ≡ lowest_nonzero (check_sum x 0 all b n s) → low ≡ s → Summed s n lost c f b (Ok None) b
+    judged-calm e h = calm_sum (zero-sum (row_sum s n lost c f b) s (row-view n lost f (places-low places) s b bytes).0 (sym (low-is e) ∙ h))
+
+    pub judged-clash : {low : ℕ} {clash : Clash} → low ≡ lowest_nonzero (check_sum x 0 all b n s) → (low ≡ s → ⊥) → Summed s n lost c f b (Err clash) b
+    judged-clash e h = record {
+      stored = λ u. absurd (omega arith);
+      kept = λ u. refl;
+      calm = λ u v. absurd (true≢false u);
+      clashed = λ u. (refl, λ z. h (low-is e ∙ sum-zero (row_sum s n lost c f b) s z));
+    }
 
     -- something is left
-    pub kept-sum : {l : ℕ} {b' : List ℕ} → 0 < l → b' ≡ joined (set (packets s n b) (l - 1) (others_sum x 0 all b n s n)) → Summed s n lost c f b (record { clash = false; lead = l }) b'
-    kept-sum {l} h e = record {
-      stored = λ u. e ∙ ap (λ v. joined (set (packets s n b) (l - 1) (packet_sum s (packets s n b) v))) (ap (λ v. minus v (n ∷ [])) nd.list ∙ minus-none n (summed-low n lost f (places-low places)));
-      kept = λ u. absurd (omega arith);
-      calm = λ u v. absurd (omega arith);
-      clashed = λ u. absurd (false≢true u);
-    }
+    pub kept-sum : {p : ℕ} {b' : List ℕ} → b' ≡ joined (set (packets s n b) p (others_sum x 0 all b n s n)) → Summed s n lost c f b (Ok (Some p)) b'
+    kept-sum {p} {b'} e =
+        let i : p + 1 - 1 ≡ p = omega arith in
+        record {
+          stored = λ u. e ∙ ap₂ (λ q v. joined (set (packets s n b) q (packet_sum s (packets s n b) v))) (sym i) (ap (λ v. minus v (n ∷ [])) nd.list ∙ minus-none n (summed-low n lost f (places-low places)));
+          kept = λ u. absurd (omega arith);
+          calm = λ u v. absurd (omega arith);
+          clashed = λ u. absurd (false≢true u);
+        }
 
 -- ---- reducing its row
 -- the received ones are not more than all

@@ -2,6 +2,10 @@
 -- with that row is the packet at the place.
 use Rattle.std.specs.Prelude.{◌≡◌, Bool, true, false, not, cond, List, [], ◌∷◌, ◌++◌, map, ◌≢◌, ℕ, ◌+◌, ◌-◌, ◌*◌, ◌^◌, ◌<◌, ◌≤◌, eqb, length, get_or, set, replicate}
 use Rattle.std.specs.Int.Bits.{bit_xor}
+use Rattle.std.specs.declared.option.Option.{Option}
+use Rattle.std.specs.declared.result.Result.{Result}
+use Rattle.std.specs.declared.result.Result.TheVariants.{Ok, Err}
+use Rattle.std.specs.Result.{is_err}
 use Rattle.lists.specs.Lists.{filter, All}
 use Rattle.gf2.specs.Gf2.{Bits, xor_group, is_zero, down, path}
 use Rattle.gf2.specs.Pairs.{pair_group, pairs_of}
@@ -10,11 +14,11 @@ use Rattle.table.specs.PacketLaws.{view}
 use Rattle.table.specs.Packets.{packets, joined, packet_sum}
 use Rattle.table.specs.Table.{checks}
 use Rattle.erasure.specs.Restoring.{is_lost, lost_places}
-use Rattle.bits.specs.Row.{row, RowPut}
+use Rattle.bits.specs.Row.{row, above, RowPut}
 use Rattle.rows.specs.Leads.{leads}
 use Rattle.decided.specs.Decided.{lost_row, clashes, solved_block, solved_map}
 use Rattle.decided.specs.Pairing.{byte_group, pair_of}
-use Rattle.eliminate.specs.declared.Taken.{Taken}
+use Rattle.eliminate.specs.declared.Clash.{Clash}
 
 -- ---- a check
 -- the received places of a check
@@ -29,14 +33,19 @@ summed_places lost c f n = received_places lost c ++ path f n (lost_row lost c)
 abbrev pub row_sum : ℕ → ℕ → List ℕ → List ℕ → (ℕ → ℕ) → List ℕ → List ℕ
 row_sum s n lost c f b = packet_sum s (packets s n b) (summed_places lost c f n)
 
+-- one more than the highest place left of a check's row, 0 for none
+abbrev pub lead_of : Result (Option ℕ) Clash → ℕ
+lead_of (Ok lead) = above lead
+lead_of (Err e) = 0
+
 -- what is told of a check's sum, and what is left in the block
-pub record Summed (s n : ℕ) (lost c : List ℕ) (f : ℕ → ℕ) (b : List ℕ) (r : Taken) (b' : List ℕ) : Type 0 where
+pub record Summed (s n : ℕ) (lost c : List ℕ) (f : ℕ → ℕ) (b : List ℕ) (r : Result (Option ℕ) Clash) (b' : List ℕ) : Type 0 where
   -- something is left of the row: its sum stands at its highest place
-  pub stored : 0 < r.lead → b' ≡ joined (set (packets s n b) (r.lead - 1) (row_sum s n lost c f b))
+  pub stored : 0 < lead_of r → b' ≡ joined (set (packets s n b) (lead_of r - 1) (row_sum s n lost c f b))
   -- nothing is left
-  pub kept : r.lead ≡ 0 → b' ≡ b
-  pub calm : r.clash ≡ false → r.lead ≡ 0 → row_sum s n lost c f b ≡ replicate s 0
-  pub clashed : r.clash ≡ true → (r.lead ≡ 0) × (row_sum s n lost c f b ≢ replicate s 0)
+  pub kept : lead_of r ≡ 0 → b' ≡ b
+  pub calm : is_err r ≡ false → lead_of r ≡ 0 → row_sum s n lost c f b ≡ replicate s 0
+  pub clashed : is_err r ≡ true → (lead_of r ≡ 0) × (row_sum s n lost c f b ≢ replicate s 0)
 
 -- ---- all checks
 -- every check without a lost place sums to zero

@@ -3,7 +3,7 @@
 #![tactic(auto)]
 
 ghost use Rattle.std.specs.Prelude.{◌≡◌, [], ℕ, ◌+◌, ◌*◌, ◌≤◌, length, get_or, take, drop, replicate};
-ghost use Rattle.table.specs.Accepted.{Accepted};
+ghost use Rattle.std.specs.Result.{is_ok};
 ghost use Rattle.table.specs.Checks.{Places};
 ghost use Rattle.table.specs.Packets.{packets, packet_sum};
 ghost use Rattle.erasure.specs.Restoring.{lost_places};
@@ -11,9 +11,9 @@ ghost use Rattle.bits.specs.Front.{Front};
 ghost use Rattle.bits.specs.Row.{RowPut};
 ghost use Rattle.rows.specs.Leads.{leads, Owners, Lowered};
 ghost use Rattle.decided.specs.Decided.{lost_row};
-ghost use Rattle.eliminate.specs.Eliminating.{received_places, Summed, NoneLost, Eliminated};
+ghost use Rattle.eliminate.specs.Eliminating.{received_places, lead_of, Summed, NoneLost, Eliminated};
 
-use table::{MOST_PLACES, MOST_WEIGHT};
+use table::{MOST_PLACES, MOST_WEIGHT, Table};
 
 // room for the places of a check and of all rows that reduce it
 pub const MOST_NOTED: usize = MOST_PLACES + MOST_WEIGHT;
@@ -37,113 +37,97 @@ fn part_check(
 {
     bits::clear(w, r);
     let mut k = 0;
-    for i in 0..weight {
-        let p = t[at + i];
-        let q = usize::from(p);
+    for p in &t[at..at + weight] {
+        let q = usize::from(*p);
         if map[q] == 1 {
             bits::flip(w, r, q);
         } else {
-            noted[k] = p;
+            noted[k] = *p;
             k += 1;
         }
     }
     k
 }
 
-// what a check comes to: its row vanished and its sum did not; or one more than the row's highest place, 0 if it vanished
-#[derive(Drop)]
-pub struct Taken {
-    pub clash: bool,
-    pub lead: usize,
-}
+// a row vanishes and its sum doesn't
+#[derive(Clone, Copy, Debug, PartialEq, Eq)]
+pub struct Clash;
 
 // the row of a check's lost places, reduced; if something is left of it, its sum is stored at its highest place
 fn take_check(
-    t: &[u16],
+    table: &Table,
     at: usize,
     weight: usize,
-    n: usize,
-    s: usize,
     block: &mut [u8],
     map: &[u8],
     w: &mut [u64],
     owner: &[u16],
     k: usize,
     noted: &mut [u16],
-) -> Taken
-    requires check { Places t.now at weight n
-        × (length block.old ≡ n * s)
-        × (length map.now ≡ n) }
+) -> Result<Option<usize>, Clash>
+    requires check { Places table.now.words.now at weight table.now.places
+        × (length block.old ≡ table.now.places * table.now.size)
+        × (length map.now ≡ table.now.places) }
     requires rows { (k * 16 + 16 ≤ length w.old)
-        × (n ≤ 1024)
-        × (n ≤ length owner.now)
-        × (weight + n ≤ length noted.old)
+        × (table.now.places ≤ 1024)
+        × (table.now.places ≤ length owner.now)
+        × (weight + table.now.places ≤ length noted.old)
         × Owners w.old owner.now k }
-    requires known { lost_places map.now (take weight (drop at t.now)) ≡ []
-        → packet_sum s (packets s n block.old) (take weight (drop at t.now)) ≡ replicate s 0 }
-    ensures row { Lowered w.old owner.now k n (lost_row map.now (take weight (drop at t.now))) w.new result.lead }
-    ensures sum { Summed s n map.now (take weight (drop at t.now)) (leads w.old owner.now)
+    requires known { lost_places map.now (take weight (drop at table.now.words.now)) ≡ []
+        → packet_sum table.now.size (packets table.now.size table.now.places block.old) (take weight (drop at table.now.words.now))
+        ≡ replicate table.now.size 0 }
+    ensures row { Lowered w.old owner.now k table.now.places (lost_row map.now (take weight (drop at table.now.words.now)))
+        w.new (lead_of result) }
+    ensures sum { Summed table.now.size table.now.places map.now (take weight (drop at table.now.words.now)) (leads w.old owner.now)
         block.old result block.new }
 {
-    let have = part_check(w, k, t, at, weight, map, noted);
+    let n = table.places;
+    let s = table.size;
+    let have = part_check(w, k, table.words, at, weight, map, noted);
     if have == weight {
-        return Taken {
-            clash: false,
-            lead: 0,
-        };
+        return Ok(None);
     }
     let r = rows::reduce(w, owner, k, n, &mut noted[have..]);
     let all = have + r.count;
-    let l = r.lead;
-    if l == 0 {
-        let low = sums::sum_of_check(noted, 0, all, block, n, s);
-        return Taken {
-            clash: low != s,
-            lead: 0,
-        };
+    match r.lead {
+        Some(p) => packets::restore(noted, 0, all, block, n, s, n, p),
+        None => {
+            if sums::sum_of_check(noted, 0, all, block, n, s) != s {
+                return Err(Clash);
+            }
+        }
     }
-    packets::restore(noted, 0, all, block, n, s, n, l - 1);
-    Taken {
-        clash: false,
-        lead: l,
-    }
+    Ok(r.lead)
 }
 
-// all checks, one after the other; false where a row vanishes and its sum doesn't
+// all checks, one after the other, until one clashes
 pub fn take_all(
-    t: &[u16],
-    m: usize,
-    n: usize,
-    s: usize,
+    table: &Table,
     block: &mut [u8],
     map: &[u8],
     w: &mut [u64],
     owner: &mut [u16],
-) -> bool
-    requires table { Accepted t.now m n s }
-    requires room { (length block.old ≡ n * s)
-        × (length map.now ≡ n)
-        × (m * 16 ≤ length w.old)
-        × (n ≤ length owner.old) }
+) -> Result<(), Clash>
+    requires room { (length block.old ≡ table.now.places * table.now.size)
+        × (length map.now ≡ table.now.places)
+        × (table.now.checks * 16 ≤ length w.old)
+        × (table.now.places ≤ length owner.old) }
     requires unowned { (p : ℕ) → get_or owner.old p 0 ≡ 0 }
-    requires known { NoneLost t.now n s block.old map.now }
-    ensures { Eliminated t.now n s block.old map.now result w.new owner.new block.new }
+    requires known { NoneLost table.now.words.now table.now.places table.now.size block.old map.now }
+    ensures { Eliminated table.now.words.now table.now.places table.now.size block.old map.now (is_ok result)
+        w.new owner.new block.new }
 {
+    let t = table.words;
     let mut noted = [0u16; MOST_NOTED];
     let mut k = 0;
-    let mut at = 5 + m;
-    for i in 0..m {
+    let mut at = 5 + table.checks;
+    for i in 0..table.checks {
         let weight = usize::from(t[4 + i]);
-        let r = take_check(t, at, weight, n, s, block, map, w, owner, k, &mut noted);
-        if r.clash {
-            return false;
-        }
-        let l = r.lead;
-        if 0 < l {
-            owner[l - 1] = (k + 1) as u16;
+        if let Some(p) = take_check(table, at, weight, block, map, w, owner, k, &mut noted)? {
+            owner[p] = (k + 1) as u16;
             k += 1;
         }
         at += weight;
     }
-    true
+    Ok(())
 }

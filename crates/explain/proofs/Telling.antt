@@ -1,6 +1,6 @@
 -- The list for a lost place, from what elimination left and from the place's own row, reduced.
 use mathlib.Core.Path.{◌≡◌, sym, ap, ap₂, ◌∙◌, subst}
-use mathlib.Core.Bool.{true, false, true≢false}
+use mathlib.Core.Bool.{true, false, true≢false, cond}
 use mathlib.Core.List.{List, map}
 use Prim.Native.Nat.{ℕ, suc, ◌-◌, ◌^◌, ◌<◌, ◌≤◌}
 use native.Mathlib.Omega.{arith}
@@ -33,6 +33,7 @@ use Rattle.table.specs.Table.{checks}
 use Rattle.table.specs.TableLaws.{accepted}
 use Rattle.tracing.specs.Tracing.{number_in, Led, Taken}
 use Rattle.tracing.specs.TracingLaws.{numbered, path-led}
+use Rattle.explain.specs.declared.Told.TheVariants.{Restored, Lost}
 use Rattle.explain.specs.Telling.{Tells}
 
 -- a place flipped in a row that was zero
@@ -80,25 +81,23 @@ module _ (t : List ℕ) (m n s : ℕ) (ok : Accepted t m n s) (lost : List ℕ) 
       vanished h = ap is_zero (short-zero (down F n place) (subst (λ u. Short u (down F n place)) h d.bits.most))
 
       -- the row vanished: the place is restored
+      -- the list that is written, from the used checks and the noted places
+      abbrev written : List ℕ → List ℕ → List ℕ
+      written V N = named (bits_below (length V) (trace (row feed) (length V) (row_of (map (number_in owner) N)))) V
+
       pub tells-restored : l ≡ 0 → {oldn noted : List ℕ} {c : ℕ} → Front (path F n place) oldn noted c → {old x : List ℕ} {len : ℕ}
-          → Front (named (bits_below k (trace (row feed) k (row_of (map (number_in owner) (take c noted))))) (take k ids)) old x len
-          → Tells n (checks t) lost p (record { restored = true; length = len }) old x
+          → Front (written (take k ids) (take c noted)) old x len → Tells n (checks t) lost p (Restored len) old x
       tells-restored h {oldn} {noted} {c} f {old} {x} {len} g =
           let yes = vanished h in
           record {
-            list = named (bits_below k (trace (row feed) k (row_of (map (number_in owner) (take c noted))))) (take k ids);
-            listed = listed-restored n (checks t) lost p is_lost_lem (sym is-decided ∙ yes) _ (is ∙ traced-list n low lost z.kept by_number p pl yes);
+            list = written (take k ids) (take c noted);
+            listed = listed-restored n (checks t) lost p is_lost_lem (sym is-decided ∙ yes) _ (ap₂ written z.used-are (front-taken f) ∙ traced-list n low lost z.kept by_number p pl yes);
             front = g;
-            kind = sym yes ∙ is-decided;
+            kind = sym (ap (λ b. cond b 2 3) (sym is-decided ∙ yes));
           }
-        where
-          is : named (bits_below k (trace (row feed) k (row_of (map (number_in owner) (take c noted))))) (take k ids)
-              ≡ named (bits_below (length U) (trace (row feed) (length U) (row_of (map (number_in owner) (path F n place))))) U
-          is = ap₂ (λ v ps. named (bits_below v (trace (row feed) v (row_of (map (number_in owner) ps)))) (take k ids)) z.count (front-taken f)
-              ∙ ap (named (bits_below (length U) (trace (row feed) (length U) (row_of (map (number_in owner) (path F n place)))))) z.used-are
 
       -- something is left: the place stays lost
-      pub tells-lost : 0 < l → {old x : List ℕ} {len : ℕ} → Front (places_of n (even_bits n (leads e owner) (l - 1))) old x len → Tells n (checks t) lost p (record { restored = false; length = len }) old x
+      pub tells-lost : 0 < l → {old x : List ℕ} {len : ℕ} → Front (places_of n (even_bits n (leads e owner) (l - 1))) old x len → Tells n (checks t) lost p (Lost len) old x
       tells-lost h {old} {x} {len} g = record {
         list = places_of n (even_bits n F (l - 1));
         listed = record {
@@ -109,7 +108,7 @@ module _ (t : List ℕ) (m n s : ℕ) (ok : Accepted t m n s) (lost : List ℕ) 
               (found-least n (checks t) low lost p pl is_lost_lem z.kept.lead (kept_in n (mirror_row n lost) (checks t) z.kept) (kept_out n (mirror_row n lost) (checks t) z.kept) stopped);
         };
         front = front-is g (ap (λ G. places_of n (even_bits n G (l - 1))) (leads-kept o d.put));
-        kind = sym not-zero ∙ is-decided;
+        kind = sym (ap (λ b. cond b 2 3) (sym is-decided ∙ not-zero));
       }
         where
           not-zero : is_zero (down F n place) ≡ false

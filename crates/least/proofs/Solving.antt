@@ -14,7 +14,7 @@ use Rattle.gf2.specs.Gf2.{bool_group, Bits, bit, is_zero}
 use Rattle.gf2.specs.RowValue.{val-ext}
 use Rattle.gf2.specs.Separate.{meets}
 use Rattle.gf2.specs.Solving.{solve}
-use Rattle.lists.specs.ListLaws.{filter-append, get_d-zeros}
+use Rattle.lists.specs.ListLaws.{filter-append}
 use Rattle.lists.specs.Lists.{bxor, filter, from}
 use Rattle.lists.specs.Numbers.{from-snoc}
 use Rattle.lists.specs.Tests.{by_bool, eqb-true, eqb-false, eqb-self}
@@ -84,10 +84,10 @@ module _ (f : ℕ → ℕ) (S₀ : ℕ → Bool) where
     next-lead z = let i : q + 1 ≡ suc q = omega arith in ap (λ k. up_to k q) i ∙ rw (eqb-self q, z)
 
     -- the set with the bit written
-    pub written-lead : (l : List ℕ) (v : ℕ) → q < length l → is_zero (f q) ≡ false → ((j : ℕ) → in_set l j ≡ up_to q j) → eqb v 1 ≡ meets (in_set l) q (f q) → (j : ℕ) → in_set (set l q v) j ≡ up_to (q + 1) j
+    pub written-lead : (l : List Bool) (v : Bool) → q < length l → is_zero (f q) ≡ false → ((j : ℕ) → in_set l j ≡ up_to q j) → v ≡ meets (in_set l) q (f q) → (j : ℕ) → in_set (set l q v) j ≡ up_to (q + 1) j
     written-lead l v h z s e j = by_bool (eqb j q)
-        (λ k. let i = eqb-true j q k in ap (in_set (set l q v)) i ∙ ap (λ x. eqb x 1) (get_or-set_same l q v 0 h) ∙ e ∙ val-ext bool_group (in_set l) (up_to q) q (f q) (λ p g. s p) ∙ sym (next-lead z) ∙ ap (up_to (q + 1)) (sym i))
-        (λ k. ap (λ x. eqb x 1) (get_or-set_other l q j v 0 (eqb-false j q k)) ∙ s j ∙ sym (next-other j k))
+        (λ k. let i = eqb-true j q k in ap (in_set (set l q v)) i ∙ get_or-set_same l q v false h ∙ e ∙ val-ext bool_group (in_set l) (up_to q) q (f q) (λ p g. s p) ∙ sym (next-lead z) ∙ ap (up_to (q + 1)) (sym i))
+        (λ k. get_or-set_other l q j v false (eqb-false j q k) ∙ s j ∙ sym (next-other j k))
 
 -- the leads of an owner list
 module _ (w owner : List ℕ) (lead : (p : ℕ) → 0 < get_or owner p 0 → Bits (row w (get_or owner p 0 - 1)) (p + 1)) (q o : ℕ) (e : o ≡ get_or owner q 0) where
@@ -125,13 +125,18 @@ module _ (n : ℕ) (S : ℕ → Bool) where
   places-miss p b f = front-is f (sym (places-more p ∙ ap (λ v. places_below p ++ cond v (p ∷ []) []) b ∙ append-nil (places_below p)))
 
 -- ---- the set with one bit
-one_bit : (k f : ℕ) → f < k → (q : ℕ) → in_set (set (replicate k 0) f 1) q ≡ eqb q f
+one_bit : (k f : ℕ) → f < k → (q : ℕ) → in_set (set (replicate k false) f true) q ≡ eqb q f
 one_bit k f h q = by_bool (eqb q f)
-    (λ e. ap (in_set (set (replicate k 0) f 1)) (eqb-true q f e) ∙ ap (λ x. eqb x 1) (get_or-set_same (replicate k 0) f 1 0 (omega (arith, length-replicate {A = ℕ} k 0))) ∙ sym e)
-    (λ e. ap (λ x. eqb x 1) (get_or-set_other (replicate k 0) f q 1 0 (eqb-false q f e) ∙ get_d-zeros k q) ∙ sym e)
+    (λ e. ap (in_set (set (replicate k false) f true)) (eqb-true q f e) ∙ get_or-set_same (replicate k false) f true false (omega (arith, length-replicate {A = Bool} k false)) ∙ sym e)
+    (λ e. get_or-set_other (replicate k false) f q true false (eqb-false q f e) ∙ get_or-constant k q ∙ sym e)
+  where
+    get_or-constant : (k q : ℕ) → get_or (replicate k false) q false ≡ false
+    get_or-constant zero q = refl
+    get_or-constant (suc k) zero = refl
+    get_or-constant (suc k) (suc q) = get_or-constant k q
 
-pub solved-list : (F : ℕ → ℕ) (n f : ℕ) (l : List ℕ) → f < 1024 → Solved F n (set (replicate 1024 0) f 1) l → places_of n (in_set l) ≡ places_of n (even_bits n F f)
+pub solved-list : (F : ℕ → ℕ) (n f : ℕ) (l : List Bool) → f < 1024 → Solved F n (set (replicate 1024 false) f true) l → places_of n (in_set l) ≡ places_of n (even_bits n F f)
 solved-list F n f l h s = ap (places_of n) (fun_ext s-bits ∙ ap (λ S. solve bool_group F (λ p. false) S n) (fun_ext (one_bit 1024 f h)))
   where
-    s-bits : (q : ℕ) → in_set l q ≡ solve bool_group F (λ p. false) (in_set (set (replicate 1024 0) f 1)) n q
+    s-bits : (q : ℕ) → in_set l q ≡ solve bool_group F (λ p. false) (in_set (set (replicate 1024 false) f true)) n q
     s-bits q = s.bits q

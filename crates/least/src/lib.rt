@@ -14,7 +14,7 @@ ghost use Rattle.least.specs.Solved.{in_set, Solved};
 use table::MOST_PLACES;
 
 // row r has an odd number of the set's bits below l
-fn meets_set(w: &[u64], r: usize, set: &[u8], l: usize) -> bool
+fn meets_set(w: &[u64], r: usize, set: &[bool], l: usize) -> bool
     requires { (r * 16 + 16 ≤ length w.now)
         × (l ≤ length set.now)
         × (l ≤ 1024) }
@@ -22,17 +22,15 @@ fn meets_set(w: &[u64], r: usize, set: &[u8], l: usize) -> bool
 {
     let mut odd = false;
     for q in 0..l {
-        if set[q] == 1 {
-            if bits::has_place(w, r, q) {
-                odd = !odd;
-            }
+        if set[q] && bits::has_place(w, r, q) {
+            odd = !odd;
         }
     }
     odd
 }
 
 // a bit that leads a row is in the set if the row's lower bits meet it oddly; the others stay as they are
-fn solve_set(w: &[u64], owner: &[u16], n: usize, set: &mut [u8])
+fn solve_set(w: &[u64], owner: &[u16], n: usize, set: &mut [bool])
     requires rows { ((p : ℕ) → get_or owner.now p 0 * 16 ≤ length w.now)
         × ((p : ℕ) → 0 < get_or owner.now p 0 → Bits (row w.now (get_or owner.now p 0 - 1)) (p + 1)) }
     requires room { (n ≤ length owner.now)
@@ -43,25 +41,22 @@ fn solve_set(w: &[u64], owner: &[u16], n: usize, set: &mut [u8])
     for q in 0..n {
         let o = usize::from(owner[q]);
         if o != 0 {
-            if meets_set(w, o - 1, set, q) {
-                set[q] = 1;
-            } else {
-                set[q] = 0;
-            }
+            set[q] = meets_set(w, o - 1, set, q);
         }
     }
 }
 
 // the places of the set, ascending, and how many
-fn write_places(set: &[u8], n: usize, list: &mut [u16]) -> usize
+fn write_places(set: &[bool], n: usize, list: &mut [u16]) -> usize
     requires { (n ≤ length set.now)
         × (n ≤ length list.old)
         × (n ≤ 1024) }
-    ensures { Front (places_of n (in_set set.now)) list.old list.new result }
+    ensures list { Front (places_of n (in_set set.now)) list.old list.new result }
+    ensures few { result ≤ n }
 {
     let mut c = 0;
     for p in 0..n {
-        if set[tracing::bit_of(p, n)] == 1 {
+        if set[tracing::bit_of(p, n)] {
             list[c] = p as u16;
             c += 1;
         }
@@ -78,10 +73,11 @@ pub fn list_places(w: &[u64], owner: &[u16], n: usize, f: usize, list: &mut [u16
         × (n ≤ length list.old)
         × (n ≤ 1024)
         × (f < n) }
-    ensures { Front (places_of n (even_bits n (leads w.now owner.now) f)) list.old list.new result }
+    ensures list { Front (places_of n (even_bits n (leads w.now owner.now) f)) list.old list.new result }
+    ensures few { result ≤ n }
 {
-    let mut set = [0u8; MOST_PLACES];
-    set[f] = 1;
+    let mut set = [false; MOST_PLACES];
+    set[f] = true;
     solve_set(w, owner, n, &mut set);
     write_places(&set, n, list)
 }

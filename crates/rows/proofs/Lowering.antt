@@ -35,51 +35,54 @@ lower-start w owner k n noted l s b =
       most = omega arith;
     }
 
-module _ {w owner : List ℕ} {k n : ℕ} {noted₀ e noted : List ℕ} {count l : ℕ} (o : Owners w owner k) (s : Lowering w owner k n noted₀ e noted count l) (more : 0 < l) where
+module _ {w owner : List ℕ} {k n : ℕ} {noted₀ e noted : List ℕ} {count : ℕ} (p : ℕ) (o : Owners w owner k) (s : Lowering w owner k n noted₀ e noted count (p + 1)) where
   abbrev j : ℕ
-  j = get_or owner (l - 1) 0
+  j = get_or owner p 0
 
   abbrev F : ℕ → ℕ
   F = leads w owner
 
-  pub own_bits : 0 < j → Bits (row e (j - 1)) l
-  own_bits h =
-      let i : l - 1 + 1 ≡ l = omega arith in
-      let b : Bits (row w (j - 1)) l = rw i at (o.lead (l - 1) h) in
-      subst (λ (v : ℕ). Bits v l) (sym (row_named o s.put (l - 1) h)) b
+  before : p + 1 - 1 ≡ p
+  before = omega arith
 
-  own_row : 0 < j → row e (j - 1) ≡ F (l - 1)
-  own_row h = row_named o s.put (l - 1) h ∙ sym (leads-at w owner (l - 1) h)
+  pub own_bits : 0 < j → Bits (row e (j - 1)) (p + 1)
+  own_bits h = subst (λ (v : ℕ). Bits v (p + 1)) (sym (row_named o s.put p h)) (o.lead p h)
 
-  pub next-short : {f : List ℕ} → 0 < j → RowPut e k (bit_xor (row e (j - 1)) (row e k)) f → Short (l - 1) (row f k)
-  next-short h d =
+  own_row : 0 < j → row e (j - 1) ≡ F p
+  own_row h = row_named o s.put p h ∙ sym (leads-at w owner p h)
+
+  pub next-short : {f : List ℕ} → 0 < j → RowPut e k (bit_xor (row e (j - 1)) (row e k)) f → Short p (row f k)
+  next-short {f} h d =
       let b = own_bits h in
-      subst (Short (l - 1)) (sym d.here) (short-sum (row e (j - 1)) (row e k) l more b.most s.bits.most (b.last more) (s.bits.last more))
+      subst (λ (i : ℕ). Short i (row f k)) before
+      (subst (Short (p + 1 - 1)) (sym d.here) (short-sum (row e (j - 1)) (row e k) (p + 1) (omega arith) b.most s.bits.most (b.last (omega arith)) (s.bits.last (omega arith))))
 
-  pub next-less : {f : List ℕ} {i : ℕ} → 0 < j → RowPut e k (bit_xor (row e (j - 1)) (row e k)) f → Bits (row f k) i → i < l
+  pub next-less : {f : List ℕ} {i : ℕ} → 0 < j → RowPut e k (bit_xor (row e (j - 1)) (row e k)) f → Bits (row f k) i → i < p + 1
   next-less h d b = let a = bits-le (next-short h d) b in omega arith
 
   pub lower-turn : {f : List ℕ} {i : ℕ} → n ≤ length noted₀ → 0 < j → RowPut e k (bit_xor (row e (j - 1)) (row e k)) f → Bits (row f k) i
-      → Lowering w owner k n noted₀ f (set noted count (l - 1)) (count + 1) i
+      → Lowering w owner k n noted₀ f (set noted count p) (count + 1) i
   lower-turn {f} {i} room h d b =
-      let r : row f k ≡ bit_xor (F (l - 1)) (row e k) = d.here ∙ ap (λ (v : ℕ). bit_xor v (row e k)) (own_row h) in
-      let nz : is_zero (F (l - 1)) ≡ false = bit-nonzero (l - 1) (F (l - 1)) (ap (bit (l - 1)) (sym (own_row h)) ∙ (own_bits h).last more) in
+      let r : row f k ≡ bit_xor (F p) (row e k) = d.here ∙ ap (λ (v : ℕ). bit_xor v (row e k)) (own_row h) in
+      let nz : is_zero (F p) ≡ false = bit-nonzero (p + 1 - 1) (F p) (ap (bit (p + 1 - 1)) (sym (own_row h)) ∙ (own_bits h).last (omega arith)) in
       let le = bits-le (next-short h d) b in
       let m = s.most in
-      let step : Passed F l (row e k) (l - 1) (row f k) ((l - 1) ∷ []) =
-      subst (λ (y : ℕ). Passed F l (row e k) (l - 1) y ((l - 1) ∷ [])) (sym r) (passed-step F (row e k) l more (s.bits.last more) nz) in
-      let way = passed_then s.passed (passed_then step (passed-skip F (row f k) i (l - 1) le b.most)) in
+      let one : Passed F (p + 1) (row e k) p (bit_xor (F p) (row e k)) (p ∷ []) =
+      subst (λ (q : ℕ). Passed F (p + 1) (row e k) q (bit_xor (F q) (row e k)) (q ∷ [])) before
+      (passed-step F (row e k) (p + 1) (omega arith) (s.bits.last (omega arith)) (ap (λ (q : ℕ). is_zero (F q)) before ∙ nz)) in
+      let step : Passed F (p + 1) (row e k) p (row f k) (p ∷ []) = subst (λ (y : ℕ). Passed F (p + 1) (row e k) p y (p ∷ [])) (sym r) one in
+      let way = passed_then s.passed (passed_then step (passed-skip F (row f k) i p le b.most)) in
       record {
-        ps = s.ps ++ ((l - 1) ∷ []);
+        ps = s.ps ++ (p ∷ []);
         put = put_is (put-put s.put d) (sym d.here);
         passed = way;
-        front = front-more (l - 1) s.front (omega arith);
+        front = front-more p s.front (omega arith);
         bits = b;
         most = omega arith;
       }
 
-  pub stopped : j ≡ 0 → Ended F l (row e k)
-  stopped h = ended-stop F (row e k) l more (s.bits.last more) (ap is_zero (leads-none w owner (l - 1) h))
+  pub stopped : j ≡ 0 → Ended F (p + 1) (row e k)
+  stopped h = ended-stop F (row e k) (p + 1) (omega arith) (s.bits.last (omega arith)) (ap (λ (q : ℕ). is_zero (F q)) before ∙ ap is_zero (leads-none w owner p h))
 
 module _ {w owner : List ℕ} {k n : ℕ} {noted₀ e noted : List ℕ} {count l : ℕ} (s : Lowering w owner k n noted₀ e noted count l) (end : Ended (leads w owner) l (row e k)) where
   pub lowered : (0 < l → get_or owner (l - 1) 0 ≡ 0) → Lowered w owner k n (row w k) e l

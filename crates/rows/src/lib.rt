@@ -3,37 +3,34 @@
 
 ghost use Rattle.std.specs.Prelude.{◌≤◌, length};
 ghost use Rattle.bits.specs.Front.{Front};
-ghost use Rattle.bits.specs.Row.{row};
+ghost use Rattle.bits.specs.Row.{row, above};
 ghost use Rattle.rows.specs.Leads.{Reducible, Lowered, path_of};
 
-#[derive(Drop)]
+// what is left of a row: its highest place, if it isn't zero; and how many rows were added
+#[derive(Clone, Copy, Debug, PartialEq, Eq)]
 pub struct Reduced {
-    pub lead: usize,
+    pub lead: Option<usize>,
     pub count: usize,
 }
 
-// row k is reduced from its highest place down: one more than the highest place left, 0 if the row is zero; and the places that lead
-// the rows added, noted in that order, with their number
+// row k is reduced from its highest place down; the places that lead the rows added are noted in that order
 pub fn reduce(w: &mut [u64], owner: &[u16], k: usize, n: usize, noted: &mut [u16]) -> Reduced
     requires rows { Reducible w.old owner.now k n }
     requires room { n ≤ length noted.old }
-    ensures row { Lowered w.old owner.now k n (row w.old k) w.new result.lead }
+    ensures row { Lowered w.old owner.now k n (row w.old k) w.new (above result.lead) }
     ensures path { Front (path_of w.old owner.now k n) noted.old noted.new result.count }
 {
     let mut count = 0;
-    let mut l = bits::bits_of(w, k, n);
-    while 0 < l {
-        let o = usize::from(owner[l - 1]);
+    let mut lead = bits::highest(w, k, n);
+    while let Some(p) = lead {
+        let o = usize::from(owner[p]);
         if o == 0 {
             break;
         }
-        bits::add_low(w, o - 1, k, l);
-        noted[count] = (l - 1) as u16;
+        bits::add_low(w, o - 1, k, p + 1);
+        noted[count] = p as u16;
         count += 1;
-        l = bits::bits_of(w, k, l - 1);
+        lead = bits::highest(w, k, p);
     }
-    Reduced {
-        lead: l,
-        count: count,
-    }
+    Reduced { lead, count }
 }

@@ -2,11 +2,11 @@
 #![tactic(auto)]
 
 ghost use Rattle.std.specs.Prelude.{◌≡◌, ◌*◌, ◌≤◌, ◌<◌, length, get_or};
-ghost use Rattle.table.specs.Accepted.{Accepted};
+ghost use Rattle.std.specs.Result.{is_ok};
 ghost use Rattle.eliminate.specs.Eliminating.{NoneLost, ZeroLost, Led, Settled, SettledAll, Solves};
 
-use eliminate::MOST_NOTED;
-use table::MOST_PLACES;
+use eliminate::{Clash, MOST_NOTED};
+use table::{MOST_PLACES, Table};
 
 // the row that leads place p, without p, is reduced by the rows that lead lower places: if it vanishes, the packet at p is restored, and
 // else it is zero
@@ -34,12 +34,12 @@ fn settle(
     bits::flip(w, k, p);
     noted[0] = p as u16;
     let r = rows::reduce(w, owner, k, p, &mut noted[1..]);
-    let all = r.count + 1;
-    if r.lead == 0 {
-        packets::restore(noted, 0, all, block, n, s, n, p);
-        map[p] = 2;
-    } else {
-        packets::clear(block, p * s, s);
+    match r.lead {
+        None => {
+            packets::restore(noted, 0, r.count + 1, block, n, s, n, p);
+            map[p] = 2;
+        }
+        Some(_) => packets::clear(block, p * s, s),
     }
 }
 
@@ -58,37 +58,24 @@ fn settle_all(
     ensures { SettledAll s n w.old owner.old block.old map.old block.new map.new }
 {
     let mut noted = [0u16; MOST_NOTED];
-    let mut p = n;
-    while 0 < p {
-        p -= 1;
+    for p in (0..n).rev() {
         if owner[p] != 0 {
             settle(w, owner, p, n, s, block, map, &mut noted);
         }
     }
 }
 
-// Restores every lost place that the checks decide; false where no codeword agrees with the received packets.
-pub fn solve(
-    t: &[u16],
-    m: usize,
-    n: usize,
-    s: usize,
-    block: &mut [u8],
-    map: &mut [u8],
-    work: &mut [u64],
-) -> bool
-    requires table { Accepted t.now m n s }
-    requires room { (length block.old ≡ n * s)
-        × (length map.old ≡ n)
-        × (m * 16 ≤ length work.old) }
-    requires known { NoneLost t.now n s block.old map.old
-        × ZeroLost n s block.old map.old }
-    ensures { Solves t.now n s block.old map.old result block.new map.new }
+// Restores every lost place that the checks decide, if a codeword agrees with the received packets.
+pub fn solve(table: &Table, block: &mut [u8], map: &mut [u8], work: &mut [u64]) -> Result<(), Clash>
+    requires room { (length block.old ≡ table.now.places * table.now.size)
+        × (length map.old ≡ table.now.places)
+        × (table.now.checks * 16 ≤ length work.old) }
+    requires known { NoneLost table.now.words.now table.now.places table.now.size block.old map.old
+        × ZeroLost table.now.places table.now.size block.old map.old }
+    ensures { Solves table.now.words.now table.now.places table.now.size block.old map.old (is_ok result) block.new map.new }
 {
     let mut owner = [0u16; MOST_PLACES];
-    if eliminate::take_all(t, m, n, s, block, map, work, &mut owner) {
-        settle_all(work, &mut owner, n, s, block, map);
-        return true;
-    }
-    false
+    eliminate::take_all(table, block, map, work, &mut owner)?;
+    settle_all(work, &mut owner, table.places, table.size, block, map);
+    Ok(())
 }

@@ -2,13 +2,11 @@
 use mathlib.Core.Path.{◌≡◌, refl, sym, ap, ap₂, ◌∙◌, subst}
 use mathlib.Core.Bool.{Bool, true, false, cond}
 use mathlib.Core.List.{List, [], ◌∷◌, ◌++◌, map, append-nil, map-append}
-use Prim.Native.Nat.{ℕ, suc, ◌+◌, ◌-◌, ◌^◌, ◌<◌, ◌≤◌}
+use Prim.Native.Nat.{ℕ, suc, ◌+◌, ◌-◌, ◌^◌, ◌<◌}
 use native.Mathlib.Omega.{arith}
 use lib.Bits.{bit_xor, xor_zero_r}
 use lib.ListN.{length, get_or, set, take}
-use lib.Seq.{get_or-take, length-take-le}
 use Rattle.lists.specs.Buffers.{part-snoc}
-use Rattle.lists.specs.ListLaws.{all-at}
 use Rattle.lists.specs.Lists.{from}
 use Rattle.lists.specs.Numbers.{from-snoc}
 use Rattle.gf2.specs.Gf2.{xor_group, row_of, bit}
@@ -19,7 +17,7 @@ use Rattle.bits.specs.RowLaws.{put-put, put_is}
 use Rattle.reasons.specs.Reasons.{named}
 use Rattle.reasons.specs.Noting.{bits_below}
 use Rattle.reasons.proofs.Traced.{bits-length}
-use Rattle.tracing.specs.Tracing.{number_in, Led}
+use Rattle.tracing.specs.Tracing.{number_in}
 
 -- one number more of a list
 pub take_more : (l : List ℕ) (i : ℕ) → i < length l → take (i + 1) l ≡ take i l ++ (get_or l i 0 ∷ [])
@@ -30,12 +28,6 @@ pub fed : (owner noted : List ℕ) (i o : ℕ) → i < length noted → o ≡ ge
     → RowPut w r (row_of (map (number_in owner) (take i noted))) x → RowPut x r (bit_xor (row x r) (2 ^ (o - 1))) y → RowPut w r (row_of (map (number_in owner) (take (i + 1) noted))) y
 fed owner noted i o h e a b = put_is (put-put a b) (ap₂ (λ v u. bit_xor v (2 ^ (u - 1))) a.here e ∙ sym (ap row_of (ap (map (number_in owner)) (take_more noted i h) ∙ map-append (number_in owner) (take i noted) (get_or noted i 0 ∷ []))
     ∙ sum_over-append xor_group (λ (q : ℕ). 2 ^ q) (map (number_in owner) (take i noted)) (number_in owner (get_or noted i 0) ∷ []) ∙ ap (bit_xor (row_of (map (number_in owner) (take i noted)))) (xor_zero_r (2 ^ number_in owner (get_or noted i 0)))))
-
--- the place noted next leads a row
-pub led-at : (owner noted : List ℕ) (count i : ℕ) → count ≤ length noted → i < count → Led owner (take count noted)
-    → (get_or noted i 0 < length owner) × (0 < get_or owner (get_or noted i 0) 0) × (get_or owner (get_or noted i 0) 0 ≤ 1024)
-led-at owner noted count i room h l = subst (λ q. (q < length owner) × (0 < get_or owner q 0) × (get_or owner q 0 ≤ 1024)) (get_or-take count noted i 0 h)
-    (all-at 0 l.each i (omega (arith, length-take-le count noted room)))
 
 -- ---- the list
 -- a bit more in the mask

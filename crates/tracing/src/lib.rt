@@ -3,10 +3,9 @@
 
 ghost use Rattle.std.specs.Prelude.{◌≡◌, map, ℕ, ◌+◌, ◌-◌, ◌*◌, ◌≤◌, ◌<◌, length, get_or, take, drop};
 ghost use Rattle.gf2.specs.Gf2.{row_of};
-ghost use Rattle.table.specs.Accepted.{Accepted};
 ghost use Rattle.table.specs.Checks.{Places};
 ghost use Rattle.bits.specs.Front.{Front};
-ghost use Rattle.bits.specs.Row.{row, RowPut};
+ghost use Rattle.bits.specs.Row.{row, above, RowPut};
 ghost use Rattle.rows.specs.Leads.{Owners, Lowered};
 ghost use Rattle.reasons.specs.Mirror.{mirror, mirror_row};
 ghost use Rattle.reasons.specs.Reasons.{named};
@@ -14,7 +13,7 @@ ghost use Rattle.reasons.specs.Trace.{trace as traced};
 ghost use Rattle.reasons.specs.Noting.{bits_below};
 ghost use Rattle.tracing.specs.Tracing.{number_in, feeders, Led, Taken};
 
-use table::MOST_PLACES;
+use table::{MOST_PLACES, Table};
 
 // the bit at which place p stands, the highest place lowest
 pub fn bit_of(p: usize, n: usize) -> usize
@@ -35,91 +34,85 @@ fn load_lost(w: &mut [u64], k: usize, t: &[u16], at: usize, weight: usize, lost:
     ensures { RowPut w.old k (mirror_row n lost.now (take weight (drop at t.now))) w.new }
 {
     bits::clear(w, k);
-    for i in 0..weight {
-        let p = usize::from(t[at + i]);
+    for q in &t[at..at + weight] {
+        let p = usize::from(*q);
         if lost[p] == 1 {
             bits::flip(w, k, bit_of(p, n));
         }
     }
 }
 
-// the rows that lead the first count noted places become row k of feed
-pub fn note_feeders(feed: &mut [u64], k: usize, owner: &[u16], noted: &[u16], count: usize)
-    requires room { (k * 16 + 16 ≤ length feed.old)
-        × (count ≤ length noted.now) }
-    requires led { Led owner.now (take count noted.now) }
-    ensures { RowPut feed.old k (row_of (map (number_in owner.now) (take count noted.now))) feed.new }
+// the rows that lead the noted places become row k of feed
+fn note_feeders(feed: &mut [u64], k: usize, owner: &[u16], noted: &[u16])
+    requires room { k * 16 + 16 ≤ length feed.old }
+    requires led { Led owner.now noted.now }
+    ensures { RowPut feed.old k (row_of (map (number_in owner.now) noted.now)) feed.new }
 {
     bits::clear(feed, k);
-    for i in 0..count {
-        let o = usize::from(owner[usize::from(noted[i])]);
+    for q in noted {
+        let o = usize::from(owner[usize::from(*q)]);
         bits::flip(feed, k, o - 1);
     }
 }
 
-// the row of a check's lost places, reduced as row k, with the rows that fed it; one more than its highest bit, 0 if it vanished
+// the row of a check's lost places, reduced as row k, with the rows that fed it; its highest bit, if it didn't vanish
 fn take_check(
-    t: &[u16],
+    table: &Table,
     at: usize,
     weight: usize,
-    n: usize,
     lost: &[u8],
     w: &mut [u64],
     owner: &[u16],
     k: usize,
     feed: &mut [u64],
     noted: &mut [u16],
-) -> usize
-    requires check { Places t.now at weight n
-        × (n ≤ length lost.now) }
+) -> Option<usize>
+    requires check { Places table.now.words.now at weight table.now.places
+        × (table.now.places ≤ length lost.now) }
     requires rows { (k * 16 + 16 ≤ length w.old)
         × (k * 16 + 16 ≤ length feed.old)
-        × (n ≤ 1024)
-        × (n ≤ length owner.now)
-        × (n ≤ length noted.old)
+        × (table.now.places ≤ 1024)
+        × (table.now.places ≤ length owner.now)
+        × (table.now.places ≤ length noted.old)
         × (k ≤ 1024)
         × ((p : ℕ) → get_or owner.now p 0 ≤ k)
         × Owners w.old owner.now k }
-    ensures row { Lowered w.old owner.now k n (mirror_row n lost.now (take weight (drop at t.now))) w.new result }
+    ensures row { Lowered w.old owner.now k table.now.places
+        (mirror_row table.now.places lost.now (take weight (drop at table.now.words.now))) w.new (above result) }
     ensures feeders { RowPut feed.old k
-        (row_of (feeders w.old owner.now n (mirror_row n lost.now (take weight (drop at t.now)))))
+        (row_of (feeders w.old owner.now table.now.places (mirror_row table.now.places lost.now (take weight (drop at table.now.words.now)))))
         feed.new }
 {
-    load_lost(w, k, t, at, weight, lost, n);
-    let r = rows::reduce(w, owner, k, n, noted);
-    note_feeders(feed, k, owner, noted, r.count);
+    load_lost(w, k, table.words, at, weight, lost, table.places);
+    let r = rows::reduce(w, owner, k, table.places, noted);
+    note_feeders(feed, k, owner, &noted[..r.count]);
     r.lead
 }
 
 // all checks, one after another: the numbers of the used ones, and how many
 pub fn take_checks(
-    t: &[u16],
-    m: usize,
-    n: usize,
-    s: usize,
+    table: &Table,
     lost: &[u8],
     w: &mut [u64],
     owner: &mut [u16],
     feed: &mut [u64],
     ids: &mut [u16],
 ) -> usize
-    requires table { Accepted t.now m n s
-        × (n ≤ length lost.now) }
-    requires room { (m * 16 ≤ length w.old)
-        × (m * 16 ≤ length feed.old)
-        × (n ≤ length owner.old)
-        × (m ≤ length ids.old) }
+    requires lost { table.now.places ≤ length lost.now }
+    requires room { (table.now.checks * 16 ≤ length w.old)
+        × (table.now.checks * 16 ≤ length feed.old)
+        × (table.now.places ≤ length owner.old)
+        × (table.now.checks ≤ length ids.old) }
     requires unowned { (p : ℕ) → get_or owner.old p 0 ≡ 0 }
-    ensures { Taken t.now n lost.now w.new owner.new feed.new ids.new result }
+    ensures { Taken table.now.words.now table.now.places lost.now w.new owner.new feed.new ids.new result }
 {
     let mut noted = [0u16; MOST_PLACES];
     let mut k = 0;
-    let mut at = 5 + m;
-    for i in 0..m {
-        let weight = usize::from(t[4 + i]);
-        let l = take_check(t, at, weight, n, lost, w, owner, k, feed, &mut noted);
-        if 0 < l {
-            owner[l - 1] = (k + 1) as u16;
+    let mut at = 5 + table.checks;
+    for i in 0..table.checks {
+        let weight = usize::from(table.words[4 + i]);
+        if let Some(p) = take_check(table, at, weight, lost, w, owner, k, feed, &mut noted) {
+            owner[p] = (k + 1) as u16;
             ids[k] = i as u16;
             k += 1;
         }
@@ -137,54 +130,49 @@ fn trace(need: &mut [u64], feed: &[u64], k: usize)
         × (k ≤ 1024) }
     ensures { RowPut need.old 0 (traced (row feed.now) k (row need.old 0)) need.new }
 {
-    if 0 < k {
-        let last = k - 1;
+    for last in (0..k).rev() {
         if bits::has_place(need, 0, last) {
             bits::add_from(need, 0, feed, last);
         }
-        trace(need, feed, last);
     }
 }
 
-// the used checks that are needed, ascending, and how many
-fn write_checks(need: &[u64], ids: &[u16], k: usize, list: &mut [u16]) -> usize
+// those of the used checks that are needed, ascending, and how many
+fn write_checks(need: &[u64], ids: &[u16], list: &mut [u16]) -> usize
     requires { (16 ≤ length need.now)
-        × (k ≤ 1024)
-        × (k ≤ length ids.now)
-        × (k ≤ length list.old) }
-    ensures { Front (named (bits_below k (row need.now 0)) (take k ids.now)) list.old list.new result }
+        × (length ids.now ≤ 1024)
+        × (length ids.now ≤ length list.old) }
+    ensures list { Front (named (bits_below (length ids.now) (row need.now 0)) ids.now) list.old list.new result }
+    ensures few { result ≤ length ids.now }
 {
     let mut c = 0;
-    for i in 0..k {
+    for (i, id) in ids.iter().enumerate() {
         if bits::has_place(need, 0, i) {
-            list[c] = ids[i];
+            list[c] = *id;
             c += 1;
         }
     }
     c
 }
 
-// The checks that restore a place whose row vanished by the rows that lead the first count noted places: written in front, and how many.
+// The checks that restore a place whose row vanished by the rows that lead the noted places: written in front, and how many.
 pub fn list_checks(
     feed: &[u64],
     owner: &[u16],
     noted: &[u16],
-    count: usize,
     ids: &[u16],
-    k: usize,
     list: &mut [u16],
 ) -> usize
-    requires room { (k * 16 ≤ length feed.now)
-        × (count ≤ length noted.now)
-        × (k ≤ 1024)
-        × (k ≤ length ids.now)
-        × (k ≤ length list.old) }
-    requires led { Led owner.now (take count noted.now) }
-    ensures { Front (named (bits_below k (traced (row feed.now) k (row_of (map (number_in owner.now) (take count noted.now)))))
-        (take k ids.now)) list.old list.new result }
+    requires room { (length ids.now * 16 ≤ length feed.now)
+        × (length ids.now ≤ 1024)
+        × (length ids.now ≤ length list.old) }
+    requires led { Led owner.now noted.now }
+    ensures list { Front (named (bits_below (length ids.now) (traced (row feed.now) (length ids.now) (row_of (map (number_in owner.now) noted.now))))
+        ids.now) list.old list.new result }
+    ensures few { result ≤ length ids.now }
 {
     let mut need = [0u64; 16];
-    note_feeders(&mut need, 0, owner, noted, count);
-    trace(&mut need, feed, k);
-    write_checks(&need, ids, k, list)
+    note_feeders(&mut need, 0, owner, noted);
+    trace(&mut need, feed, ids.len());
+    write_checks(&need, ids, list)
 }

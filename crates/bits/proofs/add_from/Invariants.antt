@@ -1,10 +1,6 @@
 -- `bits::add_from` meets its contract: the loop has added i words.
 use Rattle.bits.proofs.Words.{Wrote, across}
-use Prim.Native.Nat.{◌-◌, ◌≤◌}
 use Rattle.bits.proofs.add_from.Given as goal
 
 abbrev pub invariant-loop-i : goal.invariant-loop-i
-invariant-loop-i l = (l.i ≤ 16) × Wrote l.initial.w l.b (across l.from l.a l.initial.w l.b) l.i l.w
-
-abbrev pub decreases-loop-i : goal.decreases-loop-i
-decreases-loop-i l = 16 - l.i
+invariant-loop-i l = Wrote l.initial.w l.b (across l.from l.a l.initial.w l.b) l.i l.w

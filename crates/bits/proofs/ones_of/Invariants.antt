@@ -6,8 +6,8 @@ use Rattle.bits.specs.Row.{row, places_in}
 use Rattle.bits.specs.WordPlaces.{places_from}
 use Rattle.bits.proofs.ones_of.Given as goal
 
-abbrev pub invariant-loop-i : goal.invariant-loop-i
-invariant-loop-i l = (l.i ≤ 16) × (l.n ≤ l.i * 64) × (length (places_in (row l.w l.r)) ≡ l.n + length (places_from l.w l.r l.i (16 - l.i)))
-
-abbrev pub decreases-loop-i : goal.decreases-loop-i
-decreases-loop-i l = 16 - l.i
+abbrev pub invariant-loop-x : goal.invariant-loop-x
+invariant-loop-x l = record {
+  few : l.n ≤ l.x-index * 64;
+  rest : length (places_in (row l.w l.r)) ≡ l.n + length (places_from l.w l.r l.x-index (16 - l.x-index));
+}

@@ -10,7 +10,7 @@ use Rattle.rows.specs.Leads.{leads}
 use Rattle.rows.specs.LeadsLaws.{lowered-as}
 use Rattle.table.specs.SumLaws.{places-low}
 use Rattle.eliminate.specs.EliminatingLaws.{noted_in}
-use Rattle.eliminate.proofs.Taking.{received-few, noted-few, reducible, path-as, noted-part, summed-low, whole, skipped, zero-lowered, judged, kept-sum}
+use Rattle.eliminate.proofs.Taking.{received-few, reducible, path-as, noted-part, summed-low, whole, skipped, zero-lowered, judged-calm, judged-clash, kept-sum}
 use Rattle.eliminate.proofs.take_check.Goals as goal
 
 pub part_check-have-requires : goal.part_check-have-requires
@@ -25,21 +25,7 @@ pub returns-then-have-weight : goal.returns-then-have-weight
 returns-then-have-weight c =
     let d = c.part_check-have.ensures in
     let none = whole _ _ _ _ c.args.map.now c.requires.check.0 d.noted.count c.if-have-weight.true in
-    record { row = zero-lowered c.args.map.now (take c.args.weight (drop c.args.at c.args.t.now)) none _ _ d.row; sum = skipped _ _ _ _ _ _ _ _ c.requires.check.0 c.requires.check.1 c.requires.known none }
-
-pub offset_bounds-noted-have : goal.offset_bounds-noted-have
-offset_bounds-noted-have c =
-    let h = received-few c.args.map.now _ _ _ _ c.requires.check.0 c.part_check-have.ensures.noted.count in
-    let r = c.requires.rows.3 in
-    omega arith
-
-pub slice_bounds-reduce-count : goal.slice_bounds-reduce-count
-slice_bounds-reduce-count c =
-    let f = c.part_check-have.ensures.noted in
-    let h = received-few c.args.map.now _ _ _ _ c.requires.check.0 f.count in
-    let r = c.requires.rows.3 in
-    let l = front_length f (omega arith) in
-    omega arith
+    record { row = zero-lowered c.args.map.now (take c.args.weight (drop c.args.at c.args.table.now.words.now)) none _ _ d.row; sum = skipped _ _ _ _ _ _ _ _ c.requires.check.0 c.requires.check.1 c.requires.known none }
 
 pub reduce-r-requires : goal.reduce-r-requires
 reduce-r-requires c =
@@ -50,37 +36,42 @@ reduce-r-requires c =
     let x = c.part_check-have.new.noted in
     record { rows = reducible c.requires.rows.4 _ _ _ _ c.args.map.now c.requires.check.0 d.row c.requires.rows.0 c.requires.rows.1 c.requires.rows.2; room = omega (arith, part_length x c.part_check-have.result (length x - c.part_check-have.result) (omega arith)) }
 
-pub overflow_add-all : goal.overflow_add-all
-overflow_add-all c =
-    let d = c.part_check-have.ensures in
-    let g = path-as c.requires.rows.4 _ _ _ _ c.args.map.now c.requires.check.0 d.row c.reduce-r.ensures.path in
-    let h = received-few c.args.map.now _ _ _ _ c.requires.check.0 d.noted.count in
-    let k = noted-few (leads c.args.w.now c.args.owner.now) c.args.n _ g in
-    let r = c.requires.rows.3 in
-    omega arith
-
-pub sum_of_check-low-requires : goal.sum_of_check-low-requires
-sum_of_check-low-requires c =
-    let d = c.part_check-have.ensures in
-    let g = path-as c.requires.rows.4 _ _ _ _ c.args.map.now c.requires.check.0 d.row c.reduce-r.ensures.path in
-    noted_in (noted-part d.noted g (drop (length c.part_check-have.new.noted - c.part_check-have.result) (drop c.part_check-have.result c.part_check-have.new.noted))) _ _ _ (summed-low _ c.args.map.now (leads c.args.w.now c.args.owner.now) (places-low c.requires.check.0)) c.requires.check.1
-
-pub returns-then-l-eq0 : goal.returns-then-l-eq0
-returns-then-l-eq0 c =
-    let d = c.part_check-have.ensures in
-    let g = path-as c.requires.rows.4 _ _ _ _ c.args.map.now c.requires.check.0 d.row c.reduce-r.ensures.path in
-    record { row = rw c.if-l-eq0.true at (lowered-as c.requires.rows.4 d.row c.reduce-r.ensures.row); sum = judged _ _ _ _ _ _ _ _ c.requires.check.0 c.requires.check.1 (noted-part d.noted g (drop (length c.part_check-have.new.noted - c.part_check-have.result) (drop c.part_check-have.result c.part_check-have.new.noted))) c.sum_of_check-low.ensures }
-
 pub restore-requires : goal.restore-requires
 restore-requires c =
     let d = c.part_check-have.ensures in
     let g = path-as c.requires.rows.4 _ _ _ _ c.args.map.now c.requires.check.0 d.row c.reduce-r.ensures.path in
-    let m = c.reduce-r.ensures.row.most in
-    (noted_in (noted-part d.noted g (drop (length c.part_check-have.new.noted - c.part_check-have.result) (drop c.part_check-have.result c.part_check-have.new.noted))) _ _ _ (summed-low _ c.args.map.now (leads c.args.w.now c.args.owner.now) (places-low c.requires.check.0)) c.requires.check.1, omega (arith, c.if-l-eq0.false))
+    let m = rw c.in-Some.is at c.reduce-r.ensures.row.most in
+    (noted_in (noted-part d.noted g (drop (length c.part_check-have.new.noted - c.part_check-have.result) (drop c.part_check-have.result c.part_check-have.new.noted))) _ _ _ (summed-low _ c.args.map.now (leads c.args.w.now c.args.owner.now) (places-low c.requires.check.0)) c.requires.check.1, omega arith)
 
-pub returns : goal.returns
-returns c =
+pub sum_of_check-requires : goal.sum_of_check-requires
+sum_of_check-requires c =
     let d = c.part_check-have.ensures in
-    let r = c.reduce-r in
-    let g = path-as c.requires.rows.4 _ _ _ _ c.args.map.now c.requires.check.0 d.row r.ensures.path in
-    record { row = lowered-as c.requires.rows.4 d.row r.ensures.row; sum = kept-sum _ _ _ _ _ _ _ _ c.requires.check.0 c.requires.check.1 (noted-part d.noted g (drop (length c.part_check-have.new.noted - c.part_check-have.result) (drop c.part_check-have.result c.part_check-have.new.noted))) (omega (arith, c.if-l-eq0.false)) c.restore.ensures }
+    let g = path-as c.requires.rows.4 _ _ _ _ c.args.map.now c.requires.check.0 d.row c.reduce-r.ensures.path in
+    noted_in (noted-part d.noted g (drop (length c.part_check-have.new.noted - c.part_check-have.result) (drop c.part_check-have.result c.part_check-have.new.noted))) _ _ _ (summed-low _ c.args.map.now (leads c.args.w.now c.args.owner.now) (places-low c.requires.check.0)) c.requires.check.1
+
+pub returns-then-sum_of_check-s : goal.returns-then-sum_of_check-s
+returns-then-sum_of_check-s c =
+    let d = c.part_check-have.ensures in
+    let g = path-as c.requires.rows.4 _ _ _ _ c.args.map.now c.requires.check.0 d.row c.reduce-r.ensures.path in
+    record {
+      row = rw c.in-None.is at (lowered-as c.requires.rows.4 d.row c.reduce-r.ensures.row);
+      sum = judged-clash _ _ _ _ _ _ _ _ c.requires.check.0 c.requires.check.1 (noted-part d.noted g (drop (length c.part_check-have.new.noted - c.part_check-have.result) (drop c.part_check-have.result c.part_check-have.new.noted))) c.sum_of_check.ensures c.if-sum_of_check-s.true;
+    }
+
+pub returns-else-sum_of_check-s : goal.returns-else-sum_of_check-s
+returns-else-sum_of_check-s c =
+    let d = c.part_check-have.ensures in
+    let g = path-as c.requires.rows.4 _ _ _ _ c.args.map.now c.requires.check.0 d.row c.reduce-r.ensures.path in
+    record {
+      row = lowered-as c.requires.rows.4 d.row c.reduce-r.ensures.row;
+      sum = rw c.in-None.is (judged-calm _ _ _ _ _ _ _ _ c.requires.check.0 c.requires.check.1 (noted-part d.noted g (drop (length c.part_check-have.new.noted - c.part_check-have.result) (drop c.part_check-have.result c.part_check-have.new.noted))) c.sum_of_check.ensures c.if-sum_of_check-s.false);
+    }
+
+pub returns-in-Some : goal.returns-in-Some
+returns-in-Some c =
+    let d = c.part_check-have.ensures in
+    let g = path-as c.requires.rows.4 _ _ _ _ c.args.map.now c.requires.check.0 d.row c.reduce-r.ensures.path in
+    record {
+      row = lowered-as c.requires.rows.4 d.row c.reduce-r.ensures.row;
+      sum = rw c.in-Some.is (kept-sum _ _ _ _ _ _ _ _ c.requires.check.0 c.requires.check.1 (noted-part d.noted g (drop (length c.part_check-have.new.noted - c.part_check-have.result) (drop c.part_check-have.result c.part_check-have.new.noted))) c.restore.ensures);
+    }

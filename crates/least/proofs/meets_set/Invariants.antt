@@ -1,5 +1,4 @@
 -- `least::meets_set` meets its contract: the bits below q are looked at.
-use Prim.Native.Nat.{◌-◌, ◌≤◌}
 use mathlib.Core.Path.{◌≡◌}
 use Rattle.bits.specs.Row.{row}
 use Rattle.gf2.specs.Separate.{meets}
@@ -7,7 +6,4 @@ use Rattle.least.specs.Solved.{in_set}
 use Rattle.least.proofs.meets_set.Given as goal
 
 abbrev pub invariant-loop-q : goal.invariant-loop-q
-invariant-loop-q l = (l.q ≤ l.l) × (l.odd ≡ meets (in_set l.set) l.q (row l.w l.r))
-
-abbrev pub decreases-loop-q : goal.decreases-loop-q
-decreases-loop-q l = l.l - l.q
+invariant-loop-q l = l.odd ≡ meets (in_set l.set) l.q (row l.w l.r)

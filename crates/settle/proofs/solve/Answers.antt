@@ -1,4 +1,8 @@
 -- `settle::solve` meets its contract.
+use mathlib.Core.Bool.{false}
+use mathlib.Core.Path.{◌≡◌}
+use Rattle.std.specs.Result.{is_ok}
+use Rattle.std.proofs.Common.{rules}
 use Rattle.lists.specs.ListLaws.{get_d-zeros}
 use Rattle.table.specs.Accepted.{few-places}
 use Rattle.eliminate.specs.EliminatingLaws.{checks-low}
@@ -8,13 +12,14 @@ use Rattle.settle.proofs.solve.Goals as goal
 pub take_all-requires : goal.take_all-requires
 take_all-requires c =
     let p = c.requires in
-    record { table = p.table; room = (p.room.0, p.room.1, p.room.2, few-places _ _ _ _ p.table); unowned = get_d-zeros 1024; known = p.known.0 }
+    record { room = (p.room.0, p.room.1, p.room.2, few-places _ _ _ _ c.args.table.now.accepted); unowned = get_d-zeros 1024; known = p.known.0 }
 
-pub returns-then-take_all : goal.returns-then-take_all
-returns-then-take_all c =
-    let p = c.requires in
-    let e = rw c.if-take_all.true at c.take_all.ensures in
-    solved p.room.0 (checks-low _ _ _ _ p.table) p.known.1 e c.settle_all.ensures
+pub returns-in_err-take_all : goal.returns-in_err-take_all
+returns-in_err-take_all c =
+    let e : is_ok c.from_residual.result ≡ false = search rules in
+    rw e (clashed c.in_err-take_all.ensures)
 
 pub returns : goal.returns
-returns c = clashed (rw c.if-take_all.false at c.take_all.ensures)
+returns c =
+    let p = c.requires in
+    solved p.room.0 (checks-low _ _ _ _ c.args.table.now.accepted) p.known.1 c.in_ok-take_all.ensures c.settle_all.ensures

@@ -1,5 +1,4 @@
--- `tracing::note_feeders` meets its contract: the first i places are noted.
-use Prim.Native.Nat.{◌-◌, ◌≤◌}
+-- `tracing::note_feeders` meets its contract: the places so far are noted.
 use mathlib.Core.List.{map}
 use lib.ListN.{take}
 use Rattle.bits.specs.Row.{RowPut}
@@ -7,8 +6,5 @@ use Rattle.gf2.specs.Gf2.{row_of}
 use Rattle.tracing.specs.Tracing.{number_in}
 use Rattle.tracing.proofs.note_feeders.Given as goal
 
-abbrev pub invariant-loop-i : goal.invariant-loop-i
-invariant-loop-i l = (l.i ≤ l.count) × RowPut l.initial.feed l.k (row_of (map (number_in l.owner) (take l.i l.noted))) l.feed
-
-abbrev pub decreases-loop-i : goal.decreases-loop-i
-decreases-loop-i l = l.count - l.i
+abbrev pub invariant-loop-q : goal.invariant-loop-q
+invariant-loop-q l = RowPut l.initial.feed l.k (row_of (map (number_in l.owner) (take l.q-index l.noted))) l.feed

@@ -6,7 +6,6 @@ use Prim.Native.Nat.{ℕ, suc, ◌+◌, ◌*◌, ◌-◌, ◌/◌, ◌%◌, ◌^
 use native.Mathlib.Nat.{mod-lt, div-eq_of_lt-le, pow-suc}
 use native.Mathlib.Omega.{arith}
 use lib.Bits.{bit_xor, xor_zero_l}
-use lib.Count.{count_leading_zeros, leading_top}
 use lib.Dec.{ltb}
 use lib.ListN.{get_or}
 use lib.Pow.{pow_pos, pow_mono}
@@ -37,29 +36,26 @@ module _ (w : List ℕ) (r : ℕ) where
   }
 
   -- the highest place of a word is that of the row
-  pub bits-word : (j x : ℕ) → 0 < j → j ≤ 16 → x ≡ get_or w (r * 16 + (j - 1)) 0 → 0 < x → x < 2 ^ 64 → Short (j * 64) (row w r)
-      → Bits (row w r) ((j - 1) * 64 + 64 - count_leading_zeros 64 x)
-  bits-word j x h l e p m s = go (leading_top 64 x p m)
-    where
-      go : (i : ℕ) × (count_leading_zeros 64 x + suc i ≡ 64) × (2 ^ i ≤ x) × (x < 2 ^ suc i) → Bits (row w r) ((j - 1) * 64 + 64 - count_leading_zeros 64 x)
-      go (i, z, a, b) =
-          let t : (j - 1) * 64 + 64 - count_leading_zeros 64 x ≡ (j - 1) * 64 + suc i = omega arith in
-          rw t (record {
-            most = record {
-              above = λ q c. by_bool (ltb q (j * 64))
-                  (λ k. let d = ltb-true q (j * 64) k in
-                  let f : q / 64 ≡ j - 1 = omega arith in
-                  let g : suc i ≤ q % 64 = omega arith in
-                  let u = pow_mono {i = suc i} {j = q % 64} g in
-                  row-bit w r q (omega arith) ∙ ap (λ (y : ℕ). bit (q % 64) (get_or w (r * 16 + y) 0)) f ∙ ap (bit (q % 64)) (sym e) ∙ bit_high (q % 64) x (omega arith))
-                  (λ k. s.above q (ltb-false q (j * 64) k));
-            };
-            last = λ _.
-                let q = (j - 1) * 64 + suc i - 1 in
-                let f : q / 64 ≡ j - 1 = omega arith in
-                let g : q % 64 ≡ i = omega arith in
-                row-bit w r q (omega arith) ∙ ap₂ (λ (y v : ℕ). bit v (get_or w (r * 16 + y) 0)) f g ∙ ap (bit i) (sym e) ∙ bit-top i x a b;
-          })
+  pub bits-word : (j i x : ℕ) → 0 < j → j ≤ 16 → x ≡ get_or w (r * 16 + (j - 1)) 0 → i < 64 → 2 ^ i ≤ x → x < 2 * 2 ^ i → Short (j * 64) (row w r)
+      → Bits (row w r) ((j - 1) * 64 + i + 1)
+  bits-word j i x h l e k a b s =
+      let c = pow-suc 2 i in
+      record {
+        most = record {
+          above = λ q c. by_bool (ltb q (j * 64))
+              (λ k. let d = ltb-true q (j * 64) k in
+              let f : q / 64 ≡ j - 1 = omega arith in
+              let g : suc i ≤ q % 64 = omega arith in
+              let u = pow_mono {i = suc i} {j = q % 64} g in
+              row-bit w r q (omega arith) ∙ ap (λ (y : ℕ). bit (q % 64) (get_or w (r * 16 + y) 0)) f ∙ ap (bit (q % 64)) (sym e) ∙ bit_high (q % 64) x (omega arith))
+              (λ k. s.above q (ltb-false q (j * 64) k));
+        };
+        last = λ _.
+            let q = (j - 1) * 64 + i + 1 - 1 in
+            let f : q / 64 ≡ j - 1 = omega arith in
+            let g : q % 64 ≡ i = omega arith in
+            row-bit w r q (omega arith) ∙ ap₂ (λ (y v : ℕ). bit v (get_or w (r * 16 + y) 0)) f g ∙ ap (bit i) (sym e) ∙ bit-top i x a (omega arith);
+      }
 
   -- words from l on are zero
   pub word-zero : (l k : ℕ) → l ≤ k * 64 → k < 16 → Short l (row w r) → get_or w (r * 16 + k) 0 % 2 ^ 64 ≡ 0
