@@ -20,6 +20,8 @@ fn is_blank(board: &[u64]) -> bool
     true
 }
 
+// The loops go in steps of a tile: over `step_by` their measure stays unproved.
+
 // k rows from row r on, whose lists have b numbers, agree with n columns, whose lists have a
 fn band_agrees(
     board: &mut [u64],

@@ -4,11 +4,8 @@ use mathlib.Core.Bool.{false≢true, true≢false}
 use native.Mathlib.Omega.{arith}
 use lib.ListN.{drop}
 use lib.Seq.{drop-drop}
-use borrow.Author.Tests.{not-true, not-false}
 use lib.Seq.{drop-drop}
-use borrow.Author.Tests.{not-true, not-false}
 use lib.Seq.{drop-drop}
-use borrow.Author.Tests.{not-true, not-false}
 use Rattle.numbers.specs.Cursor.{Ahead}
 use Rattle.walks.specs.Walks.{after, list_at}
 use Rattle.walks.specs.WalksLaws.{after_more, lists-from, list-from}

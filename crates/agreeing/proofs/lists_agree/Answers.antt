@@ -6,11 +6,8 @@ use native.Mathlib.Nat.{mul-le-mul}
 use native.Mathlib.Omega.{arith}
 use lib.ListN.{drop}
 use lib.Seq.{drop-drop}
-use borrow.Author.Tests.{not-true, not-false}
 use lib.Seq.{drop-drop}
-use borrow.Author.Tests.{not-true, not-false}
 use lib.Seq.{drop-drop}
-use borrow.Author.Tests.{not-true, not-false}
 use Rattle.numbers.specs.Cursor.{Ahead}
 use Rattle.walks.specs.Walks.{after, list_at}
 use Rattle.walks.specs.WalksLaws.{after_more, after_is, room-all, lists-from, list-from}

@@ -3,7 +3,7 @@ use mathlib.Core.Path.{◌≡◌, refl, sym, ap, ◌∙◌, subst}
 use mathlib.Core.Bool.{false≢true, true≢false}
 use native.Mathlib.Numerals.{add-one}
 use native.Mathlib.Omega.{arith}
-use borrow.Author.Tests.{not-true, not-false, ltb-true, ltb-false}
+use borrow.Author.Tests.{ltb-true, ltb-false}
 use lib.Dec.{ltb}
 use lib.ListN.{get_or, take}
 use Rattle.lists.specs.Tests.{by_bool}
@@ -47,8 +47,7 @@ loop-i-preserved c = let s = c.loop-i in let a = c.args in (
       let x = weight_is g s.i (omega arith) c.read-spot.ensures y.1 in
       let w = weight-within g s.i _ (omega arith) x in
       let d = c.in-Some.ensures.good y.0 (after s.i a.width l) y.2 (g.room s.i (omega arith)) w in
-      let f = ap (λ k. good_list a.most k (take a.width (after s.i a.width l))) x in
-      (
+      let f = ap (λ k. good_list a.most k (take a.width (after s.i a.width l))) x in (
         d.1.1,
         weight-next g s.i (omega arith) c.read-spot.ensures y.1,
         subst (λ k. Ahead a.text.now c.in-Some.end (after k a.width l)) (sym (add-one s.i)) d.1.0,

@@ -2,7 +2,6 @@
 use mathlib.Core.Path.{refl, sym, ap, ◌∙◌}
 use mathlib.Core.Bool.{◌&&◌, false≢true}
 use Prim.Native.Nat.{◌*◌}
-use borrow.Author.Tests.{not-true, not-false}
 use lib.ListN.{take, drop}
 use Rattle.alist.specs.Alist.{chunks, good_lists}
 use Rattle.alist_read.proofs.Cursors.{enough-columns, enough-rows, columns-lie, rows_lie, column-wrong, row-wrong, sound-is}

@@ -9,7 +9,7 @@ use Rattle.making.specs.MakingLaws.{weighed-heavy, weighed-light, rows-length}
 use Rattle.making.specs.ReadBack.{length-written}
 use Rattle.bits.specs.Row.{rows_in}
 use Rattle.alist_read.specs.Reading.{whole}
-use Rattle.alist_read.proofs.Answering.{answer-as, answer-2, answer-3, answer-5, answer-made, wrote_as}
+use Rattle.alist_read.proofs.Answering.{answer-2, answer-3, answer-5, answer-made, wrote_as}
 use Rattle.alist_read.proofs.Lists.{checks-loaded}
 use Rattle.alist_read.proofs.make.Goals as goal
 

@@ -3,12 +3,11 @@ use mathlib.Core.Path.{sym, ◌∙◌}
 use mathlib.Core.Bool.{true≢false}
 use Prim.Native.Nat.{◌*◌}
 use native.Mathlib.Omega.{arith}
-use borrow.Author.Tests.{not-true, not-false}
 use lib.ListN.{drop}
 use Rattle.lists.specs.Tests.{by_bool}
 use Rattle.alist.specs.Alist.{disagree}
 use Rattle.alist_read.specs.Reading.{whole}
-use Rattle.alist_read.proofs.Answering.{answer-as, answer-bad, answer-13}
+use Rattle.alist_read.proofs.Answering.{answer-bad, answer-13}
 use Rattle.alist_read.proofs.Cursors.{parts_from, columns-lie, rows_lie, product_small, miscounted, counts-right, sound-greatest}
 use Rattle.alist_read.proofs.Lists.{bands-agree, agree-bands}
 use Rattle.alist_read.proofs.read_rest.Goals as goal
