@@ -81,13 +81,15 @@ fn explain_place<P: Print, Q: Print>(
 ) -> std::io::Result<()> {
     let mut work = [0u64; table::WORK_WORDS];
     let mut reason = [0u16; why::REASON_NUMBERS];
-    let answer = why::why(table, block, map, &mut work, place, &mut reason);
-    if answer.refusal != 0 {
-        refuse(err, answer.refusal)?;
-        return Ok(());
-    }
-    let length = answer.length as usize;
-    print_reason(out, place, answer.kind, &reason[..length])?;
+    let answer = match why::why(table, block, map, &mut work, place, &mut reason) {
+        Ok(answer) => answer,
+        Err(refusal) => return refuse(err, refusal),
+    };
+    let length = match answer.told {
+        Told::Received => 0,
+        Told::Restored(length) | Told::Lost(length) => length as usize,
+    };
+    print_reason(out, place, answer.told, &reason[..length])?;
     text::print_restored(out, answer.restored, answer.lost, b"\n")
 }
 
