@@ -12,8 +12,8 @@ use Rattle.alist_read.proofs.Cursors.{parts_from, columns-lie, rows_lie, product
 use Rattle.alist_read.proofs.Lists.{bands-agree, agree-bands}
 use Rattle.alist_read.proofs.read_rest.Goals as goal
 
-pub overflow_mul-columns : goal.overflow_mul-columns
-overflow_mul-columns c = let a = c.args in let g = c.requires in let p = product_small a.n a.a g.1 g.3 in let q = product_small a.m a.b g.2 g.4 in omega arith
+pub overflow_mul-entries : goal.overflow_mul-entries
+overflow_mul-entries c = let a = c.args in let g = c.requires in let p = product_small a.n a.a g.1 g.3 in let q = product_small a.m a.b g.2 g.4 in omega arith
 
 pub overflow_add-n-2 : goal.overflow_add-n-2
 overflow_add-n-2 c = let a = c.args in let g = c.requires in let p = product_small a.n a.a g.1 g.3 in let q = product_small a.m a.b g.2 g.4 in omega arith
