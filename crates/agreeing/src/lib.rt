@@ -5,7 +5,7 @@ ghost use Rattle.std.specs.Prelude.{◌≡◌, ◌≤◌, ◌<◌, length};
 ghost use Rattle.tiles.specs.Board.{Blank, Decides};
 ghost use Rattle.tiles.specs.Tiles.{Agrees};
 
-use tiles::{Axis, SIDE, flip_lists};
+use tiles::{Axis, Lists, SIDE, flip_lists};
 
 // whether every bit is 0
 fn is_blank(board: &[u64]) -> bool
@@ -20,32 +20,29 @@ fn is_blank(board: &[u64]) -> bool
     true
 }
 
-// k rows from row r on, whose lists have b numbers, agree with n columns, whose lists have a
-fn band_agrees(
-    board: &mut [u64],
-    text: &[u8],
-    weights: usize,
-    lists: usize,
-    n: usize,
-    a: usize,
-    others: usize,
-    rows: usize,
-    k: usize,
-    b: usize,
-    r: usize,
-) -> bool
+// The loops go in steps of a tile: over `step_by` their measure stays unproved.
+
+// rows from row r on agree with columns
+fn band_agrees(board: &mut [u64], text: &[u8], columns: Lists, rows: Lists, r: usize) -> bool
     requires { (length board.old ≡ 16384)
-        × (k ≤ 1024) }
+        × (rows.count ≤ 1024) }
     ensures len { length board.new ≡ length board.old }
-    ensures agrees { Agrees text.now weights lists n a others rows r k b board.old result board.new }
+    ensures agrees { Agrees text.now columns.weights columns.entries columns.count columns.width
+        rows.weights rows.entries r rows.count rows.width board.old result board.new }
 {
-    let mut weight = weights;
-    let mut next = lists;
+    let mut weight = columns.weights;
+    let mut next = columns.entries;
     let mut c = 0;
-    while c < n {
-        let span = SIDE.min(n - c);
-        let ends = flip_lists(board, text, weight, next, span, a, r, k, Axis::Columns);
-        flip_lists(board, text, others, rows, k, b, c, span, Axis::Rows);
+    while c < columns.count {
+        let span = SIDE.min(columns.count - c);
+        let tile = Lists {
+            weights: weight,
+            entries: next,
+            count: span,
+            width: columns.width,
+        };
+        let ends = flip_lists(board, text, tile, r, rows.count, Axis::Columns);
+        flip_lists(board, text, rows, c, span, Axis::Rows);
         if !is_blank(board) {
             return false;
         }
@@ -56,34 +53,30 @@ fn band_agrees(
     true
 }
 
-// m rows agree with n columns
-pub fn lists_agree(
-    board: &mut [u64],
-    text: &[u8],
-    weights: usize,
-    lists: usize,
-    n: usize,
-    a: usize,
-    others: usize,
-    rows: usize,
-    m: usize,
-    b: usize,
-) -> bool
+// all rows agree with all columns
+pub fn lists_agree(board: &mut [u64], text: &[u8], columns: Lists, rows: Lists) -> bool
     requires { (length board.old ≡ 16384)
-        × (b < 1000000) }
+        × (rows.width < 1000000) }
     ensures len { length board.new ≡ length board.old }
-    ensures agrees { Agrees text.now weights lists n a others rows 0 m b board.old result board.new }
+    ensures agrees { Agrees text.now columns.weights columns.entries columns.count columns.width
+        rows.weights rows.entries 0 rows.count rows.width board.old result board.new }
 {
-    let mut weight = others;
-    let mut next = rows;
+    let mut weight = rows.weights;
+    let mut next = rows.entries;
     let mut r = 0;
-    while r < m {
-        let k = SIDE.min(m - r);
-        if !band_agrees(board, text, weights, lists, n, a, weight, next, k, b, r) {
+    while r < rows.count {
+        let k = SIDE.min(rows.count - r);
+        let band = Lists {
+            weights: weight,
+            entries: next,
+            count: k,
+            width: rows.width,
+        };
+        if !band_agrees(board, text, columns, band, r) {
             return false;
         }
         weight = walks::skip_numbers(text, weight, k);
-        next = walks::skip_numbers(text, next, k * b);
+        next = walks::skip_numbers(text, next, k * rows.width);
         r += k;
     }
     true

@@ -9,7 +9,7 @@ ghost use Rattle.alist_read.specs.Reading.{GoodList, GoodLists, Sound, Makes, Re
 
 use refusals::Refusal;
 use table::{MOST_ONES, MOST_WORDS};
-use tiles::{Axis, BOARD_WORDS};
+use tiles::{Axis, BOARD_WORDS, Lists};
 
 // ---- 12, by weights and lists; the board is blank before and after
 
@@ -39,25 +39,17 @@ fn good_list(
     Some(walks::skip_numbers(text, padding, width - weight))
 }
 
-// count lists, whose weights stand from weights on
-fn good_lists(
-    board: &mut [u64],
-    text: &[u8],
-    weights: usize,
-    at: usize,
-    count: usize,
-    width: usize,
-    most: usize,
-) -> bool
+// some lists
+fn good_lists(board: &mut [u64], text: &[u8], lists: Lists, most: usize) -> bool
     requires { length board.old ≡ 16384 }
     ensures len { length board.new ≡ length board.old }
-    ensures good { GoodLists text.now weights at count width most board.old result board.new }
+    ensures good { GoodLists text.now lists.weights lists.entries lists.count lists.width most board.old result board.new }
 {
-    let mut weight = weights;
-    let mut next = at;
-    for i in 0..count {
+    let mut weight = lists.weights;
+    let mut next = lists.entries;
+    for i in 0..lists.count {
         let spot = numbers::read(text, weight);
-        let Some(end) = good_list(board, text, next, spot.value, width, most) else {
+        let Some(end) = good_list(board, text, next, spot.value, lists.width, most) else {
             return false;
         };
         weight = spot.next;
@@ -66,33 +58,23 @@ fn good_lists(
     true
 }
 
-// the columns' weights stand from cw on, the rows' from rw on, their lists from cl and rl on
-fn is_sound(
-    board: &mut [u64],
-    text: &[u8],
-    n: usize,
-    m: usize,
-    a: usize,
-    b: usize,
-    cw: usize,
-    rw: usize,
-    cl: usize,
-    rl: usize,
-) -> bool
+// columns and rows
+fn is_sound(board: &mut [u64], text: &[u8], columns: Lists, rows: Lists) -> bool
     requires { length board.old ≡ 16384 }
     ensures len { length board.new ≡ length board.old }
-    ensures sound { Sound text.now n m a b cw rw cl rl board.old result board.new }
+    ensures sound { Sound text.now columns.count rows.count columns.width rows.width
+        columns.weights rows.weights columns.entries rows.entries board.old result board.new }
 {
-    if walks::greatest(text, cw, n) != a {
+    if walks::greatest(text, columns.weights, columns.count) != columns.width {
         return false;
     }
-    if walks::greatest(text, rw, m) != b {
+    if walks::greatest(text, rows.weights, rows.count) != rows.width {
         return false;
     }
-    if !good_lists(board, text, cw, cl, n, a, m) {
+    if !good_lists(board, text, columns, rows.count) {
         return false;
     }
-    good_lists(board, text, rw, rl, m, b, n)
+    good_lists(board, text, rows, columns.count)
 }
 
 // ---- the table
@@ -103,20 +85,17 @@ fn make(
     text: &[u8],
     s: usize,
     n: usize,
-    m: usize,
-    b: usize,
-    rw: usize,
-    rl: usize,
+    rows: Lists,
     table: &mut [u16],
 ) -> Result<u32, Refusal>
     requires { length board.old ≡ 16384 }
-    ensures { Makes text.now s n m b rw rl board.old table.old (make_answer_of result) table.new }
+    ensures { Makes text.now s n rows.count rows.width rows.weights rows.entries board.old table.old (make_answer_of result) table.new }
 {
-    if table::beyond(n, s, m) {
+    if table::beyond(n, s, rows.count) {
         return Err(Refusal::Limits);
     }
-    tiles::flip_lists(board, text, rw, rl, m, b, 0, n, Axis::Rows);
-    let Some(ones) = making::weigh(board, m) else {
+    tiles::flip_lists(board, text, rows, 0, n, Axis::Rows);
+    let Some(ones) = making::weigh(board, rows.count) else {
         return Err(Refusal::Lengths);
     };
     if MOST_ONES < ones {
@@ -125,7 +104,7 @@ fn make(
     if table.len() != MOST_WORDS {
         return Err(Refusal::Buffer);
     }
-    let length = making::write(table, n, s, board, m, ones);
+    let length = making::write(table, n, s, board, rows.count, ones);
     Ok(length as u32)
 }
 
@@ -149,20 +128,32 @@ fn read_rest(
         × (b < 1000000) }
     ensures { ReadsRest text.now s n m a b at count board.old table.old (make_answer_of result) table.new }
 {
-    let columns = n * a;
-    if count != n + m + columns + m * b {
+    let entries = n * a;
+    if count != n + m + entries + m * b {
         return Err(Refusal::AlistText);
     }
     let rw = walks::skip_numbers(text, at, n);
     let cl = walks::skip_numbers(text, rw, m);
-    let rl = walks::skip_numbers(text, cl, columns);
-    if !is_sound(board, text, n, m, a, b, at, rw, cl, rl) {
+    let rl = walks::skip_numbers(text, cl, entries);
+    let columns = Lists {
+        weights: at,
+        entries: cl,
+        count: n,
+        width: a,
+    };
+    let rows = Lists {
+        weights: rw,
+        entries: rl,
+        count: m,
+        width: b,
+    };
+    if !is_sound(board, text, columns, rows) {
         return Err(Refusal::AlistText);
     }
-    if !agreeing::lists_agree(board, text, at, cl, n, a, rw, rl, m, b) {
+    if !agreeing::lists_agree(board, text, columns, rows) {
         return Err(Refusal::AlistLists);
     }
-    make(board, text, s, n, m, b, rw, rl, table)
+    make(board, text, s, n, rows, table)
 }
 
 // the numbers of a text, and a blank board

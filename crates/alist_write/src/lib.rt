@@ -34,7 +34,13 @@ fn heaviest(w: &[u64], count: usize) -> usize
 // ---- the call
 
 // the text, if the buffer has room for it: first it is measured and nothing stored
-fn write_bits(text: &mut [u8], columns: &[u64], n: usize, rows: &[u64], m: usize) -> Result<u32, Refusal>
+fn write_bits(
+    text: &mut [u8],
+    columns: &[u64],
+    n: usize,
+    rows: &[u64],
+    m: usize,
+) -> Result<u32, Refusal>
     requires { (n ≤ 1024)
         × (n * 16 ≤ length columns.now)
         × (m ≤ 512)

@@ -5,17 +5,15 @@
 ghost use Rattle.std.specs.Prelude.{◌≡◌, ◌≤◌, length};
 ghost use Rattle.plan.specs.Layout.{plan_refusal};
 
-use numerals::Number;
 use std::io::Print;
 use std::rt::Runtime;
 use table::MOST_BYTES;
-use text::Read;
 
 // the most bytes of a block
 const MOST_BLOCK: usize = 32768;
 
 fn print_additions<P: Print>(out: &P, additions: u32) -> std::io::Result<()> {
-    text::print_count(out, b"additions ", additions as u64, b"\n")
+    text::print_count(out, b"additions ", u64::from(additions), b"\n")
 }
 
 // Reads the source, encodes it and writes the block.
@@ -28,18 +26,18 @@ fn encode_source<R: Runtime, P: Print>(
     block: &mut [u8],
     scratch: &mut [u8],
 ) -> std::io::Result<()> {
-    let Read::Count(_) = text::read_argument(rt, err, 2, information)? else {
+    let Some(_) = text::read_argument(rt, err, 2, information)? else {
         return Ok(());
     };
-    let encoded = encoder::encode(plan, s, information, block, scratch, usize::MAX);
-    if encoded.refusal != 0 {
-        text::say_refused(err, encoded.refusal)?;
-        return Ok(());
+    match encoder::encode(plan, s, information, block, scratch, usize::MAX) {
+        Ok(additions) => {
+            if text::write_argument(rt, err, 3, block)? {
+                print_additions(rt, additions)?;
+            }
+            Ok(())
+        }
+        Err(refusal) => text::say_refused(err, refusal),
     }
-    if text::write_argument(rt, err, 3, block)? {
-        print_additions(rt, encoded.additions)?;
-    }
-    Ok(())
 }
 
 // Encodes with part bytes of information, the whole block's, and spare ones of scratch.
@@ -95,23 +93,22 @@ fn encode_by<R: Runtime, P: Print>(rt: &R, err: &P, plan: &[u32], s: usize) -> s
 }
 
 // The size that is given, or the table's.
-fn size_for<R: Runtime, P: Print>(rt: &R, err: &P, table: &[u16]) -> std::io::Result<Number>
+fn size_for<R: Runtime, P: Print>(rt: &R, err: &P, table: &[u16]) -> std::io::Result<Option<usize>>
     requires { 5 ≤ length table.now }
 {
     if text::has_argument(rt, 4) && !text::has_argument(rt, 5) {
         return text::number_argument(rt, err, 4, b"SIZE");
     }
-    Ok(Number::Is(usize::from(table[2])))
+    Ok(Some(usize::from(table[2])))
 }
 
 fn encode_file<R: Runtime, P: Print>(rt: &R, err: &P, table: &[u16]) -> std::io::Result<()> {
     let mut plan = [0u32; planner::LEAST_PLAN];
-    let planned = own_plan::plan_of(table, &mut plan);
-    if planned.refusal != 0 {
-        text::say_refused(err, planned.refusal)?;
-        return Ok(());
-    }
-    let Number::Is(s) = size_for(rt, err, table)? else {
+    let planned = match own_plan::plan_of(table, &mut plan) {
+        Ok(planned) => planned,
+        Err(refusal) => return text::say_refused(err, refusal),
+    };
+    let Some(s) = size_for(rt, err, table)? else {
         return Ok(());
     };
     let length = planned.length as usize;
@@ -127,7 +124,7 @@ fn main(rt: HostRuntime) -> std::io::Result<()> {
         return Ok(());
     }
     let mut words = [0u16; table_file::MOST_WORDS];
-    let Read::Count(n) = text::read_table(&rt, &rt.stderr(), 1, &mut words)? else {
+    let Some(n) = text::read_table(&rt, &rt.stderr(), 1, &mut words)? else {
         return Ok(());
     };
     encode_file(&rt, &rt.stderr(), &words[..n])

@@ -1,6 +1,6 @@
 -- What the call of full repair answers, from what its parts leave.
 use mathlib.Core.Path.{◌≡◌, refl, sym, ap, ap₂, ◌∙◌, subst}
-use mathlib.Core.Bool.{Bool, true, false, cond, true≢false}
+use mathlib.Core.Bool.{Bool, true, false, cond, ◌||◌, true≢false}
 use mathlib.Core.List.{List}
 use Prim.Native.Nat.{ℕ, zero, suc, ◌*◌, ◌<◌, ◌≤◌}
 use native.Mathlib.Omega.{arith}
@@ -12,9 +12,17 @@ use Rattle.erasure.specs.Restoring.{zero_lost}
 use Rattle.full.specs.Deciding.{Decides}
 use Rattle.full.specs.Full.{FittingAll, clashing, full_refusal, full_answer_of, full_answer_at, full_refused, Answers}
 use Rattle.full.specs.FullLaws.{fitting-refusal, table-refused, block-short, map-short, work-wrong, byte-over, answer-accepted, answer-refused, block-accepted, block-clashing, block_refused, map-accepted, map-refused, work-accepted, work-clashing, work-refused}
+use Rattle.std.specs.declared.result.Result.{Result}
+use Rattle.std.specs.declared.result.Result.TheVariants.{Err}
+use Rattle.std.proofs.lemmas.Bool.{not-false}
+use Rattle.refusals.specs.Refusals.{number_of}
+use Rattle.refusals.specs.declared.Refusal.{Refusal}
+use Rattle.refusals.specs.declared.Refusal.TheVariants.{Buffer, Map}
+use Rattle.refusals.proofs.Numbers.{number-some, nothing-on}
 use Rattle.full.specs.declared.FullyRepaired.{FullyRepaired}
 use Rattle.lists.specs.Lists.{any_of}
-use Rattle.lists.specs.Tests.{not_same}
+use Rattle.lists.specs.Tests.{not_same, by_bool, eqb-true, eqb-false, or-false-l, or-false-r}
+use Rattle.table.specs.FirstCause.{wrong_length}
 use Rattle.table.specs.Accepted.{Accepted, few-checks}
 use Rattle.table.specs.PacketLaws.{packets-length}
 use Rattle.table.specs.Packets.{packets, joined}
@@ -24,7 +32,7 @@ use Rattle.table.specs.TableLaws.{refusal-small}
 -- ---- the call, from what was decided
 module _ (t b l w : List ℕ) (f : FittingAll t b l w) (d : Bool) (b₂ l₂ : List ℕ) (done : Decides t b l d b₂ l₂) where
   -- some codeword agrees
-  pub answer-decided : d ≡ true → (r : FullyRepaired) → full_answer_of r ≡ full_answer_at 0 l₂ → (w₂ : List ℕ) → w₂ ≡ replicate (length w) 0 → Answers t b l w r b₂ l₂ w₂
+  pub answer-decided : d ≡ true → (r : Result FullyRepaired Refusal) → full_answer_of r ≡ full_answer_at 0 l₂ → (w₂ : List ℕ) → w₂ ≡ replicate (length w) 0 → Answers t b l w r b₂ l₂ w₂
   answer-decided holds r e w₂ z =
       let calm : clashing t b l ≡ false = not_same (clashing t b l) false (sym done.agrees ∙ holds) in
       let ok : full_refusal t b l w ≡ 0 = fitting-refusal t b l w f ∙ ap (λ (v : Bool). cond v 8 0) calm in
@@ -36,7 +44,7 @@ module _ (t b l w : List ℕ) (f : FittingAll t b l w) (d : Bool) (b₂ l₂ : L
       }
 
   -- none does
-  pub answer-clashing : (m n s : ℕ) → Accepted t m n s → d ≡ false → (r : FullyRepaired) → full_answer_of r ≡ full_refused 8 → (w₂ : List ℕ) → w₂ ≡ replicate (length w) 0
+  pub answer-clashing : (m n s : ℕ) → Accepted t m n s → d ≡ false → (r : Result FullyRepaired Refusal) → full_answer_of r ≡ full_refused 8 → (w₂ : List ℕ) → w₂ ≡ replicate (length w) 0
       → (l₃ b₃ : List ℕ) → l₃ ≡ l → b₃ ≡ joined (zero_lost s l₃ (packets s n b₂)) → Answers t b l w r b₃ l₃ w₂
   answer-clashing m n s k fails r e w₂ z l₃ b₃ back g =
       let clash : clashing t b l ≡ true = not_same (clashing t b l) true (sym done.agrees ∙ fails) in
@@ -55,7 +63,7 @@ module _ (t b l w : List ℕ) (f : FittingAll t b l w) (d : Bool) (b₂ l₂ : L
 
 -- ---- a call that is refused before
 pub answer-before : (t b l w : List ℕ) (c : ℕ) → full_refusal t b l w ≡ c → eqb c 0 ≡ false → eqb c 8 ≡ false
-    → (r : FullyRepaired) → full_answer_of r ≡ full_refused c → Answers t b l w r b l w
+    → (r : Result FullyRepaired Refusal) → full_answer_of r ≡ full_refused c → Answers t b l w r b l w
 answer-before t b l w zero h e0 e8 r e = absurd (true≢false e0)
 answer-before t b l w (suc c) h e0 e8 r e = record {
   report = e ∙ sym (answer-refused t b l w c h);
@@ -65,32 +73,38 @@ answer-before t b l w (suc c) h e0 e8 r e = record {
 }
 
 -- the causes in order, each with what the code found before it
-module _ (t b l w : List ℕ) (c n s : ℕ) (look : c ≡ refusal t) (r : FullyRepaired) where
-  pub answer-table : (c ≡ 0 → ⊥) → full_answer_of r ≡ full_refused c → Answers t b l w r b l w
-  answer-table ne e = let z = refusal-small t in
-      answer-before t b l w (refusal t) (table-refused t b l w (λ q. ne (look ∙ q))) (ne_eqb (refusal t) 0 (λ q. ne (look ∙ q))) (ne_eqb (refusal t) 8 (λ q. omega arith)) r (e ∙ ap full_refused look)
+pub answer-table : (t b l w : List ℕ) (q : Refusal) → number_of q ≡ refusal t → Answers t b l w (Err q) b l w
+answer-table t b l w q e =
+    let small = refusal-small t in
+    let ne : refusal t ≡ 0 → ⊥ = λ z. number-some q (e ∙ z) in
+    let on = nothing-on q (λ z. omega arith) in
+    answer-before t b l w (refusal t) (table-refused t b l w ne) (ne_eqb (refusal t) 0 ne) (ne_eqb (refusal t) 8 (λ z. omega arith)) (Err q) (rw (e, on.0, on.1) refl)
 
-  module _ (ok : c ≡ 0) (en : n ≡ places t) (es : s ≡ size t) where
-    accepted : refusal t ≡ 0
-    accepted = sym look ∙ ok
+module _ (t : List ℕ) (m n s : ℕ) (k : Accepted t m n s) (b l w : List ℕ) where
+  pub answer-lengths : (wrong_length (length b) (n * s) || wrong_length (length l) n) ≡ true → Answers t b l w (Err Buffer) b l w
+  answer-lengths h = answer-before t b l w 5 (by_bool (eqb (length b) (n * s))
+      (λ e. by_bool (eqb (length l) n)
+      (λ f. absurd (true≢false (sym h ∙ rw (e, f) refl)))
+      (λ f. map-short t b l w k.accepted (eqb-true (length b) (n * s) e ∙ ap₂ ◌*◌ k.places-are k.size_is) (λ q. eqb-false (length l) n f (q ∙ sym k.places-are))))
+      (λ e. block-short t b l w k.accepted (λ q. eqb-false (length b) (n * s) e (q ∙ sym (ap₂ ◌*◌ k.places-are k.size_is))))) refl refl (Err Buffer) refl
 
-    pub answer-block : (length b ≡ n * s → ⊥) → full_answer_of r ≡ full_refused 5 → Answers t b l w r b l w
-    answer-block ne e = answer-before t b l w 5 (block-short t b l w accepted (λ q. ne (q ∙ sym (ap₂ ◌*◌ en es)))) refl refl r e
+  module _ (right : (wrong_length (length b) (n * s) || wrong_length (length l) n) ≡ false) where
+    block-right : length b ≡ places t * size t
+    block-right = eqb-true (length b) (n * s) (not-false (eqb (length b) (n * s)) (or-false-l (wrong_length (length b) (n * s)) (wrong_length (length l) n) right)) ∙ ap₂ ◌*◌ k.places-are k.size_is
 
-    module _ (lb : length b ≡ n * s) where
-      pub answer-map : (length l ≡ n → ⊥) → full_answer_of r ≡ full_refused 5 → Answers t b l w r b l w
-      answer-map ne e = answer-before t b l w 5 (map-short t b l w accepted (lb ∙ ap₂ ◌*◌ en es) (λ q. ne (q ∙ sym en))) refl refl r e
+    map-right : length l ≡ places t
+    map-right = eqb-true (length l) n (not-false (eqb (length l) n) (or-false-r (wrong_length (length b) (n * s)) (wrong_length (length l) n) right)) ∙ k.places-are
 
-      pub answer-work : length l ≡ n → (length w ≡ work_words → ⊥) → full_answer_of r ≡ full_refused 5 → Answers t b l w r b l w
-      answer-work ll ne e = answer-before t b l w 5 (work-wrong t b l w accepted (lb ∙ ap₂ ◌*◌ en es) (ll ∙ en) ne) refl refl r e
+    pub answer-work : (length w ≡ work_words → ⊥) → Answers t b l w (Err Buffer) b l w
+    answer-work ne = answer-before t b l w 5 (work-wrong t b l w k.accepted block-right map-right ne) refl refl (Err Buffer) refl
 
-      pub answer-byte : length l ≡ n → length w ≡ work_words → any_of (ltb 1) l ≡ true → full_answer_of r ≡ full_refused 7 → Answers t b l w r b l w
-      answer-byte ll lw over e = answer-before t b l w 7 (byte-over t b l w accepted (lb ∙ ap₂ ◌*◌ en es) (ll ∙ en) lw over) refl refl r e
+    module _ (lw : length w ≡ work_words) where
+      pub answer-byte : any_of (ltb 1) l ≡ true → Answers t b l w (Err Map) b l w
+      answer-byte over = answer-before t b l w 7 (byte-over t b l w k.accepted block-right map-right lw over) refl refl (Err Map) refl
 
--- and a call that none of them refuses
-pub fitting : (t b l w : List ℕ) (c n s : ℕ) → c ≡ refusal t → c ≡ 0 → n ≡ places t → s ≡ size t → length b ≡ n * s → length l ≡ n → length w ≡ work_words
-    → (over : Bool) → over ≡ any_of (ltb 1) l → over ≡ false → FittingAll t b l w
-fitting t b l w c n s look ok en es lb ll lw over e no_byte = record { old = record { table = sym look ∙ ok; block = lb ∙ ap₂ ◌*◌ en es; map-length = ll ∙ en; map-bytes = sym e ∙ no_byte }; room = lw }
+      -- and a call that none of them refuses
+      pub fitting : any_of (ltb 1) l ≡ false → FittingAll t b l w
+      fitting none = record { old = record { table = k.accepted; block = block-right; map-length = map-right; map-bytes = none }; room = lw }
 
 -- ---- what such a call has
 module _ (t : List ℕ) (m n s : ℕ) (k : Accepted t m n s) (b l w : List ℕ) (f : FittingAll t b l w) where

@@ -1,5 +1,5 @@
 -- What repair's turns and elimination after them decide together.
-use mathlib.Core.Path.{◌≡◌, sym, ap, ap₂, ◌∙◌}
+use mathlib.Core.Path.{◌≡◌, refl, sym, ap, ap₂, ◌∙◌}
 use mathlib.Core.Bool.{Bool, true, false, not, true≢false}
 use mathlib.Core.List.{List, []}
 use Prim.Native.Nat.{ℕ, ◌*◌}
@@ -17,22 +17,34 @@ use Rattle.full.specs.Deciding.{Decides}
 use Rattle.full.specs.Full.{clashing}
 use Rattle.lists.specs.ListLaws.{all_map}
 use Rattle.lists.specs.Tests.{not_same}
-use Rattle.restore.specs.Mending.{Mends}
+use Rattle.std.specs.declared.result.Result.{Result}
+use Rattle.std.specs.declared.result.Result.TheVariants.{Ok, Err}
+use Rattle.std.specs.Result.{is_ok}
+use Rattle.refusals.specs.declared.Fault.{Fault as FaultFound}
+use Rattle.report.specs.declared.Repaired.{Repaired}
+use Rattle.restore.specs.Mending.{counts_of, Mends}
 use Rattle.restore.specs.MendsLaws.{agrees-told}
-use Rattle.restore.specs.declared.Mended.{Mended}
 use Rattle.table.specs.Accepted.{Accepted}
 use Rattle.table.specs.PacketLaws.{packets-of}
 use Rattle.table.specs.Packets.{packets, joined}
 use Rattle.table.specs.Table.{places, size, checks}
 
-module _ (t : List ℕ) (m n s : ℕ) (k : Accepted t m n s) (b l : List ℕ) (lb : length b ≡ n * s) (d : Mended) (b₂ l₂ : List ℕ) (done : Mends t b l d b₂ l₂) where
+module _ (t : List ℕ) (m n s : ℕ) (k : Accepted t m n s) (b l : List ℕ) (lb : length b ≡ n * s) (d : Result Repaired FaultFound) (b₂ l₂ : List ℕ) (done : Mends t b l d b₂ l₂) where
+  -- the core agrees where it answers
+  ok-agrees : (r : Result Repaired FaultFound) → is_ok r ≡ (counts_of r).agrees
+  ok-agrees (Ok r) = refl
+  ok-agrees (Err f) = refl
+
+  told_agrees : is_ok d ≡ agreeing t b l
+  told_agrees = ok-agrees d ∙ agrees-told t b l d b₂ l₂ done
+
   fits : length b ≡ places t * size t
   fits = lb ∙ ap₂ ◌*◌ k.places-are k.size_is
 
   -- the turns find nothing that contradicts: they leave their outcome
-  module _ (holds : d.agrees ≡ true) where
+  module _ (holds : is_ok d ≡ true) where
     agree : agreeing t b l ≡ true
-    agree = sym (agrees-told t b l d b₂ l₂ done) ∙ holds
+    agree = sym told_agrees ∙ holds
 
     map-then : l₂ ≡ (outcome t b l).map
     map-then = done.map_is ∙ ap (λ v. map_if v t b l) agree
@@ -83,9 +95,9 @@ module _ (t : List ℕ) (m n s : ℕ) (k : Accepted t m n s) (b l : List ℕ) (l
       }
 
   -- the turns find that something contradicts
-  pub contradicted : d.agrees ≡ false → (r : Bool) → r ≡ false → Decides t b l r b₂ l₂
+  pub contradicted : is_ok d ≡ false → (r : Bool) → r ≡ false → Decides t b l r b₂ l₂
   contradicted fails r e =
-      let fail : agreeing t b l ≡ false = sym (agrees-told t b l d b₂ l₂ done) ∙ fails in
+      let fail : agreeing t b l ≡ false = sym told_agrees ∙ fails in
       let left : packets (size t) (places t) b₂ ≡ zero_lost (size t) l (packets (size t) (places t) b) = ap (packets (size t) (places t)) (done.block-is ∙ ap (λ v. block_if v t b l) fail)
       ∙ packets-of (size t) (places t) (start-length t b l k.accepted fits) (start-sized t b l k.accepted fits) in
       record {

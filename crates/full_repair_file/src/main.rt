@@ -3,32 +3,31 @@
 // its lost places.
 #![tactic(auto)]
 
+use refusals::Refusal;
 use std::io::Print;
 use std::rt::Runtime;
-use text::Read;
 
 // the most bytes of a block
 const MOST_BLOCK: usize = 32768;
-
-// the refusal of packets with which no codeword agrees
-const NONE_AGREES: u32 = 8;
 
 // Says the refusal. Packets with which no codeword agrees have left zeros at the lost places.
 fn refuse<R: Runtime, P: Print>(
     rt: &R,
     err: &P,
-    refusal: u32,
+    refusal: Refusal,
     block: &[u8],
 ) -> std::io::Result<()> {
-    if refusal == NONE_AGREES {
-        let said = Print::write_all(
-            err,
-            b"refused 8: no codeword agrees with the received packets\n",
-        );
-        text::write_argument(rt, err, 2, block)?;
-        return said;
+    match refusal {
+        Refusal::NoCodeword => {
+            let said = Print::write_all(
+                err,
+                b"refused 8: no codeword agrees with the received packets\n",
+            );
+            text::write_argument(rt, err, 2, block)?;
+            said
+        }
+        _ => text::say_refused(err, refusal),
     }
-    text::say_refused(err, refusal)
 }
 
 fn repair_block<R: Runtime, P: Print>(
@@ -39,16 +38,12 @@ fn repair_block<R: Runtime, P: Print>(
     map: &mut [u8],
 ) -> std::io::Result<()> {
     let mut work = [0u64; table::WORK_WORDS];
-    let answer = full::full_repair(table, block, map, &mut work);
-    if answer.refusal != 0 {
-        refuse(rt, err, answer.refusal, block)?;
-        return Ok(());
-    }
-    if !text::write_argument(rt, err, 2, block)? {
-        return Ok(());
-    }
-    if text::write_argument(rt, err, 3, map)? {
-        text::print_restored(rt, answer.restored, answer.lost, b"\n")?;
+    let repaired = match full::full_repair(table, block, map, &mut work) {
+        Ok(repaired) => repaired,
+        Err(refusal) => return refuse(rt, err, refusal, block),
+    };
+    if text::write_argument(rt, err, 2, block)? && text::write_argument(rt, err, 3, map)? {
+        text::print_restored(rt, repaired.restored, repaired.lost, b"\n")?;
     }
     Ok(())
 }
@@ -56,10 +51,10 @@ fn repair_block<R: Runtime, P: Print>(
 fn repair_files<R: Runtime, P: Print>(rt: &R, err: &P, table: &[u16]) -> std::io::Result<()> {
     let mut block = [0u8; MOST_BLOCK];
     let mut map = [0u8; table::MOST_PLACES];
-    let Read::Count(bytes) = text::read_argument(rt, err, 2, &mut block)? else {
+    let Some(bytes) = text::read_argument(rt, err, 2, &mut block)? else {
         return Ok(());
     };
-    let Read::Count(places) = text::read_argument(rt, err, 3, &mut map)? else {
+    let Some(places) = text::read_argument(rt, err, 3, &mut map)? else {
         return Ok(());
     };
     repair_block(rt, err, table, &mut block[..bytes], &mut map[..places])
@@ -71,7 +66,7 @@ fn main(rt: HostRuntime) -> std::io::Result<()> {
         return Ok(());
     }
     let mut words = [0u16; table_file::MOST_WORDS];
-    let Read::Count(n) = text::read_table(&rt, &rt.stderr(), 1, &mut words)? else {
+    let Some(n) = text::read_table(&rt, &rt.stderr(), 1, &mut words)? else {
         return Ok(());
     };
     repair_files(&rt, &rt.stderr(), &words[..n])

@@ -15,8 +15,8 @@ use Rattle.planning.specs.declared.Planned.{Planned}
 use Rattle.planning.specs.Planning.{plan_of, numbers_of, planning_answer_of, planning_answer, planning_plan_after, planning_refusal_at, least_plan, work_words}
 use Rattle.theorems.specs.OwnPlan.{by_rule, own-steps}
 use Rattle.own_plan.specs.Own.{Own, lent_work, own-refusal, own-plan}
-use Rattle.table_file.specs.declared.Words.{Words}
-use Rattle.table_file.specs.declared.Words.TheVariants.{Count}
+use Rattle.std.specs.declared.option.Option.{Option}
+use Rattle.std.specs.declared.option.Option.TheVariants.{Some}
 use Rattle.table_file.specs.Words.{unfit, words_read, words_after}
 use Rattle.table_file.proofs.WordsLaws.{words-taken}
 use Rattle.text.specs.Lines.{Appended}
@@ -77,7 +77,7 @@ word_buffer = replicate 6661 0
 pub word_room : 6661 ≤ length word_buffer
 word_room = rw (length-replicate {A = ℕ} 6661 0) (omega arith)
 
-pub words-text : (file : List ℕ) {r : Words} {words : List ℕ} {n : ℕ} → r ≡ words_read file → words ≡ words_after file word_buffer → r ≡ Count n
+pub words-text : (file : List ℕ) {r : Option ℕ} {words : List ℕ} {n : ℕ} → r ≡ words_read file → words ≡ words_after file word_buffer → r ≡ Some n
     → table_text (take n words) ≡ listing file
 unfolding listing
 words-text file {r} {words} {n} e w z =

@@ -7,8 +7,6 @@ ghost use Rattle.text.specs.Lines.{Appended};
 ghost use Rattle.plan_text.specs.PlanText.{most_text};
 ghost use Rattle.listing.specs.Listing.{table_text, listing};
 
-use table_file::Words;
-
 // room for every text
 pub const MOST_TEXT: usize = 192000;
 
@@ -35,7 +33,7 @@ pub fn list(file: &[u8], out: &mut [u8]) -> usize
     ensures within { IsPrefixLen result out.new }
 {
     let mut words = [0u16; table_file::MOST_WORDS];
-    let Words::Count(n) = table_file::words_in(file, &mut words) else {
+    let Some(n) = table_file::words_in(file, &mut words) else {
         return plan_text::put_refused(out, 0, 3);
     };
     list_table(out, &words[..n])

@@ -46,7 +46,7 @@ fn write_bytes<R: Runtime, P: Print>(
     Ok(())
 }
 
-// Writes an accepted table to the file that an argument names, and says so.
+// Writes an accepted table to the file that an argument names, and says so. The words alone: a `Table` would have to be looked over again.
 pub fn write_table<R: Runtime, P: Print>(
     rt: &R,
     err: &P,

@@ -5,8 +5,8 @@ use Prim.Native.Nat.{ℕ, ◌≤◌}
 use native.Mathlib.Omega.{arith}
 use lib.ListN.{length, take}
 use Rattle.text.specs.Files.{ReadInto, read_count}
-use Rattle.text.specs.declared.Read.{Read}
-use Rattle.text.specs.declared.Read.TheVariants.{Count}
+use Rattle.std.specs.declared.option.Option.{Option}
+use Rattle.std.specs.declared.option.Option.TheVariants.{Some}
 
-pub read-within : {r : Read} {n : ℕ} (buf : List ℕ) (k : ℕ) → ReadInto r buf → r ≡ Count n → length buf ≡ k → length (take n buf) ≤ k
+pub read-within : {r : Option ℕ} {n : ℕ} (buf : List ℕ) (k : ℕ) → ReadInto r buf → r ≡ Some n → length buf ≡ k → length (take n buf) ≤ k
 read-within {r} {n} buf k h e l = let a = read_count buf h e in let b = a.0 in let d = a.1 in omega arith

@@ -5,41 +5,40 @@
 
 ghost use Rattle.std.specs.Prelude.{true, [], ◌∷◌, ◌≡◌, ◌≤◌, length};
 ghost use Rattle.lists.specs.Lists.{has};
+ghost use Rattle.refusals.specs.Refusals.{number_of};
 
 use merge::Merged;
+use refusals::{Fault, Refusal};
 use std::io::Print;
 use std::rt::Runtime;
-use text::Read;
 
 // the most bytes of a block
 const MOST_BLOCK: usize = 32768;
 
 // Prints how many places are of each kind, and the repair's counts.
-fn print_counts<P: Print>(out: &P, answer: Merged) -> std::io::Result<()> {
-    text::print_count(out, b"agreed ", answer.agreed as u64, b"")?;
-    text::print_count(out, b" single ", answer.single as u64, b"")?;
-    text::print_count(out, b" silent ", answer.silent as u64, b"")?;
-    text::print_count(out, b" clash ", answer.clash as u64, b"\n")?;
-    text::print_restored(out, answer.restored, answer.lost, b"")?;
-    text::print_count(out, b" additions ", answer.additions as u64, b"\n")
+fn print_counts<P: Print>(out: &P, merged: Merged) -> std::io::Result<()> {
+    text::print_count(out, b"agreed ", u64::from(merged.agreed), b"")?;
+    text::print_count(out, b" single ", u64::from(merged.single), b"")?;
+    text::print_count(out, b" silent ", u64::from(merged.silent), b"")?;
+    text::print_count(out, b" clash ", u64::from(merged.clash), b"\n")?;
+    text::print_restored(out, merged.repaired.restored, merged.repaired.lost, b"")?;
+    text::print_count(out, b" additions ", u64::from(merged.repaired.additions), b"\n")
 }
 
 // Says on standard error why nothing is merged.
-fn refuse<P: Print>(err: &P, refusal: u32) -> std::io::Result<()>
-    requires { has refusal (1 ∷ 2 ∷ 3 ∷ 4 ∷ 5 ∷ 7 ∷ []) ≡ true }
+fn refuse<P: Print>(err: &P, refusal: Refusal) -> std::io::Result<()>
+    requires { has (number_of refusal) (1 ∷ 2 ∷ 3 ∷ 4 ∷ 5 ∷ 7 ∷ []) ≡ true }
 {
-    if refusal == 5 {
-        Print::write_all(
+    match refusal {
+        Refusal::Buffer => Print::write_all(
             err,
             b"refused 5: a block or map that doesn't have the table's places and packet size\n",
-        )?;
-        return Ok(());
+        ),
+        Refusal::Map => {
+            Print::write_all(err, b"refused 7: a receiver's map has a byte over 1\n")
+        }
+        _ => text::say_table_refused(err, refusal),
     }
-    if refusal == 7 {
-        Print::write_all(err, b"refused 7: a receiver's map has a byte over 1\n")?;
-        return Ok(());
-    }
-    text::say_table_refused(err, refusal)
 }
 
 // Writes block and map; whether they were written.
@@ -56,9 +55,9 @@ fn write_files<R: Runtime, P: Print>(
 }
 
 // Says that packets contradict, and which check fails at which byte.
-fn say_contradict<P: Print>(err: &P, answer: Merged) -> std::io::Result<()> {
+fn say_contradict<P: Print>(err: &P, fault: Fault) -> std::io::Result<()> {
     Print::write_all(err, b"refused 8: ")?;
-    text::print_fault(err, answer.check as u64, answer.byte as u64)
+    text::print_fault(err, fault)
 }
 
 fn merge_into<R: Runtime, P: Print>(
@@ -72,19 +71,20 @@ fn merge_into<R: Runtime, P: Print>(
     block: &mut [u8],
     map: &mut [u8],
 ) -> std::io::Result<()> {
-    let answer = merge::merge(table, block1, map1, block2, map2, block, map);
-    if answer.refusal == 0 {
-        if write_files(rt, err, block, map)? {
-            print_counts(rt, answer)?;
+    match merge::merge(table, block1, map1, block2, map2, block, map) {
+        Ok(merged) => {
+            if write_files(rt, err, block, map)? {
+                print_counts(rt, merged)?;
+            }
+            Ok(())
         }
-        return Ok(());
+        Err(Refusal::Contradiction(fault)) => {
+            let said = say_contradict(err, fault);
+            write_files(rt, err, block, map)?;
+            said
+        }
+        Err(refusal) => refuse(err, refusal),
     }
-    if answer.refusal == 8 {
-        let said = say_contradict(err, answer);
-        write_files(rt, err, block, map)?;
-        return said;
-    }
-    refuse(err, answer.refusal)
 }
 
 // The third block and map have the first receiver's lengths.
@@ -130,10 +130,10 @@ fn merge_second<R: Runtime, P: Print>(
 {
     let mut block = [0u8; MOST_BLOCK];
     let mut map = [0u8; table::MOST_PLACES];
-    let Read::Count(bytes) = text::read_argument(rt, err, 4, &mut block)? else {
+    let Some(bytes) = text::read_argument(rt, err, 4, &mut block)? else {
         return Ok(());
     };
-    let Read::Count(places) = text::read_argument(rt, err, 5, &mut map)? else {
+    let Some(places) = text::read_argument(rt, err, 5, &mut map)? else {
         return Ok(());
     };
     merge_held(
@@ -151,10 +151,10 @@ fn merge_second<R: Runtime, P: Print>(
 fn merge_first<R: Runtime, P: Print>(rt: &R, err: &P, table: &[u16]) -> std::io::Result<()> {
     let mut block = [0u8; MOST_BLOCK];
     let mut map = [0u8; table::MOST_PLACES];
-    let Read::Count(bytes) = text::read_argument(rt, err, 2, &mut block)? else {
+    let Some(bytes) = text::read_argument(rt, err, 2, &mut block)? else {
         return Ok(());
     };
-    let Read::Count(places) = text::read_argument(rt, err, 3, &mut map)? else {
+    let Some(places) = text::read_argument(rt, err, 3, &mut map)? else {
         return Ok(());
     };
     merge_second(rt, err, table, &block[..bytes], &map[..places])
@@ -169,7 +169,7 @@ fn main(rt: HostRuntime) -> std::io::Result<()> {
         return Ok(());
     }
     let mut words = [0u16; table_file::MOST_WORDS];
-    let Read::Count(n) = text::read_table(&rt, &rt.stderr(), 1, &mut words)? else {
+    let Some(n) = text::read_table(&rt, &rt.stderr(), 1, &mut words)? else {
         return Ok(());
     };
     merge_first(&rt, &rt.stderr(), &words[..n])

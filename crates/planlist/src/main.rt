@@ -2,12 +2,11 @@
 #![tactic(auto)]
 
 use std::io::Print;
-use text::Read;
 
 fn main(rt: HostRuntime) -> std::io::Result<()> {
     // a byte more than a table's file may have shows that there are too many
     let mut file = [0u8; table_file::MOST_BYTES + 1];
-    let Read::Count(n) = text::read_into(&mut rt.stdin(), &rt, &rt.stderr(), &mut file)? else {
+    let Some(n) = text::read_into(&mut rt.stdin(), &rt, &rt.stderr(), &mut file)? else {
         return Ok(());
     };
     let mut out = [0u8; listing::MOST_TEXT];

@@ -1,7 +1,6 @@
 // staircase_file SOURCES PACKETS ONES SEED SIZE TABLE: writes the table of a staircase.
 #![tactic(auto)]
 
-use numerals::Number;
 use std::io::Print;
 use std::rt::Runtime;
 
@@ -16,30 +15,27 @@ fn make_file<R: Runtime, P: Print>(
     s: usize,
 ) -> std::io::Result<()> {
     let mut table = [0u16; table::MOST_WORDS];
-    let made = staircase::make(k, n, ones, seed, s, &mut table);
-    if made.refusal != 0 {
-        text::say_refused(err, made.refusal)?;
-        return Ok(());
+    match staircase::make(k, n, ones, seed, s, &mut table) {
+        Ok(length) => made_table::write_table(rt, err, 6, &table[..length as usize]),
+        Err(refusal) => text::say_refused(err, refusal),
     }
-    let length = made.length as usize;
-    made_table::write_table(rt, err, 6, &table[..length])
 }
 
 // Reads the numbers and makes the file.
 fn by_arguments<R: Runtime, P: Print>(rt: &R, err: &P) -> std::io::Result<()> {
-    let Number::Is(k) = text::number_argument(rt, err, 1, b"SOURCES")? else {
+    let Some(k) = text::number_argument(rt, err, 1, b"SOURCES")? else {
         return Ok(());
     };
-    let Number::Is(n) = text::number_argument(rt, err, 2, b"PACKETS")? else {
+    let Some(n) = text::number_argument(rt, err, 2, b"PACKETS")? else {
         return Ok(());
     };
-    let Number::Is(ones) = text::number_argument(rt, err, 3, b"ONES")? else {
+    let Some(ones) = text::number_argument(rt, err, 3, b"ONES")? else {
         return Ok(());
     };
-    let Number::Is(seed) = text::number_argument(rt, err, 4, b"SEED")? else {
+    let Some(seed) = text::number_argument(rt, err, 4, b"SEED")? else {
         return Ok(());
     };
-    let Number::Is(s) = text::number_argument(rt, err, 5, b"SIZE")? else {
+    let Some(s) = text::number_argument(rt, err, 5, b"SIZE")? else {
         return Ok(());
     };
     make_file(rt, err, k, n, ones, seed, s)

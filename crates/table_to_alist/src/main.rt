@@ -6,7 +6,6 @@ ghost use Rattle.alist.specs.AlistLength.{most_alist};
 
 use std::io::Print;
 use std::rt::Runtime;
-use text::Read;
 
 // as many bytes as the longest text of any table
 const MOST_TEXT: usize = 1200000;
@@ -20,12 +19,10 @@ fn write_text<R: Runtime, P: Print>(
 ) -> std::io::Result<()>
     requires { most_alist ≤ length file.old }
 {
-    let written = alist_write::write_alist(table, file);
-    if written.refusal != 0 {
-        text::say_table_refused(err, written.refusal)?;
-        return Ok(());
-    }
-    let length = written.length as usize;
+    let length = match alist_write::write_alist(table, file) {
+        Ok(length) => length as usize,
+        Err(refusal) => return text::say_table_refused(err, refusal),
+    };
     if text::write_argument(rt, err, 2, &file[..length])? {
         text::print_count(rt, b"text of ", length as u64, b" bytes\n")?;
     }
@@ -44,7 +41,7 @@ fn main(rt: HostRuntime) -> std::io::Result<()> {
         return Ok(());
     }
     let mut words = [0u16; table_file::MOST_WORDS];
-    let Read::Count(n) = text::read_table(&rt, &rt.stderr(), 1, &mut words)? else {
+    let Some(n) = text::read_table(&rt, &rt.stderr(), 1, &mut words)? else {
         return Ok(());
     };
     write_file(&rt, &rt.stderr(), &words[..n])

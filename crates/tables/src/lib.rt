@@ -24,7 +24,10 @@ fn for_c(made: Result<u32, Refusal>) -> Making
 {
     match made {
         Ok(length) => Making { refusal: 0, length },
-        Err(refusal) => Making { refusal: refusal.number(), length: 0 },
+        Err(refusal) => Making {
+            refusal: refusal.number(),
+            length: 0,
+        },
     }
 }
 

@@ -8,7 +8,7 @@ ghost use Rattle.numerals.specs.Numerals.{decimal};
 ghost use Rattle.text.specs.Lines.{Appended};
 ghost use Rattle.text.specs.Files.{ReadInto};
 
-use refusals::Refusal;
+use refusals::{Fault, Refusal};
 use std::alloc::Alloc;
 use std::env::{Env, FillError};
 use std::fs;
@@ -22,10 +22,9 @@ pub fn put(line: &mut [u8], at: usize, word: &[u8]) -> usize
     requires { at + length word.now ≤ length line.old }
     ensures { Appended line.old at word.now line.new result }
 {
-    for i in 0..word.len() {
-        line[at + i] = word[i];
-    }
-    at + word.len()
+    let end = at + word.len();
+    line[at..end].copy_from_slice(word);
+    end
 }
 
 // A number in decimal, likewise.
@@ -95,9 +94,9 @@ pub fn say_table_refused<P: Print>(err: &P, refusal: Refusal) -> std::io::Result
 }
 
 // Says which check fails, and at which byte of its sum.
-pub fn print_fault<P: Print>(to: &P, check: u64, byte: u64) -> std::io::Result<()> {
-    print_count(to, b"check ", check, b" fails")?;
-    print_count(to, b" at byte ", byte, b"\n")
+pub fn print_fault<P: Print>(to: &P, fault: Fault) -> std::io::Result<()> {
+    print_count(to, b"check ", u64::from(fault.check), b" fails")?;
+    print_count(to, b" at byte ", u64::from(fault.byte), b"\n")
 }
 
 // Says on standard error that an argument's file has too many bytes.

@@ -18,6 +18,15 @@ pub enum Axis {
     Rows,
 }
 
+// where lists stand in a text: their weights and their entries, how many they are, and the numbers of each
+#[derive(Clone, Copy, Debug, PartialEq, Eq)]
+pub struct Lists {
+    pub weights: usize,
+    pub entries: usize,
+    pub count: usize,
+    pub width: usize,
+}
+
 // two cursors: at a weight, and at its list
 #[derive(Clone, Copy, Debug, PartialEq, Eq)]
 pub struct Cursors {
@@ -115,30 +124,27 @@ fn flip_list(
     next
 }
 
-// flips the bits of count lists, and says where they end
+// flips the bits of lists, and says where they end
 pub fn flip_lists(
     board: &mut [u64],
     text: &[u8],
-    weights: usize,
-    at: usize,
-    count: usize,
-    width: usize,
+    lists: Lists,
     low: usize,
     span: usize,
     axis: Axis,
 ) -> Cursors
     requires { (length board.old ≡ 16384)
         × (span ≤ 1024)
-        × (count ≤ 1024) }
+        × (lists.count ≤ 1024) }
     ensures len { length board.new ≡ length board.old }
-    ensures flips { FlipsLists text.now weights at count width low span (by_columns axis) board.old result.weights result.lists board.new }
+    ensures flips { FlipsLists text.now lists.weights lists.entries lists.count lists.width low span (by_columns axis) board.old result.weights result.lists board.new }
 {
-    let mut weight = weights;
-    let mut next = at;
-    for j in 0..count {
+    let mut weight = lists.weights;
+    let mut next = lists.entries;
+    for j in 0..lists.count {
         let spot = numbers::read(text, weight);
         let padding = flip_list(board, text, next, spot.value, low, span, j, axis);
-        next = walks::skip_numbers(text, padding, width.saturating_sub(spot.value));
+        next = walks::skip_numbers(text, padding, lists.width.saturating_sub(spot.value));
         weight = spot.next;
     }
     Cursors {

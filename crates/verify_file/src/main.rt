@@ -2,25 +2,28 @@
 // which byte.
 #![tactic(auto)]
 
+use refusals::{Fault, Refusal};
 use std::io::Print;
 use std::rt::Runtime;
-use text::Read;
-use verify::Verified;
 
 // the most bytes of a block
 const MOST_BLOCK: usize = 32768;
 
-fn print_verdict<P: Print, Q: Print>(out: &P, err: &Q, verdict: Verified) -> std::io::Result<()> {
+fn print_verdict<P: Print, Q: Print>(
+    out: &P,
+    err: &Q,
+    verdict: Result<Option<Fault>, Refusal>,
+) -> std::io::Result<()> {
     match verdict {
-        Verified::Refused(number) => text::say_refused(err, number),
-        Verified::Codeword => Print::write_all(out, b"codeword\n"),
-        Verified::Fails(check, byte) => text::print_fault(out, check as u64, byte as u64),
+        Ok(None) => Print::write_all(out, b"codeword\n"),
+        Ok(Some(fault)) => text::print_fault(out, fault),
+        Err(refusal) => text::say_refused(err, refusal),
     }
 }
 
 fn verify<R: Runtime, P: Print>(rt: &R, err: &P, table: &[u16]) -> std::io::Result<()> {
     let mut block = [0u8; MOST_BLOCK];
-    let Read::Count(n) = text::read_argument(rt, err, 2, &mut block)? else {
+    let Some(n) = text::read_argument(rt, err, 2, &mut block)? else {
         return Ok(());
     };
     print_verdict(rt, err, verify::verify(table, &block[..n]))
@@ -32,7 +35,7 @@ fn main(rt: HostRuntime) -> std::io::Result<()> {
         return Ok(());
     }
     let mut words = [0u16; table_file::MOST_WORDS];
-    let Read::Count(n) = text::read_table(&rt, &rt.stderr(), 1, &mut words)? else {
+    let Some(n) = text::read_table(&rt, &rt.stderr(), 1, &mut words)? else {
         return Ok(());
     };
     verify(&rt, &rt.stderr(), &words[..n])

@@ -4,11 +4,8 @@ use mathlib.Core.Bool.{false≢true, true≢false}
 use native.Mathlib.Omega.{arith}
 use lib.ListN.{drop}
 use lib.Seq.{drop-drop}
-use borrow.Author.Tests.{not-true, not-false}
 use lib.Seq.{drop-drop}
-use borrow.Author.Tests.{not-true, not-false}
 use lib.Seq.{drop-drop}
-use borrow.Author.Tests.{not-true, not-false}
 use Rattle.numbers.specs.Cursor.{Ahead}
 use Rattle.walks.specs.Walks.{after, list_at}
 use Rattle.walks.specs.WalksLaws.{after_more, lists-from, list-from}
@@ -37,12 +34,12 @@ returns-then-not-is_blank c = let s = c.loop-c in let a = c.args in record {
       let y = s.invariant.3 z ws l vs q g h in
       let e = c.min-span.ensures in
       let sub = lists-from g s.c c.min-span.result (omega arith) y.0 y.1 in
-      let f = c.flip_lists-ends.ensures.flips (drop s.c ws) (after s.c a.a l) sub in
+      let f = c.flip_lists-ends.ensures.flips (drop s.c ws) (after s.c a.columns.width l) sub in
       let o = c.flip_lists.ensures.flips vs q h in (
         record {
           yes = λ t. absurd (false≢true t);
-          no = λ p. absurd (true≢false (sym (c.is_blank.ensures.no (tile-blank a.r a.k s.c c.min-span.result (list_at a.a (drop s.c ws) (after s.c a.a l)) (list_at a.b vs q) (s.invariant.2 z) f.2 o.2
-              (band-tile a.r a.k s.c c.min-span.result (list_at a.a ws l) (list_at a.a (drop s.c ws) (after s.c a.a l)) (list_at a.b vs q) (λ j. list-from s.c j a.a ws l) a.n (omega arith) p))) ∙ c.if-not-is_blank.true));
+          no = λ p. absurd (true≢false (sym (c.is_blank.ensures.no (tile-blank a.r a.rows.count s.c c.min-span.result (list_at a.columns.width (drop s.c ws) (after s.c a.columns.width l)) (list_at a.rows.width vs q) (s.invariant.2 z) f.2 o.2
+              (band-tile a.r a.rows.count s.c c.min-span.result (list_at a.columns.width ws l) (list_at a.columns.width (drop s.c ws) (after s.c a.columns.width l)) (list_at a.rows.width vs q) (λ j. list-from s.c j a.columns.width ws l) a.columns.count (omega arith) p))) ∙ c.if-not-is_blank.true));
         },
         λ t. absurd (false≢true t),
       );
@@ -63,12 +60,12 @@ loop-c-preserved c = let s = c.loop-c in let a = c.args in let e = c.min-span.en
       let y = s.invariant.3 z ws l vs q g h in
       let e = c.min-span.ensures in
       let sub = lists-from g s.c c.min-span.result (omega arith) y.0 y.1 in
-      let f = c.flip_lists-ends.ensures.flips (drop s.c ws) (after s.c a.a l) sub in
+      let f = c.flip_lists-ends.ensures.flips (drop s.c ws) (after s.c a.columns.width l) sub in
       let o = c.flip_lists.ensures.flips vs q h in (
         subst (λ x. Ahead a.text.now c.flip_lists-ends.result.weights x) (drop-drop c.min-span.result s.c ws) f.0,
-        subst (λ x. Ahead a.text.now c.flip_lists-ends.result.lists x) (after_more s.c c.min-span.result a.a l) f.1,
-        tile-band a.r a.k s.c c.min-span.result (list_at a.a ws l) (list_at a.a (drop s.c ws) (after s.c a.a l)) (list_at a.b vs q) (λ j. list-from s.c j a.a ws l) y.2
-            (blank-tile a.r a.k s.c c.min-span.result (list_at a.a (drop s.c ws) (after s.c a.a l)) (list_at a.b vs q) (s.invariant.2 z) f.2 o.2 (omega arith) (omega arith) blank),
+        subst (λ x. Ahead a.text.now c.flip_lists-ends.result.lists x) (after_more s.c c.min-span.result a.columns.width l) f.1,
+        tile-band a.r a.rows.count s.c c.min-span.result (list_at a.columns.width ws l) (list_at a.columns.width (drop s.c ws) (after s.c a.columns.width l)) (list_at a.rows.width vs q) (λ j. list-from s.c j a.columns.width ws l) y.2
+            (blank-tile a.r a.rows.count s.c c.min-span.result (list_at a.columns.width (drop s.c ws) (after s.c a.columns.width l)) (list_at a.rows.width vs q) (s.invariant.2 z) f.2 o.2 (omega arith) (omega arith) blank),
       ),
 )
 

@@ -6,11 +6,8 @@ use native.Mathlib.Nat.{mul-le-mul}
 use native.Mathlib.Omega.{arith}
 use lib.ListN.{drop}
 use lib.Seq.{drop-drop}
-use borrow.Author.Tests.{not-true, not-false}
 use lib.Seq.{drop-drop}
-use borrow.Author.Tests.{not-true, not-false}
 use lib.Seq.{drop-drop}
-use borrow.Author.Tests.{not-true, not-false}
 use Rattle.numbers.specs.Cursor.{Ahead}
 use Rattle.walks.specs.Walks.{after, list_at}
 use Rattle.walks.specs.WalksLaws.{after_more, after_is, room-all, lists-from, list-from}
@@ -33,17 +30,17 @@ returns-then-not-band_agrees c = let s = c.loop-r in let a = c.args in record {
       let y = s.invariant.2 z ws l vs q g h in
       let e = c.min-k.ensures in
       let sub = lists-from h s.r c.min-k.result (omega arith) y.1 y.2 in
-      let d = c.band_agrees.ensures.agrees y.0 ws l (drop s.r vs) (after s.r a.b q) g sub in (
+      let d = c.band_agrees.ensures.agrees y.0 ws l (drop s.r vs) (after s.r a.rows.width q) g sub in (
         record {
           yes = λ t. absurd (false≢true t);
-          no = λ p. absurd (true≢false (sym (d.0.no (rows-band a.n s.r c.min-k.result a.m (list_at a.a ws l) (list_at a.b vs q) (list_at a.b (drop s.r vs) (after s.r a.b q)) (λ i. list-from s.r i a.b vs q) (omega arith) p)) ∙ c.if-not-band_agrees.true));
+          no = λ p. absurd (true≢false (sym (d.0.no (rows-band a.columns.count s.r c.min-k.result a.rows.count (list_at a.columns.width ws l) (list_at a.rows.width vs q) (list_at a.rows.width (drop s.r vs) (after s.r a.rows.width q)) (λ i. list-from s.r i a.rows.width vs q) (omega arith) p)) ∙ c.if-not-band_agrees.true));
         },
         λ t. absurd (false≢true t),
       );
 }
 
 pub overflow_mul-k : goal.overflow_mul-k
-overflow_mul-k c = let e = c.min-k.ensures in let b = c.args.b in let g = c.requires.1 in
+overflow_mul-k c = let e = c.min-k.ensures in let b = c.args.rows.width in let g = c.requires.1 in
     let p : c.min-k.result * b ≤ 1024 * 1000000 = mul-le-mul {n₁ = c.min-k.result} {m₁ = b} {n₂ = 1024} {m₂ = 1000000} (omega arith) (omega arith) in omega arith
 
 pub overflow_add-r : goal.overflow_add-r
@@ -60,14 +57,14 @@ loop-r-preserved c = let s = c.loop-r in let a = c.args in let e = c.min-k.ensur
       let y = s.invariant.2 z ws l vs q g h in
       let e = c.min-k.ensures in
       let sub = lists-from h s.r c.min-k.result (omega arith) y.1 y.2 in
-      let d = c.band_agrees.ensures.agrees y.0 ws l (drop s.r vs) (after s.r a.b q) g sub in
+      let d = c.band_agrees.ensures.agrees y.0 ws l (drop s.r vs) (after s.r a.rows.width q) g sub in
       let t = c.if-not-band_agrees.false in (
         d.1 t,
         subst (λ x. Ahead a.text.now c.skip_numbers-weight.result x) (drop-drop c.min-k.result s.r vs) (c.skip_numbers-weight.ensures (drop s.r vs) y.1 sub.enough),
         subst (λ x. Ahead a.text.now c.skip_numbers-next.result x)
-            (sym (after_is c.min-k.result a.b (after s.r a.b q)) ∙ after_more s.r c.min-k.result a.b q)
-            (c.skip_numbers-next.ensures (after s.r a.b q) y.2 (room-all c.min-k.result a.b (after s.r a.b q) sub.room)),
-        band-rows a.n s.r c.min-k.result a.m (list_at a.a ws l) (list_at a.b vs q) (list_at a.b (drop s.r vs) (after s.r a.b q)) (λ i. list-from s.r i a.b vs q) y.3 (d.0.yes t),
+            (sym (after_is c.min-k.result a.rows.width (after s.r a.rows.width q)) ∙ after_more s.r c.min-k.result a.rows.width q)
+            (c.skip_numbers-next.ensures (after s.r a.rows.width q) y.2 (room-all c.min-k.result a.rows.width (after s.r a.rows.width q) sub.room)),
+        band-rows a.columns.count s.r c.min-k.result a.rows.count (list_at a.columns.width ws l) (list_at a.rows.width vs q) (list_at a.rows.width (drop s.r vs) (after s.r a.rows.width q)) (λ i. list-from s.r i a.rows.width vs q) y.3 (d.0.yes t),
       ),
 )
 

@@ -3,7 +3,7 @@ use mathlib.Core.Path.{◌≡◌, refl, sym, ap, ◌∙◌, subst}
 use mathlib.Core.Bool.{false≢true, true≢false}
 use native.Mathlib.Numerals.{add-one}
 use native.Mathlib.Omega.{arith}
-use borrow.Author.Tests.{not-true, not-false, ltb-true, ltb-false}
+use borrow.Author.Tests.{ltb-true, ltb-false}
 use lib.Dec.{ltb}
 use lib.ListN.{get_or, take}
 use Rattle.lists.specs.Tests.{by_bool}
@@ -30,10 +30,10 @@ returns-in_default c = let s = c.loop-i in let a = c.args in record {
       let y = s.invariant.1 z ws l g in
       let x = weight_is g s.i (omega arith) c.read-spot.ensures y.1 in
       let w = weight-within g s.i _ (omega arith) x in
-      let d = c.in_default.ensures.good y.0 (after s.i a.width l) y.2 (g.room s.i (omega arith)) w in
-      let f = ap (λ k. good_list a.most k (take a.width (after s.i a.width l))) x in (
-        by_bool (good_lists a.most (take a.count ws) (chunks a.count a.width l))
-            (λ t. absurd (true≢false (sym (good-each a.most a.count a.width ws l g.enough t s.i (omega arith)) ∙ sym f ∙ sym d.0)))
+      let d = c.in_default.ensures.good y.0 (after s.i a.lists.width l) y.2 (g.room s.i (omega arith)) w in
+      let f = ap (λ k. good_list a.most k (take a.lists.width (after s.i a.lists.width l))) x in (
+        by_bool (good_lists a.most (take a.lists.count ws) (chunks a.lists.count a.lists.width l))
+            (λ t. absurd (true≢false (sym (good-each a.most a.lists.count a.lists.width ws l g.enough t s.i (omega arith)) ∙ sym f ∙ sym d.0)))
             (λ t. sym t),
         λ t. absurd (false≢true t),
       );
@@ -46,16 +46,15 @@ loop-i-preserved c = let s = c.loop-i in let a = c.args in (
       let y = s.invariant.1 z ws l g in
       let x = weight_is g s.i (omega arith) c.read-spot.ensures y.1 in
       let w = weight-within g s.i _ (omega arith) x in
-      let d = c.in-Some.ensures.good y.0 (after s.i a.width l) y.2 (g.room s.i (omega arith)) w in
-      let f = ap (λ k. good_list a.most k (take a.width (after s.i a.width l))) x in
-      (
+      let d = c.in-Some.ensures.good y.0 (after s.i a.lists.width l) y.2 (g.room s.i (omega arith)) w in
+      let f = ap (λ k. good_list a.most k (take a.lists.width (after s.i a.lists.width l))) x in (
         d.1.1,
         weight-next g s.i (omega arith) c.read-spot.ensures y.1,
-        subst (λ k. Ahead a.text.now c.in-Some.end (after k a.width l)) (sym (add-one s.i)) d.1.0,
+        subst (λ k. Ahead a.text.now c.in-Some.end (after k a.lists.width l)) (sym (add-one s.i)) d.1.0,
         λ k h. by_bool (ltb k s.i)
             (λ e. y.3 k (ltb-true k s.i e))
             (λ e. let b = ltb-false k s.i e in let q : k ≡ s.i = omega arith in
-            ap (λ j. good_list a.most (get_or ws j 0) (take a.width (after j a.width l))) q ∙ sym f ∙ sym d.0),
+            ap (λ j. good_list a.most (get_or ws j 0) (take a.lists.width (after j a.lists.width l))) q ∙ sym f ∙ sym d.0),
       ),
 )
 
@@ -63,4 +62,4 @@ pub shape_of-board : goal.shape_of-board
 shape_of-board c = c.loop-i.invariant.0
 
 pub returns : goal.returns
-returns c = let s = c.loop-i in let a = c.args in record { len = s.invariant.0; good = λ z ws l g. let y = s.invariant.1 z ws l g in (sym (good-all a.most a.count a.width ws l g.enough (λ k h. y.3 k (omega arith))), λ t. y.0) }
+returns c = let s = c.loop-i in let a = c.args in record { len = s.invariant.0; good = λ z ws l g. let y = s.invariant.1 z ws l g in (sym (good-all a.most a.lists.count a.lists.width ws l g.enough (λ k h. y.3 k (omega arith))), λ t. y.0) }

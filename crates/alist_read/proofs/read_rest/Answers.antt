@@ -3,18 +3,17 @@ use mathlib.Core.Path.{sym, ◌∙◌}
 use mathlib.Core.Bool.{true≢false}
 use Prim.Native.Nat.{◌*◌}
 use native.Mathlib.Omega.{arith}
-use borrow.Author.Tests.{not-true, not-false}
 use lib.ListN.{drop}
 use Rattle.lists.specs.Tests.{by_bool}
 use Rattle.alist.specs.Alist.{disagree}
 use Rattle.alist_read.specs.Reading.{whole}
-use Rattle.alist_read.proofs.Answering.{answer-as, answer-bad, answer-13}
+use Rattle.alist_read.proofs.Answering.{answer-bad, answer-13}
 use Rattle.alist_read.proofs.Cursors.{parts_from, columns-lie, rows_lie, product_small, miscounted, counts-right, sound-greatest}
 use Rattle.alist_read.proofs.Lists.{bands-agree, agree-bands}
 use Rattle.alist_read.proofs.read_rest.Goals as goal
 
-pub overflow_mul-columns : goal.overflow_mul-columns
-overflow_mul-columns c = let a = c.args in let g = c.requires in let p = product_small a.n a.a g.1 g.3 in let q = product_small a.m a.b g.2 g.4 in omega arith
+pub overflow_mul-entries : goal.overflow_mul-entries
+overflow_mul-entries c = let a = c.args in let g = c.requires in let p = product_small a.n a.a g.1 g.3 in let q = product_small a.m a.b g.2 g.4 in omega arith
 
 pub overflow_add-n-2 : goal.overflow_add-n-2
 overflow_add-n-2 c = let a = c.args in let g = c.requires in let p = product_small a.n a.a g.1 g.3 in let q = product_small a.m a.b g.2 g.4 in omega arith

@@ -1,7 +1,7 @@
 -- `heaviest` meets its contract: the greatest so far and the rows left decide.
 use mathlib.Core.Path.{◌≡◌}
 use mathlib.Core.List.{map}
-use Prim.Native.Nat.{max, ◌-◌, ◌≤◌}
+use Prim.Native.Nat.{max, ◌≤◌}
 use lib.ListN.{length}
 use Rattle.bits.specs.Row.{rows_in}
 use Rattle.making.specs.Rows.{rows_from}

@@ -1,5 +1,5 @@
 -- `write` meets its contract: the rows are loaded and hold the table's text.
-use Rattle.std.proofs.Common.{ℕ, arith, refl, ◌∙◌}
+use Rattle.std.proofs.Common.{ℕ, arith, ◌∙◌}
 use Rattle.std.proofs.lemmas.List.{length-replicate}
 use Rattle.lists.specs.ListLaws.{get_d-zeros}
 use Rattle.table.specs.Accepted.{few-checks, few-places}

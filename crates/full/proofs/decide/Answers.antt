@@ -1,24 +1,22 @@
 -- `full::decide` meets its contract.
-use mathlib.Core.Path.{refl, ◌∙◌}
+use mathlib.Core.Path.{sym, ◌∙◌}
 use Rattle.full.proofs.Deciding.{none-lost, zero-lost, solved, contradicted}
 use Rattle.full.proofs.decide.Goals as goal
 
-pub solve-requires : goal.solve-requires
-solve-requires c =
-    let p = c.requires in
+pub solve-requires-clause-known : goal.solve-requires-clause-known
+solve-requires-clause-known c =
     let a = c.args in
-    let done = c.restore_packets-done.ensures in
-    let holds = c.if-done.true in
-    record { table = p.table; room = (c.block-1.given ∙ p.room.0, c.map-1.given ∙ p.room.1, p.room.2); known = (none-lost a.t.now a.m a.n a.s p.table a.block.now a.map.now p.room.0 _ _ _ done holds, zero-lost a.t.now a.m a.n a.s p.table a.block.now a.map.now p.room.0 _ _ _ done holds) }
+    let done = c.restore_packets.ensures in
+    let holds = sym c.is_ok.ensures.value ∙ c.if-is_ok.true in
+    (none-lost _ _ _ _ a.table.now.accepted a.block.now a.map.now c.requires.0 _ _ _ done holds, zero-lost _ _ _ _ a.table.now.accepted a.block.now a.map.now c.requires.0 _ _ _ done holds)
 
-pub returns-then-done : goal.returns-then-done
-returns-then-done c =
-    let p = c.requires in
+pub returns-then-is_ok : goal.returns-then-is_ok
+returns-then-is_ok c =
     let a = c.args in
-    solved a.t.now a.m a.n a.s p.table a.block.now a.map.now p.room.0 _ _ _ c.restore_packets-done.ensures c.if-done.true _ _ _ c.solve.ensures
+    let holds = sym c.is_ok.ensures.value ∙ c.if-is_ok.true in
+    rw c.is_ok-then-is_ok.ensures.value (solved _ _ _ _ a.table.now.accepted a.block.now a.map.now c.requires.0 _ _ _ c.restore_packets.ensures holds _ _ _ c.solve.ensures)
 
-pub returns : goal.returns
-returns c =
-    let p = c.requires in
+pub returns-else-is_ok : goal.returns-else-is_ok
+returns-else-is_ok c =
     let a = c.args in
-    contradicted a.t.now a.m a.n a.s p.table a.block.now a.map.now p.room.0 _ _ _ c.restore_packets-done.ensures c.if-done.false _ refl
+    contradicted _ _ _ _ a.table.now.accepted a.block.now a.map.now c.requires.0 _ _ _ c.restore_packets.ensures (sym c.is_ok.ensures.value ∙ c.if-is_ok.false) _ c.if-is_ok.false

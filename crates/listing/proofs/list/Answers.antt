@@ -16,13 +16,13 @@ returns-in_default c =
     record { text = q.0; length = q.1.0; within = q.1.1 }
 
 pub slice_bounds-words-end : goal.slice_bounds-words-end
-slice_bounds-words-end c = let w = c.words_in.ensures in (words-within c.args.file.now word_buffer word_room w.answer w.words c.in-Count.is).0
+slice_bounds-words-end c = let w = c.words_in.ensures in (words-within c.args.file.now word_buffer word_room w.answer w.words c.in-Some.is).0
 
 pub slice_bounds-list_table-end : goal.slice_bounds-list_table-end
-slice_bounds-list_table-end c = let w = c.words_in.ensures in (words-within c.args.file.now word_buffer word_room w.answer w.words c.in-Count.is).1
+slice_bounds-list_table-end c = let w = c.words_in.ensures in (words-within c.args.file.now word_buffer word_room w.answer w.words c.in-Some.is).1
 
 pub returns : goal.returns
 returns c =
     let w = c.words_in.ensures in
-    let q = at-start (same_word (words-text c.args.file.now w.answer w.words c.in-Count.is) c.list_table.ensures) in
+    let q = at-start (same_word (words-text c.args.file.now w.answer w.words c.in-Some.is) c.list_table.ensures) in
     record { text = q.0; length = q.1.0; within = q.1.1 }

@@ -1,7 +1,7 @@
 -- `flip_list` meets its contract.
 use mathlib.Core.Path.{◌≡◌}
 use mathlib.Core.List.{List}
-use Prim.Native.Nat.{ℕ, ◌-◌, ◌≤◌}
+use Prim.Native.Nat.{ℕ, ◌≤◌}
 use lib.ListN.{length, take, drop}
 use Rattle.lists.specs.Lists.{par}
 use Rattle.numbers.specs.Cursor.{Ahead}

@@ -3,7 +3,7 @@ use Rattle.text.specs.Files.{read_count}
 use Rattle.verify_file.proofs.main.Goals as goal
 
 pub slice_bounds-words-end : goal.slice_bounds-words-end
-slice_bounds-words-end c = (read_count _ c.in_ok-n.ensures c.in-Count.is).0
+slice_bounds-words-end c = (read_count _ c.in_ok-n.ensures c.in-Some.is).0
 
 pub slice_bounds-verify-end : goal.slice_bounds-verify-end
-slice_bounds-verify-end c = (read_count _ c.in_ok-n.ensures c.in-Count.is).1
+slice_bounds-verify-end c = (read_count _ c.in_ok-n.ensures c.in-Some.is).1

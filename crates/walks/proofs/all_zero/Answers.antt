@@ -22,8 +22,8 @@ returns-then-spot-ne0 c = let s = c.loop-i in let a = c.args in λ l e h. let v 
 
 pub loop-i-preserved : goal.loop-i-preserved
 loop-i-preserved c = let s = c.loop-i in
-  λ l e h. let v = s.invariant l e h in let x = step_value l s.i c.read-spot.ensures v.0 (omega arith) in
-      (step-next l s.i c.read-spot.ensures v.0 (omega arith), pass-next is_zero l s.i _ (omega arith) x v.1 (eq-eqb _ 0 c.if-spot-ne0.false))
+    λ l e h. let v = s.invariant l e h in let x = step_value l s.i c.read-spot.ensures v.0 (omega arith) in
+    (step-next l s.i c.read-spot.ensures v.0 (omega arith), pass-next is_zero l s.i _ (omega arith) x v.1 (eq-eqb _ 0 c.if-spot-ne0.false))
 
 pub returns : goal.returns
 returns c = let s = c.loop-i in let z : s.i ≡ c.args.count = omega arith in λ l e h. sym (s.invariant l e h).1 ∙ ap (λ k. all_pass is_zero (take k l)) z

@@ -21,8 +21,8 @@ loop-i-init c = λ l e h. (e, refl)
 
 pub loop-i-preserved : goal.loop-i-preserved
 loop-i-preserved c = let s = c.loop-i in
-  λ l e h. let v = s.invariant l e h in
-      (step-next l s.i c.read-spot.ensures v.0 (omega arith), greatest-next l s.i s.most _ _ (omega arith) v.1 (step_value l s.i c.read-spot.ensures v.0 (omega arith)) c.max-most.ensures)
+    λ l e h. let v = s.invariant l e h in
+    (step-next l s.i c.read-spot.ensures v.0 (omega arith), greatest-next l s.i s.most _ _ (omega arith) v.1 (step_value l s.i c.read-spot.ensures v.0 (omega arith)) c.max-most.ensures)
 
 pub returns : goal.returns
 returns c = let s = c.loop-i in let z : s.i ≡ c.args.count = omega arith in λ l e h. (s.invariant l e h).1 ∙ ap (λ k. greatest (take k l)) z

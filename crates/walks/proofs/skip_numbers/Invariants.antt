@@ -1,6 +1,6 @@
 -- `skip_numbers` meets its contract.
 use mathlib.Core.List.{List}
-use Prim.Native.Nat.{ℕ, ◌-◌, ◌≤◌}
+use Prim.Native.Nat.{ℕ, ◌≤◌}
 use lib.ListN.{length, drop}
 use Rattle.numbers.specs.Cursor.{Ahead}
 use Rattle.walks.proofs.skip_numbers.Given as goal
