@@ -47,3 +47,11 @@ module _ (t : List ℕ) (m n s : ℕ) (k : Accepted t m n s) (b small column : L
   pub none-narrow : (map : List ℕ) → Cleared n s b map → (p : ℕ) → p < n → false ≡ suspect small column map p → false ≡ suspect t b map p
   none-narrow map c p inside e = sym (not_narrow t b map k.accepted (c.bytes ∙ ap₂ ◌*◌ k.places-are k.size_is) w.byte (rw (sym k.size_is) w.below) p (rw (sym k.places-are) inside)
       (sym (e ∙ ap₂ (λ x y. suspect x y map p) w.table_is (w.column-is ∙ ap₂ (λ x y. bytes_at y x w.byte b) k.places-are k.size_is))))
+
+  -- by the narrow table's own numbers
+  module _ (m' n' s' : ℕ) (a : Accepted small m' n' s') where
+    pub places-same : n' ≡ n
+    places-same = a.places-are ∙ sym small-accepted.places-are
+
+    pub narrow-cleared : (map : List ℕ) → Cleared n s b map → Cleared n' s' column map
+    narrow-cleared map c = let e : s' ≡ 1 = a.size_is ∙ sym small-accepted.size_is in rw (places-same, e) (column-cleared map c)

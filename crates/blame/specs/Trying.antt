@@ -1,8 +1,8 @@
 -- What the parts of the search for the only suspect come to.
 use Rattle.std.specs.Prelude.{◌≡◌, Bool, List, [], ◌∷◌, ℕ, ◌+◌, ◌-◌, ◌<◌, ◌≤◌}
 use Rattle.std.proofs.Math.Option.{Option, none, some}
-use Rattle.blame.specs.declared.Suspected.{Suspected}
-use Rattle.blame.specs.declared.Suspected.TheVariants.{Nobody, Place}
+use Rattle.std.specs.declared.option.Option.{Option as Found}
+use Rattle.std.specs.declared.option.Option.TheVariants.{None, Some}
 use Rattle.lists.specs.Lists.{from, filter}
 use Rattle.table.specs.Packets.{bytes_at}
 use Rattle.table.specs.Table.{at_size}
@@ -21,6 +21,6 @@ pub record Next (f : ℕ → Bool) (i n r : ℕ) : Type 0 where
   pub rest : r < n → filter f (from i (n - i)) ≡ r ∷ filter f (from (r + 1) (n - (r + 1)))
 
 -- the place that the code tells
-abbrev pub place_of : Suspected → Option ℕ
-place_of Nobody = none
-place_of (Place p) = some p
+abbrev pub place_of : Found ℕ → Option ℕ
+place_of None = none
+place_of (Some p) = some p

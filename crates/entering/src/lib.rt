@@ -7,6 +7,8 @@ ghost use Rattle.erasure.specs.Offered.{held};
 ghost use Rattle.lists.specs.Lists.{written};
 ghost use Rattle.packets.specs.Filling.{Sized};
 
+use table::Table;
+
 // A mark of the map: received, lost.
 const RECEIVED: u8 = 0;
 
@@ -44,30 +46,30 @@ fn enter(carried: u8, arrived: u8, block: &mut [u8], arrivals: &[u8], at: usize,
     carried
 }
 
-// All k places, of which n are old.
+// All places of the new table, of which n are old.
 pub fn enter_all(
     n: usize,
-    k: usize,
-    s: usize,
+    table: &Table,
     block: &mut [u8],
     map: &mut [u8],
     arrivals: &[u8],
     arrived: &[u8],
 )
-    requires { Sized k s block.old map.old
-        × Sized k s arrivals.now arrived.now }
+    requires { Sized table.now.places table.now.size block.old map.old
+        × Sized table.now.places table.now.size arrivals.now arrived.now }
     ensures block { block.new
-        ≡ (entered s n
+        ≡ (entered table.now.size n
         (held block.old map.old)
         (held arrivals.now arrived.now)
-        k).block }
+        table.now.places).block }
     ensures map { map.new
-        ≡ (entered s n
+        ≡ (entered table.now.size n
         (held block.old map.old)
         (held arrivals.now arrived.now)
-        k).map }
+        table.now.places).map }
 {
-    for p in 0..k {
+    let s = table.size;
+    for p in 0..table.places {
         let mark = carried(map, n, p);
         map[p] = enter(mark, arrived[p], block, arrivals, p * s, s);
     }

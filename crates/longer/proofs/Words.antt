@@ -1,12 +1,15 @@
 -- Two accepted tables word by word: the checks of one are the first of the other exactly if its weights and its places are.
 use mathlib.Core.Path.{◌≡◌, refl, sym, ap, ap₂, ◌∙◌, subst}
-use mathlib.Core.Bool.{Bool, true, false, ◌&&◌}
+use mathlib.Core.Bool.{Bool, true, false, not, ◌&&◌}
 use mathlib.Core.List.{List, [], ◌∷◌, ◌++◌}
 use mathlib.Core.Logic.{◌≢◌}
 use Prim.Native.Nat.{ℕ, zero, suc, ◌+◌, ◌-◌, ◌<◌, ◌≤◌}
 use native.Mathlib.Omega.{arith}
-use borrow.Author.Tests.{le-leb, lt-leb, ne_eqb, eq-eqb}
+use borrow.Author.Tests.{lt-leb, ne_eqb}
+use Rattle.std.proofs.lemmas.Bool.{not-true, not-false}
 use lib.Dec.{eqb, leb}
+use lib.Pointwise.{pointwise}
+use Rattle.lists.specs.Comparing.{pointwise-same}
 use lib.ListN.{length, take, drop, length-drop}
 use lib.Seq.{length-take-le, take-add, take-take}
 use Rattle.lists.specs.ListLaws.{same-sound}
@@ -78,13 +81,25 @@ weight-count t ok = let l = limits t ok in length-take-le (number t) (drop 4 t) 
 place-count : (t : List ℕ) → refusal t ≡ 0 → length (drop (5 + number t) t) ≡ total (weights t)
 place-count t ok = let l = limits t ok in length-drop (5 + number t) t ∙ omega (arith, l.long, l.ones-are)
 
-module _ (old new : List ℕ) (m k : ℕ) (a : Accepted old m (places old) (size old)) (z : Accepted new k (places new) (size new)) (more : m ≤ k) where
+module _ (old new : List ℕ) (m k n₁ n₂ s₁ s₂ : ℕ) (a : Accepted old m n₁ s₁) (z : Accepted new k n₂ s₂) (more : m ≤ k) where
   -- the weights and the places, as the code compares them
+  abbrev old_weights : List ℕ
+  old_weights = take (4 + m - 4) (drop 4 old)
+
+  abbrev new_weights : List ℕ
+  new_weights = take (4 + m - 4) (drop 4 new)
+
+  abbrev old_places : List ℕ
+  old_places = take (length old - (5 + m)) (drop (5 + m) old)
+
+  abbrev new_places : List ℕ
+  new_places = take (5 + k + (length old - (5 + m)) - (5 + k)) (drop (5 + k) new)
+
   abbrev same_weights : Bool
-  same_weights = same_list (take (4 + m - 4) (drop 4 old)) (take (4 + m - 4) (drop 4 new))
+  same_weights = same_list old_weights new_weights
 
   abbrev same_places : Bool
-  same_places = same_list (take (length old - (5 + m)) (drop (5 + m) old)) (take (5 + k + (length old - (5 + m)) - (5 + k)) (drop (5 + k) new))
+  same_places = same_list old_places new_places
 
   weights-are : same_weights ≡ same_list (weights old) (take (number old) (weights new))
   weights-are =
@@ -104,15 +119,22 @@ module _ (old new : List ℕ) (m k : ℕ) (a : Accepted old m (places old) (size
       ∙ ap (λ j. same_list (weights old) (take j (weights new)) && same_list (take (total (weights old)) (drop (5 + number old) old)) (take (total (weights old)) (drop (5 + number new) new))) (weight-count old a.accepted)
       ∙ sym (ap₂ ◌&&◌ weights-are places-are)
 
-  pub other-weights : same_weights ≡ false → false ≡ are_first (checks old) (checks new)
-  other-weights e = sym (by-words ∙ ap (λ x. x && same_places) e)
+  -- by what the comparisons say
+  weights-same : (q : Bool) → q ≡ not (pointwise eqb old_weights new_weights) → q ≡ false → same_weights ≡ true
+  weights-same q h e = sym (pointwise-same old_weights new_weights) ∙ not-false (pointwise eqb old_weights new_weights) (sym h ∙ e)
 
-  pub places-tell : (r : Bool) → same_weights ≡ true → r ≡ same_places → r ≡ are_first (checks old) (checks new)
-  places-tell r e f = f ∙ sym (by-words ∙ ap (λ x. x && same_places) e)
+  pub other-weights : (q : Bool) → q ≡ not (pointwise eqb old_weights new_weights) → q ≡ true → false ≡ are_first (checks old) (checks new)
+  other-weights q h e =
+      let d : same_weights ≡ false = sym (pointwise-same old_weights new_weights) ∙ not-true (pointwise eqb old_weights new_weights) (sym h ∙ e) in
+      sym (by-words ∙ ap (λ x. x && same_places) d)
+
+  pub places-tell : (q r : Bool) → q ≡ not (pointwise eqb old_weights new_weights) → q ≡ false → r ≡ pointwise eqb old_places new_places → r ≡ are_first (checks old) (checks new)
+  places-tell q r h e f = f ∙ pointwise-same old_places new_places ∙ sym (by-words ∙ ap (λ x. x && same_places) (weights-same q h e))
 
   -- with the same weights there is room for the places
-  pub room : same_weights ≡ true → 5 + k + (length old - (5 + m)) ≤ length new
-  room e =
+  pub room : (q : Bool) → q ≡ not (pointwise eqb old_weights new_weights) → q ≡ false → 5 + k + (length old - (5 + m)) ≤ length new
+  room q h f =
+      let e : same_weights ≡ true = weights-same q h f in
       let l = limits old a.accepted in
       let j = limits new z.accepted in
       let w = ap total (same-sound (weights old) (take (number old) (weights new)) (sym weights-are ∙ e)) in
@@ -130,6 +152,3 @@ module _ (old new : List ℕ) where
   fewer-checks ok good h =
       let z = fewer (checks old) (checks new) (omega (arith, checks-length old ok, checks-length new good)) in
       ap (λ z. eqb (size old) (size new) && (leb (places old) (places new) && z)) z ∙ ap (λ z. eqb (size old) (size new) && z) (and-false (leb (places old) (places new)) false refl) ∙ and-false (eqb (size old) (size new)) false refl
-
-  pub checks-tell : size old ≡ size new → places old ≤ places new → lengthens old new ≡ are_first (checks old) (checks new)
-  checks-tell e h = rw (eq-eqb (size old) (size new) e, le-leb (places old) (places new) h)

@@ -1,6 +1,6 @@
 -- What the call of repair answers, from what its parts leave.
 use mathlib.Core.Path.{◌≡◌, refl, sym, ap, ap₂, ◌∙◌, subst}
-use mathlib.Core.Bool.{Bool, true, false, true≢false}
+use mathlib.Core.Bool.{Bool, true, false, true≢false, ◌||◌}
 use mathlib.Core.List.{List}
 use mathlib.Core.Option.{none, some}
 use Prim.Native.Nat.{ℕ, zero, suc, ◌*◌, ◌<◌}
@@ -14,8 +14,8 @@ use Rattle.table.specs.Packets.{packets, joined}
 use Rattle.table.specs.Table.{places, size, checks, refusal}
 use Rattle.table.specs.TableLaws.{refusal-small}
 use Rattle.table.specs.Accepted.{Accepted}
-use Rattle.erasure.proofs.OfferedLaws.{none-handed, bytes-all, sized, low}
-use Rattle.erasure.specs.Offered.{Fitting}
+use Rattle.erasure.proofs.OfferedLaws.{lengths-fit, offer-fits, none-handed, bytes-all, sized, low}
+use Rattle.erasure.specs.Offered.{Fitting, wrong_lengths}
 use Rattle.erasure.proofs.OldBytes.{old-bytes, old-bytes-cleared}
 use Rattle.erasure.proofs.OldRepair.{cleared-kept}
 use Rattle.erasure.proofs.OutcomeLaws.{tally-two}
@@ -26,23 +26,30 @@ use Rattle.trials.specs.Cleared.{Cleared}
 use Rattle.faults.proofs.FaultLaws.{no-fault, some-fault, first-fault}
 use Rattle.restore.specs.Mending.{counts_of, Mends}
 use Rattle.restore.specs.MendsLaws.{agrees-told, check-told, byte-told}
-use Rattle.restore.specs.declared.Mended.{Mended}
+use Rattle.std.specs.declared.result.Result.{Result}
+use Rattle.std.specs.declared.result.Result.TheVariants.{Err}
+use Rattle.refusals.proofs.Numbers.{number-some, nothing-on}
+use Rattle.refusals.specs.Refusals.{number_of}
+use Rattle.refusals.specs.declared.Fault.{Fault as FaultFound}
+use Rattle.refusals.specs.declared.Refusal.{Refusal}
+use Rattle.refusals.specs.declared.Refusal.TheVariants.{Buffer, Map}
+use Rattle.table.specs.FirstCause.{wrong_length}
 use Rattle.repair.specs.Parts.{Without}
 use Rattle.repair.specs.Repair.{believed, marked, repair_refusal, Answers}
-use Rattle.repair.specs.RepairLaws.{agreed-refusal, blamed-refusal, contradicted-refusal, table-refused, block-short, map-short, byte-over, block-accepted, block-contradicted, block_refused, map-accepted, map-refused}
+use Rattle.repair.specs.RepairLaws.{agreed-refusal, blamed-refusal, contradicted-refusal, table-refused, lengths-wrong, byte-over, block-accepted, block-contradicted, block_refused, map-accepted, map-refused}
 use Rattle.report.specs.Report.{repair_answer_of, accepted_with, refused_with}
 use Rattle.report.specs.declared.Repaired.{Repaired}
 
 -- ---- what the core tells and leaves
-module _ (t b l : List ℕ) (f : Fitting t b l) (d : Mended) (b₂ l₂ : List ℕ) (done : Mends t b l d b₂ l₂) where
+module _ (t b l : List ℕ) (f : Fitting t b l) (d : Result Repaired FaultFound) (b₂ l₂ : List ℕ) (done : Mends t b l d b₂ l₂) where
   -- no contradiction
   module _ (yes : agreeing t b l ≡ true) where
-    pub counts-then : accepted_with d.restored d.lost d.additions ≡ accepted_with (tally 2 (outcome t b l).map) (tally 1 (outcome t b l).map) (outcome t b l).adds
+    pub counts-then : accepted_with (counts_of d).restored (counts_of d).lost (counts_of d).additions ≡ accepted_with (tally 2 (outcome t b l).map) (tally 1 (outcome t b l).map) (outcome t b l).adds
     counts-then =
         let all : counts_of d ≡ counts_if none l (outcome t b l) = done.report ∙ ap (λ x. counts_if x l (outcome t b l)) (no-fault (contradicting t b l) yes) in
-        let d2 : d.restored ≡ tally 2 (outcome t b l).map = ap (λ (x : Counts). x.restored) all ∙ tally-two t b l (bytes-all l f.map-bytes) in
-        let d3 : d.lost ≡ tally 1 (outcome t b l).map = ap (λ (x : Counts). x.lost) all in
-        let d4 : d.additions ≡ (outcome t b l).adds = ap (λ (x : Counts). x.additions) all in
+        let d2 : (counts_of d).restored ≡ tally 2 (outcome t b l).map = ap (λ (x : Counts). x.restored) all ∙ tally-two t b l (bytes-all l f.map-bytes) in
+        let d3 : (counts_of d).lost ≡ tally 1 (outcome t b l).map = ap (λ (x : Counts). x.lost) all in
+        let d4 : (counts_of d).additions ≡ (outcome t b l).adds = ap (λ (x : Counts). x.additions) all in
         rw (d2, d3, d4)
 
     pub block-then : b₂ ≡ joined (outcome t b l).block
@@ -51,7 +58,7 @@ module _ (t b l : List ℕ) (f : Fitting t b l) (d : Mended) (b₂ l₂ : List �
     pub map-then : l₂ ≡ (outcome t b l).map
     map-then = done.map_is ∙ ap (λ v. map_if v t b l) yes
 
-  pub answer-accepted : d.agrees ≡ true → (r : Repaired) → repair_answer_of r ≡ accepted_with d.restored d.lost d.additions → Answers t b l r b₂ l₂
+  pub answer-accepted : (counts_of d).agrees ≡ true → (r : Result Repaired Refusal) → repair_answer_of r ≡ accepted_with (counts_of d).restored (counts_of d).lost (counts_of d).additions → Answers t b l r b₂ l₂
   answer-accepted pass r e =
       let yes : agreeing t b l ≡ true = sym (agrees-told t b l d b₂ l₂ done) ∙ pass in
       let ok : repair_refusal t b l ≡ 0 = agreed-refusal t b l f yes in
@@ -63,7 +70,7 @@ module _ (t b l : List ℕ) (f : Fitting t b l) (d : Mended) (b₂ l₂ : List �
       }
 
   -- a contradiction: the map is as it was, and lost places are zero
-  module _ (fail : d.agrees ≡ false) where
+  module _ (fail : (counts_of d).agrees ≡ false) where
     contrary : agreeing t b l ≡ false
     contrary = sym (agrees-told t b l d b₂ l₂ done) ∙ fail
 
@@ -88,7 +95,7 @@ module _ (t b l : List ℕ) (f : Fitting t b l) (d : Mended) (b₂ l₂ : List �
     }
 
     -- the byte that is told is one of a packet
-    pub byte_inside : d.byte < size t
+    pub byte_inside : (counts_of d).byte < size t
     byte_inside = subst (λ x. x < size t) (sym (byte-told t b l d b₂ l₂ done))
         (first-fault (none_lost (outcome t b l).map) (size t) (outcome t b l).block (sized t b l f) (checks t) (low t b l f) _ (some-fault (contradicting t b l) contrary)).below
 
@@ -98,7 +105,7 @@ module _ (t b l : List ℕ) (f : Fitting t b l) (d : Mended) (b₂ l₂ : List �
 
     -- nobody is blamed
     pub answer-contradicted : none ≡ only_suspect t b₂ l₂ → (b₃ l₃ : List ℕ) → b₃ ≡ b₂ → l₃ ≡ l₂
-        → (r : Repaired) → repair_answer_of r ≡ refused_with 8 d.check d.byte → Answers t b l r b₃ l₃
+        → (r : Result Repaired Refusal) → repair_answer_of r ≡ refused_with 8 (counts_of d).check (counts_of d).byte → Answers t b l r b₃ l₃
     answer-contradicted is b₃ l₃ eb el r e =
         let bad : repair_refusal t b l ≡ 8 = contradicted-refusal t b l f contrary (only_then ∙ sym is) in
         record {
@@ -116,7 +123,7 @@ module _ (t b l : List ℕ) (f : Fitting t b l) (d : Mended) (b₂ l₂ : List �
         rw (eb, el) (fits-then long, (inside, it.agrees))
 
     pub answer-blamed : (p : ℕ) → some p ≡ only_suspect t b₂ l₂ → (b₃ l₃ : List ℕ) → b₃ ≡ b₂ → l₃ ≡ l₂
-        → (r : Repaired) (b₄ l₄ : List ℕ) → Without t b₃ l₃ p r b₄ l₄ → Answers t b l r b₄ l₄
+        → (r : Result Repaired Refusal) (b₄ l₄ : List ℕ) → Without t b₃ l₃ p r b₄ l₄ → Answers t b l r b₄ l₄
     answer-blamed p is b₃ l₃ eb el r b₄ l₄ w =
         let it : blamed t b l ≡ some p = only_then ∙ sym is in
         let ok : repair_refusal t b l ≡ 0 = blamed-refusal t b l f p it in
@@ -132,8 +139,8 @@ module _ (t b l : List ℕ) (f : Fitting t b l) (d : Mended) (b₂ l₂ : List �
 pub without-fits : (t b l : List ℕ) (p : ℕ) → Fitting t b l → Fitting t b (lost_too l p)
 without-fits t b l p f = record { table = f.table; block = f.block; map-length = length-set l p 1 ∙ f.map-length; map-bytes = lost_too-bytes l p f.map-bytes }
 
-pub answer-without : (t b l : List ℕ) (p : ℕ) → Fitting t b l → agreeing t b (lost_too l p) ≡ true → (d : Mended) (b₂ l₂ : List ℕ) → Mends t b (lost_too l p) d b₂ l₂
-    → (r : Repaired) → repair_answer_of r ≡ accepted_with d.restored d.lost d.additions → Without t b l p r b₂ (set l₂ p 3)
+pub answer-without : (t b l : List ℕ) (p : ℕ) → Fitting t b l → agreeing t b (lost_too l p) ≡ true → (d : Result Repaired FaultFound) (b₂ l₂ : List ℕ) → Mends t b (lost_too l p) d b₂ l₂
+    → (r : Result Repaired Refusal) → repair_answer_of r ≡ accepted_with (counts_of d).restored (counts_of d).lost (counts_of d).additions → Without t b l p r b₂ (set l₂ p 3)
 answer-without t b l p f agrees d b₂ l₂ done r e =
     let g = without-fits t b l p f in
     record {
@@ -144,7 +151,7 @@ answer-without t b l p f agrees d b₂ l₂ done r e =
 
 -- ---- a call that is refused before
 pub answer-refused : (t b l : List ℕ) (c : ℕ) → repair_refusal t b l ≡ c → eqb c 0 ≡ false → eqb c 8 ≡ false
-    → (r : Repaired) → repair_answer_of r ≡ refused_with c 0 0 → Answers t b l r b l
+    → (r : Result Repaired Refusal) → repair_answer_of r ≡ refused_with c 0 0 → Answers t b l r b l
 answer-refused t b l zero h e0 e8 r e = absurd (true≢false e0)
 answer-refused t b l (suc c) h e0 e8 r e = record {
   report = e ∙ rw (h, none-handed (suc c) (contradicting t b l) e8);
@@ -152,25 +159,31 @@ answer-refused t b l (suc c) h e0 e8 r e = record {
   map_is = sym (map-refused t b l (suc c) h e0);
 }
 
--- the causes in order, each with what the code found before it
-module _ (t b l : List ℕ) (c n s : ℕ) (look : c ≡ refusal t) (r : Repaired) where
-  pub answer-table : (c ≡ 0 → ⊥) → repair_answer_of r ≡ refused_with c 0 0 → Answers t b l r b l
-  answer-table ne e = let z = refusal-small t in
-      answer-refused t b l (refusal t) (table-refused t b l (λ q. ne (look ∙ q))) (ne_eqb (refusal t) 0 (λ q. ne (look ∙ q))) (ne_eqb (refusal t) 8 (λ q. omega arith)) r (e ∙ ap (λ k. refused_with k 0 0) look)
+-- the causes in order
+module _ (t b l : List ℕ) where
+  pub answer-table : (q : Refusal) → number_of q ≡ refusal t → Answers t b l (Err q) b l
+  answer-table q e =
+      let z = refusal-small t in
+      let ne : refusal t ≡ 0 → ⊥ = λ w. number-some q (e ∙ w) in
+      let on = nothing-on q (λ w. omega (arith, e, w)) in
+      answer-refused t b l (refusal t) (table-refused t b l ne) (ne_eqb (refusal t) 0 ne) (ne_eqb (refusal t) 8 (λ w. omega arith)) (Err q) (rw (on.0, on.1, e))
 
-  module _ (ok : c ≡ 0) (en : n ≡ places t) (es : s ≡ size t) where
-    pub answer-block : (length b ≡ n * s → ⊥) → repair_answer_of r ≡ refused_with 5 0 0 → Answers t b l r b l
-    answer-block ne e = answer-refused t b l 5 (block-short t b l (sym look ∙ ok) (λ q. ne (q ∙ sym (ap₂ ◌*◌ en es)))) refl refl r e
+  module _ (m n s : ℕ) (k : Accepted t m n s) (w : Bool) (found : w ≡ (wrong_length (length b) (n * s) || wrong_length (length l) n)) where
+    wrong-is : wrong_lengths t b l ≡ w
+    wrong-is = sym (found ∙ ap₂ (λ x y. wrong_length (length b) (x * y) || wrong_length (length l) x) k.places-are k.size_is)
 
-    pub answer-map : length b ≡ n * s → (length l ≡ n → ⊥) → repair_answer_of r ≡ refused_with 5 0 0 → Answers t b l r b l
-    answer-map lb ne e = answer-refused t b l 5 (map-short t b l (sym look ∙ ok) (lb ∙ ap₂ ◌*◌ en es) (λ q. ne (q ∙ sym en))) refl refl r e
+    pub answer-lengths : w ≡ true → Answers t b l (Err Buffer) b l
+    answer-lengths y = answer-refused t b l 5 (lengths-wrong t b l k.accepted (wrong-is ∙ y)) refl refl (Err Buffer) refl
 
-    pub answer-byte : length b ≡ n * s → length l ≡ n → any_of (ltb 1) l ≡ true → repair_answer_of r ≡ refused_with 7 0 0 → Answers t b l r b l
-    answer-byte lb ll over e = answer-refused t b l 7 (byte-over t b l (sym look ∙ ok) (lb ∙ ap₂ ◌*◌ en es) (ll ∙ en) over) refl refl r e
+    module _ (fit : w ≡ false) (over : Bool) (is : over ≡ any_of (ltb 1) l) where
+      pub answer-byte : over ≡ true → Answers t b l (Err Map) b l
+      answer-byte y =
+          let long = lengths-fit t b l (wrong-is ∙ fit) in
+          answer-refused t b l 7 (byte-over t b l k.accepted long.0 long.1 (sym is ∙ y)) refl refl (Err Map) refl
 
--- and a call that none of them refuses
-pub fitting : (t b l : List ℕ) (c n s : ℕ) → c ≡ refusal t → c ≡ 0 → n ≡ places t → s ≡ size t → length b ≡ n * s → length l ≡ n → (over : Bool) → over ≡ any_of (ltb 1) l → over ≡ false → Fitting t b l
-fitting t b l c n s look ok en es lb ll over e no_byte = record { table = sym look ∙ ok; block = lb ∙ ap₂ ◌*◌ en es; map-length = ll ∙ en; map-bytes = sym e ∙ no_byte }
+      -- and a call that none of them refuses
+      pub fitting : over ≡ false → Fitting t b l
+      fitting y = offer-fits t b l k.accepted (wrong-is ∙ fit) (sym is ∙ y)
 
 -- what such a call has
 pub fit-bytes : (t : List ℕ) (m n s : ℕ) (b l : List ℕ) → Accepted t m n s → Fitting t b l → length b ≡ n * s

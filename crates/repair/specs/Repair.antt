@@ -7,6 +7,8 @@ use Rattle.erasure.specs.Offered.{wrong_lengths, byte_over, handed_on}
 use Rattle.erasure.specs.Restoring.{State, zero_lost, tally, outcome, contradicting, agreeing}
 use Rattle.faults.specs.Faults.{Fault, check_of, byte_of}
 use Rattle.report.specs.Report.{RepairAnswer, accepted_with, refused_with, repair_answer_of}
+use Rattle.std.specs.declared.result.Result.{Result}
+use Rattle.refusals.specs.declared.Refusal.{Refusal}
 use Rattle.report.specs.declared.Repaired.{Repaired}
 use Rattle.table.specs.FirstCause.{first_cause}
 use Rattle.table.specs.Packets.{packets, joined}
@@ -61,7 +63,7 @@ abbrev pub repair_map_after : List ℕ → List ℕ → List ℕ → List ℕ
 repair_map_after t b map = elim (eqb (repair_refusal t b map) 0) [ true ↦ marked (blamed t b map) (repair_outcome t b map).map | false ↦ map ]
 
 -- what the call answers, and what it leaves in block and map
-pub record Answers (t b map : List ℕ) (r : Repaired) (b' map' : List ℕ) : Type 0 where
+pub record Answers (t b map : List ℕ) (r : Result Repaired Refusal) (b' map' : List ℕ) : Type 0 where
   pub report : repair_answer_of r ≡ repair_answer t b map
   pub block-is : b' ≡ repair_block_after t b map
   pub map_is : map' ≡ repair_map_after t b map

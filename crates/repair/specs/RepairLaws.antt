@@ -34,6 +34,9 @@ module _ (t b map : List ℕ) where
   unfolding repair_refusal
   at_own ok = rest-decides (none-holds (table_causes t) refl ok) own
 
+  pub lengths-wrong : refusal t ≡ 0 → wrong_lengths t b map ≡ true → repair_refusal t b map ≡ 5
+  lengths-wrong ok w = at_own ok ∙ rw w
+
   pub block-short : refusal t ≡ 0 → length b ≢ places t * size t → repair_refusal t b map ≡ 5
   block-short ok ne = at_own ok ∙ rw (ne_eqb (length b) (places t * size t) ne)
 

@@ -17,11 +17,25 @@ use Rattle.table.specs.Table.{places, size, checks}
 use Rattle.erasure.proofs.OutcomeLaws.{zero_lost-sized, start-length, start-sized, outcome-length, outcome-sized}
 use Rattle.erasure.specs.Restoring.{zero_lost, outcome, agreeing, block_if, map_if, is_lost}
 use Rattle.erasure.proofs.Values.{received-kept, zero_lost-length, zero_lost-kept, zero_lost-zero}
+use Rattle.std.specs.declared.result.Result.{Result}
+use Rattle.std.specs.declared.result.Result.TheVariants.{Ok, Err}
+use Rattle.std.specs.Result.{is_ok}
+use Rattle.refusals.specs.declared.Fault.{Fault as FaultFound}
+use Rattle.report.specs.declared.Repaired.{Repaired}
+use Rattle.restore.specs.Mending.{counts_of}
 use Rattle.suspects.specs.Blame.{lost_too, suspect}
 use Rattle.trials.specs.Cleared.{Cleared}
 use Rattle.trials.specs.ClearedLaws.{cleared-packets}
 
 -- ---- what a trial says
+-- whether nothing contradicts, as the code asks
+agrees-is : (r : Result Repaired FaultFound) → is_ok r ≡ (counts_of r).agrees
+agrees-is (Ok x) = refl
+agrees-is (Err f) = refl
+
+pub told : (r : Result Repaired FaultFound) (v q : Bool) → v ≡ is_ok r → v ≡ q → (counts_of r).agrees ≡ q
+told r v q h e = sym (h ∙ agrees-is r) ∙ e
+
 pub both : (a v : Bool) → v ≡ true → a ≡ (a && v)
 both true v e = sym e
 both false v e = refl

@@ -7,7 +7,4 @@ use Rattle.blame.proofs.next_suspect.Given as goal
 
 abbrev pub invariant-loop-p : goal.invariant-loop-p
 invariant-loop-p l =
-    (l.block ≡ l.initial.block) × (l.map ≡ l.initial.map) × (l.column ≡ l.initial.column) × (filter (suspect l.t l.initial.block l.initial.map) (from l.first (l.n - l.first)) ≡ filter (suspect l.t l.initial.block l.initial.map) (from l.p (l.n - l.p)))
-
-abbrev pub decreases-loop-p : goal.decreases-loop-p
-decreases-loop-p l = l.n - l.p
+    (l.block ≡ l.initial.block) × (l.map ≡ l.initial.map) × (l.column ≡ l.initial.column) × (filter (suspect l.table.words.now l.initial.block l.initial.map) (from l.first (l.table.places - l.first)) ≡ filter (suspect l.table.words.now l.initial.block l.initial.map) (from l.p (l.table.places - l.p)))
