@@ -18,12 +18,17 @@ use Rattle.report.specs.Report.{repair_answer_of, accepted_with, refused_with}
 use Rattle.report.specs.declared.Repaired.{Repaired}
 use Rattle.restore.specs.Mending.{Mends, counts_of}
 use Rattle.restore.specs.MendsLaws.{agrees-told, check-told, byte-told}
-use Rattle.restore.specs.declared.Mended.{Mended}
+use Rattle.std.specs.declared.result.Result.{Result}
+use Rattle.std.specs.declared.result.Result.TheVariants.{Err}
+use Rattle.refusals.proofs.Numbers.{number-some, nothing-on}
+use Rattle.refusals.specs.Refusals.{number_of}
+use Rattle.refusals.specs.declared.Fault.{Fault as FaultFound}
+use Rattle.refusals.specs.declared.Refusal.{Refusal}
 use Rattle.table.specs.FirstCause.{first_cause}
 use Rattle.table.specs.Table.{places, size}
 
 -- ---- nothing before 8 refuses: what the core tells and leaves of what was entered
-module _ (old new : List ℕ) (carried arrivals : Held) (f : LengthenFitting old new carried arrivals) (d : Mended) (b map b' map' : List ℕ)
+module _ (old new : List ℕ) (carried arrivals : Held) (f : LengthenFitting old new carried arrivals) (d : Result Repaired FaultFound) (b map b' map' : List ℕ)
     (block-is : b ≡ (start old new carried arrivals).block) (marks-are : map ≡ (start old new carried arrivals).map) (core : Mends new b map d b' map') where
   abbrev b₀ : List ℕ
   b₀ = (start old new carried arrivals).block
@@ -34,10 +39,10 @@ module _ (old new : List ℕ) (carried arrivals : Held) (f : LengthenFitting old
   done : Mends new b₀ map₀ d b' map'
   done = subst (λ m. Mends new b₀ m d b' map') marks-are (subst (λ x. Mends new x map d b' map') block-is core)
 
-  told : d.agrees ≡ agreeing new b₀ map₀
+  told : (counts_of d).agrees ≡ agreeing new b₀ map₀
   told = agrees-told new b₀ map₀ d b' map' done
 
-  pub answer-accepted : d.agrees ≡ true → (r : Repaired) → repair_answer_of r ≡ accepted_with d.restored d.lost d.additions → Answers old new carried arrivals r b' map'
+  pub answer-accepted : (counts_of d).agrees ≡ true → (r : Result Repaired Refusal) → repair_answer_of r ≡ accepted_with (counts_of d).restored (counts_of d).lost (counts_of d).additions → Answers old new carried arrivals r b' map'
   answer-accepted pass r e =
       let yes = sym told ∙ pass in
       let ok : lengthen_refusal old new carried arrivals ≡ 0 = agreed-refusal old new carried arrivals f yes in
@@ -48,7 +53,7 @@ module _ (old new : List ℕ) (carried arrivals : Held) (f : LengthenFitting old
         map_is = done.map_is ∙ ap (λ v. map_if v new b₀ map₀) yes ∙ sym (ap (λ (x : Held). x.map) (after-accepted old new carried arrivals ok));
       }
 
-  pub answer-contradicted : d.agrees ≡ false → (r : Repaired) → repair_answer_of r ≡ refused_with 8 d.check d.byte → Answers old new carried arrivals r b' map'
+  pub answer-contradicted : (counts_of d).agrees ≡ false → (r : Result Repaired Refusal) → repair_answer_of r ≡ refused_with 8 (counts_of d).check (counts_of d).byte → Answers old new carried arrivals r b' map'
   answer-contradicted fail r e =
       let no = sym told ∙ fail in
       let bad : lengthen_refusal old new carried arrivals ≡ 8 = contradicted-refusal old new carried arrivals f no in
@@ -59,13 +64,14 @@ module _ (old new : List ℕ) (carried arrivals : Held) (f : LengthenFitting old
       }
 
 -- ---- some cause before 8 holds
-pub answer-refused : (old new : List ℕ) (carried arrivals : Held) (c : ℕ) → c ≡ first_cause (offer_causes old new carried arrivals) → c ≢ 0
-    → (r : Repaired) → repair_answer_of r ≡ refused_with c 0 0 → Answers old new carried arrivals r carried.block carried.map
-answer-refused old new carried arrivals c is n r e =
-    let told : lengthen_refusal old new carried arrivals ≡ c = offer-refused old new carried arrivals (λ z. n (is ∙ z)) ∙ sym is in
-    let k = refused-lengthening old new carried arrivals (λ z. n (sym told ∙ z)) (λ z. not_eight old new carried arrivals (sym is ∙ sym told ∙ z)) in
+pub answer-refused : (old new : List ℕ) (carried arrivals : Held) (q : Refusal) → number_of q ≡ first_cause (offer_causes old new carried arrivals) → Answers old new carried arrivals (Err q) carried.block carried.map
+answer-refused old new carried arrivals q is =
+    let n : first_cause (offer_causes old new carried arrivals) ≢ 0 = λ z. number-some q (is ∙ z) in
+    let told : lengthen_refusal old new carried arrivals ≡ number_of q = offer-refused old new carried arrivals n ∙ sym is in
+    let k = refused-lengthening old new carried arrivals (λ z. number-some q (sym told ∙ z)) (λ z. not_eight old new carried arrivals (sym is ∙ sym told ∙ z)) in
+    let on = nothing-on q (λ z. not_eight old new carried arrivals (sym is ∙ z)) in
     record {
-      report = e ∙ ap (λ x. refused_with x 0 0) (sym told) ∙ sym k.0;
+      report = ap₂ (λ x y. refused_with (number_of q) x y) on.0 on.1 ∙ ap (λ x. refused_with x 0 0) (sym told) ∙ sym k.0;
       block-is = sym (ap (λ (x : Held). x.block) k.1);
       map_is = sym (ap (λ (x : Held). x.map) k.1);
     }

@@ -2,7 +2,7 @@
 use mathlib.Core.Path.{◌≡◌, sym, ap, ap₂, ◌∙◌}
 use mathlib.Core.Bool.{Bool, true, false, ◌||◌}
 use mathlib.Core.List.{List}
-use Prim.Native.Nat.{ℕ, ◌-◌, ◌*◌, ◌≤◌}
+use Prim.Native.Nat.{ℕ, ◌*◌, ◌≤◌}
 use native.Mathlib.Omega.{arith}
 use lib.Dec.{ltb}
 use lib.ListN.{length, take}
@@ -14,19 +14,19 @@ use Rattle.lists.specs.Lists.{any_of}
 use Rattle.lists.specs.Tests.{or_l, or_r, or-neither}
 use Rattle.longer.specs.Longer.{lengthens}
 use Rattle.longer.specs.LongerLaws.{lengthens-facts}
+use Rattle.table.specs.Accepted.{Accepted}
 use Rattle.table.specs.FirstCause.{first_cause, wrong_length}
-use Rattle.table.specs.Table.{places, size, refusal}
 
-module _ (old new : List ℕ) (carried arrivals : Held) (c d n s : ℕ) (look₁ : c ≡ refusal old) (ok : c ≡ 0) (look₂ : d ≡ refusal new) (good : d ≡ 0) (en : n ≡ places new) (es : s ≡ size new) where
+module _ (old new : List ℕ) (carried arrivals : Held) (m k r m' n s : ℕ) (a : Accepted old m k r) (z : Accepted new m' n s) where
   own : first_cause (offer_causes old new carried arrivals) ≡ first_cause (own_causes old new carried arrivals)
-  own = at_own old new carried arrivals (sym look₁ ∙ ok) (sym look₂ ∙ good)
+  own = at_own old new carried arrivals a.accepted z.accepted
 
   -- v is what the code finds of the lengths of h
   abbrev Compared : Held → Bool → Type 0
   Compared h v = v ≡ (wrong_length (length h.block) (n * s) || wrong_length (length h.map) n)
 
   wrong-is : (h : Held) (v : Bool) → Compared h v → wrong_lengths new h.block h.map ≡ v
-  wrong-is h v e = sym (e ∙ ap₂ (λ k l. wrong_length (length h.block) (k * l) || wrong_length (length h.map) k) en es)
+  wrong-is h v e = sym (e ∙ ap₂ (λ x y. wrong_length (length h.block) (x * y) || wrong_length (length h.map) x) z.places-are z.size_is)
 
   -- 5 by what is carried, or by the arrivals
   five : wrong_either old new carried arrivals ≡ true → 5 ≡ first_cause (offer_causes old new carried arrivals)
@@ -45,25 +45,25 @@ module _ (old new : List ℕ) (carried arrivals : Held) (c d n s : ℕ) (look₁
     pub fifteen : (l : Bool) → l ≡ lengthens old new → l ≡ false → 15 ≡ first_cause (offer_causes old new carried arrivals)
     fifteen l e y = sym (own ∙ rw (none-wrong, sym e ∙ y))
 
-    module _ (l : Bool) (long : l ≡ lengthens old new) (yes : l ≡ true) (k : ℕ) (ek : k ≡ places old) where
+    module _ (l : Bool) (long : l ≡ lengthens old new) (yes : l ≡ true) where
       longer : lengthens old new ≡ true
       longer = sym long ∙ yes
 
       -- the old places are the map's first
       pub inside : (k ≤ length carried.map) × (length carried.map ≡ n)
       inside =
-          let m = (lengths-fit new carried.block carried.map (wrong-is carried u e₁ ∙ y₁)).1 in
-          (omega (arith, (lengthens-facts old new longer).more-places), m ∙ sym en)
+          let long-map = (lengths-fit new carried.block carried.map (wrong-is carried u e₁ ∙ y₁)).1 in
+          (omega (arith, (lengthens-facts old new longer).more-places, a.places-are), long-map ∙ sym z.places-are)
 
-      over-is : (o : Bool) → o ≡ any_of (ltb 2) (take (k - 0) carried.map) → carried_over old new carried arrivals ≡ o
-      over-is o e = let z : k - 0 ≡ places old = omega arith in sym (e ∙ ap (λ j. any_of (ltb 2) (take j carried.map)) z)
+      over-is : (o : Bool) → o ≡ any_of (ltb 2) (take k carried.map) → carried_over old new carried arrivals ≡ o
+      over-is o e = sym (e ∙ ap (λ j. any_of (ltb 2) (take j carried.map)) a.places-are)
 
-      pub sixteen : (o : Bool) → o ≡ any_of (ltb 2) (take (k - 0) carried.map) → o ≡ true → 16 ≡ first_cause (offer_causes old new carried arrivals)
+      pub sixteen : (o : Bool) → o ≡ any_of (ltb 2) (take k carried.map) → o ≡ true → 16 ≡ first_cause (offer_causes old new carried arrivals)
       sixteen o e y = sym (own ∙ rw (none-wrong, longer, over-is o e ∙ y))
 
-      module _ (o : Bool) (e : o ≡ any_of (ltb 2) (take (k - 0) carried.map)) (y : o ≡ false) (a : Bool) (f : a ≡ byte_over arrivals.map) where
-        pub seven : a ≡ true → 7 ≡ first_cause (offer_causes old new carried arrivals)
-        seven z = sym (own ∙ rw (none-wrong, longer, over-is o e ∙ y, sym f ∙ z))
+      module _ (o : Bool) (e : o ≡ any_of (ltb 2) (take k carried.map)) (y : o ≡ false) (v₇ : Bool) (f : v₇ ≡ byte_over arrivals.map) where
+        pub seven : v₇ ≡ true → 7 ≡ first_cause (offer_causes old new carried arrivals)
+        seven q = sym (own ∙ rw (none-wrong, longer, over-is o e ∙ y, sym f ∙ q))
 
-        pub none-holds : a ≡ false → 0 ≡ first_cause (offer_causes old new carried arrivals)
-        none-holds z = sym (own ∙ rw (none-wrong, longer, over-is o e ∙ y, sym f ∙ z))
+        pub none-holds : v₇ ≡ false → 0 ≡ first_cause (offer_causes old new carried arrivals)
+        none-holds q = sym (own ∙ rw (none-wrong, longer, over-is o e ∙ y, sym f ∙ q))

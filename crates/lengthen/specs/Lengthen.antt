@@ -9,6 +9,8 @@ use Rattle.faults.specs.Faults.{Fault, check_of, byte_of}
 use Rattle.lists.specs.Lists.{any_of}
 use Rattle.longer.specs.Longer.{lengthens}
 use Rattle.report.specs.Report.{RepairAnswer, accepted_with, refused_with, repair_answer_of}
+use Rattle.std.specs.declared.result.Result.{Result}
+use Rattle.refusals.specs.declared.Refusal.{Refusal}
 use Rattle.report.specs.declared.Repaired.{Repaired}
 use Rattle.table.specs.FirstCause.{first_cause}
 use Rattle.table.specs.Packets.{joined}
@@ -90,7 +92,7 @@ module _ (old new : List ℕ) (carried arrivals : Held) where
     pub arrived-bytes : byte_over arrivals.map ≡ false
 
   -- what the call answers, and what it leaves in block and map
-  pub record Answers (r : Repaired) (block map : List ℕ) : Type 0 where
+  pub record Answers (r : Result Repaired Refusal) (block map : List ℕ) : Type 0 where
     pub report : repair_answer_of r ≡ lengthen_answer
     pub block-is : block ≡ lengthen_after.block
     pub map_is : map ≡ lengthen_after.map

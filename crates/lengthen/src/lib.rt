@@ -4,72 +4,64 @@
 ghost use Rattle.std.specs.Prelude.{◌≡◌};
 ghost use Rattle.erasure.specs.Offered.{held};
 ghost use Rattle.lengthen.specs.Lengthen.{Answers, LengthenFitting, offer_causes};
+ghost use Rattle.refusals.specs.Refusals.{refusal_of};
 ghost use Rattle.table.specs.FirstCause.{first_cause};
 
-use report::{Repaired, accepted, refused};
+use refusals::Refusal;
+use report::Repaired;
+use table::Table;
 
-// the first cause but 8 that holds, 0 for none
-fn look(old: &[u16], new: &[u16], block: &[u8], map: &[u8], arrivals: &[u8], arrived: &[u8]) -> u32
-    ensures { result
-        ≡ first_cause (offer_causes old.now new.now
+// the first cause but 8 that refuses, if there is one
+fn look(
+    old: &Table,
+    new: &Table,
+    block: &[u8],
+    map: &[u8],
+    arrivals: &[u8],
+    arrived: &[u8],
+) -> Result<(), Refusal>
+    ensures { refusal_of result
+        ≡ first_cause (offer_causes old.now.words.now new.now.words.now
         (held block.now map.now)
         (held arrivals.now arrived.now)) }
 {
-    let first = table::look_over(old);
-    if first != 0 {
-        return first;
+    if marks::wrong_lengths(new, block, map) {
+        return Err(Refusal::Buffer);
     }
-    let second = table::look_over(new);
-    if second != 0 {
-        return second;
-    }
-    let k = usize::from(new[1]);
-    let s = usize::from(new[2]);
-    if marks::wrong_lengths(block, map, k, s) {
-        return 5;
-    }
-    if marks::wrong_lengths(arrivals, arrived, k, s) {
-        return 5;
+    if marks::wrong_lengths(new, arrivals, arrived) {
+        return Err(Refusal::Buffer);
     }
     if !longer::is_lengthening(old, new) {
-        return 15;
+        return Err(Refusal::NotLonger);
     }
-    let n = usize::from(old[1]);
-    if marks::over(&map[0..n], 2) {
-        return 16;
+    if marks::over(&map[..old.places], 2) {
+        return Err(Refusal::OldMap);
     }
-    if marks::over_one(arrived) {
-        return 7;
+    if marks::over(arrived, 1) {
+        return Err(Refusal::Map);
     }
-    0
+    Ok(())
 }
 
 // the call where nothing before 8 refuses
 fn go_on(
-    old: &[u16],
-    new: &[u16],
+    old: &Table,
+    new: &Table,
     block: &mut [u8],
     map: &mut [u8],
     arrivals: &[u8],
     arrived: &[u8],
-) -> Repaired
-    requires { LengthenFitting old.now new.now
+) -> Result<Repaired, Refusal>
+    requires { LengthenFitting old.now.words.now new.now.words.now
         (held block.old map.old)
         (held arrivals.now arrived.now) }
-    ensures { Answers old.now new.now
+    ensures { Answers old.now.words.now new.now.words.now
         (held block.old map.old)
         (held arrivals.now arrived.now)
         result block.new map.new }
 {
-    let n = usize::from(old[1]);
-    let k = usize::from(new[1]);
-    let s = usize::from(new[2]);
-    entering::enter_all(n, k, s, block, map, arrivals, arrived);
-    let done = restore::restore_packets(new, usize::from(new[3]), k, s, block, map);
-    if done.agrees {
-        return accepted(done.restored, done.lost, done.additions);
-    }
-    refused(8, done.check, done.byte)
+    entering::enter_all(old.places, new, block, map, arrivals, arrived);
+    Ok(restore::restore_packets(new, block, map)?)
 }
 
 // Goes on with a block and map under a longer table: what they hold at new places never counts; arrivals are entered where a
@@ -81,15 +73,14 @@ pub fn lengthen(
     map: &mut [u8],
     arrivals: &[u8],
     arrived: &[u8],
-) -> Repaired
+) -> Result<Repaired, Refusal>
     ensures { Answers old.now new.now
         (held block.old map.old)
         (held arrivals.now arrived.now)
         result block.new map.new }
 {
-    let refusal = look(old, new, block, map, arrivals, arrived);
-    if refusal != 0 {
-        return refused(refusal, 0, 0);
-    }
-    go_on(old, new, block, map, arrivals, arrived)
+    let before = Table::new(old)?;
+    let after = Table::new(new)?;
+    look(&before, &after, block, map, arrivals, arrived)?;
+    go_on(&before, &after, block, map, arrivals, arrived)
 }
