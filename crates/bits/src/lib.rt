@@ -84,6 +84,7 @@ pub fn add_low(w: &mut [u64], a: usize, b: usize, l: usize)
     ensures { RowPut w.old b (bit_xor (row w.old a) (row w.old b)) w.new }
 {
     let words = (l + 63) / 64;
+    // by number: both rows lie in w
     for i in 0..words {
         w[b * 16 + i] = w[a * 16 + i] ^ w[b * 16 + i];
     }

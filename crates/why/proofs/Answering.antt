@@ -31,7 +31,7 @@ module _ (t b map work : List ℕ) (p : ℕ) (reason : List ℕ) where
   buffer-refused k ne h list = rw (h, reason_after, ne_eqb k 0 ne)
 
   -- before the repair
-  pub explains-early : (q : Refusal) → number_of q ≡ early t b map work p reason → Explains t b map work p reason (Err q) b map work reason
+  pub explains-early : (q : Refusal) → number_of q ≡ early t b map work p reason → Explains t b map work p reason (why_answer_of (Err q)) b map work reason
   explains-early q n =
       let ne : early t b map work p reason ≢ 0 = λ z. number-some q (n ∙ z) in
       let on = nothing-on q (λ z. early-other t b map work p reason (sym n ∙ z)) in
@@ -65,7 +65,7 @@ module _ (t b map work : List ℕ) (p : ℕ) (reason : List ℕ) where
 
   -- and found that no codeword agrees
   module _ (fit : Fits t b map work p reason) (q : Refusal) {b' map' work' : List ℕ} (done : Answers t b map work (Err q) b' map' work') where
-    pub explains-refused : Explains t b map work p reason (Err q) b' map' work' reason
+    pub explains-refused : Explains t b map work p reason (why_answer_of (Err q)) b' map' work' reason
     explains-refused =
         let is = refusal_is fit (Err q) done in
         let none = nothing-at (full_refusal t b map work) (full_map_after t b map work) in
@@ -91,7 +91,7 @@ module _ (t b map work : List ℕ) (p : ℕ) (reason : List ℕ) where
 
     -- the reason of the place, told
     pub explains-told : (n : ℕ) → n ≡ places t → (lost : List ℕ) → lost ≡ map → {k : Told} {e : List ℕ} → Tells n (checks t) lost p k e → {w : List ℕ} → w ≡ replicate (length work') 0 → length work' ≡ length work
-        → Explains t b map work p reason (Ok (record { told = k; restored = f.restored; lost = f.lost })) b' map' w e
+        → Explains t b map work p reason (why_answer_of (Ok (record { told = k; restored = f.restored; lost = f.lost }))) b' map' w e
     explains-told n en lost el {k} {e} told {w} cleared long =
         let none : why_refusal t b map work p reason ≡ 0 = refusal_is fit (Ok f) done in
         record {

@@ -105,10 +105,10 @@ why_answer_of (Err r) = record {
 }
 
 -- what the call answers, and what it leaves in block, map, work and reason: there is only one list for the place (reasons' listed-one)
-pub record Explains (t b map work : List ℕ) (p : ℕ) (reason : List ℕ) (r : Result Reason Refusal) (b' map' work' reason' : List ℕ) : Type 0 where
+pub record Explains (t b map work : List ℕ) (p : ℕ) (reason : List ℕ) (r : WhyAnswer) (b' map' work' reason' : List ℕ) : Type 0 where
   pub list : List ℕ
   pub listed : why_refusal t b map work p reason ≡ 0 → Listed (places t) (checks t) map p list
-  pub report : why_answer_of r ≡ why_answer t b map work p reason list
+  pub report : r ≡ why_answer t b map work p reason list
   pub reason-is : reason' ≡ reason_after t b map work p reason list
   pub block-is : b' ≡ why_block_after t b map work p reason
   pub map_is : map' ≡ why_map_after t b map work p reason

@@ -8,7 +8,7 @@ ghost use Rattle.refusals.specs.Refusals.{refusal_of};
 ghost use Rattle.table.specs.FirstCause.{first_cause};
 ghost use Rattle.table.specs.Table.{checks};
 ghost use Rattle.why.specs.Telling.{Tells};
-ghost use Rattle.why.specs.Why.{Explains, early_causes};
+ghost use Rattle.why.specs.Why.{Explains, early_causes, why_answer_of};
 
 use explain::Told;
 use refusals::Refusal;
@@ -81,7 +81,7 @@ fn why_packets(
     requires place { (place < table.now.places)
         × (length reason.old ≡ 1024) }
     ensures { Explains table.now.words.now block.old map.old work.old place reason.old
-        result block.new map.new work.new reason.new }
+        (why_answer_of result) block.new map.new work.new reason.new }
 {
     let mut saved = [0u8; MOST_PLACES];
     saved[..table.places].copy_from_slice(map);
@@ -105,7 +105,7 @@ pub fn why(
     reason: &mut [u16],
 ) -> Result<Reason, Refusal>
     ensures { Explains t.now block.old map.old work.old place reason.old
-        result block.new map.new work.new reason.new }
+        (why_answer_of result) block.new map.new work.new reason.new }
 {
     let table = look(t, block, map, work, place, reason)?;
     why_packets(&table, block, map, work, place, reason)
