@@ -19,41 +19,48 @@ use Rattle.faults.proofs.FaultLaws.{no-fault}
 use Rattle.lists.specs.Tests.{or_l, or_r, or-neither}
 use Rattle.merge.specs.Merge.{third, merge_outcome, merge_fault, wrong_any, over_either, merge_refusal, MergeAnswer, merged_with, refused_with, merge_answer_of, Answers, FittingThree}
 use Rattle.merge.proofs.MergeLaws.{zeroed-already, table-refused, length-refused, byte-refused, agreed-refusal, contradicted-refusal, fits, after-accepted, after-contradicted, after-refused, third-fits}
+use Rattle.std.specs.declared.result.Result.{Result}
+use Rattle.std.specs.declared.result.Result.TheVariants.{Err}
+use Rattle.refusals.proofs.Numbers.{number-some, nothing-on}
+use Rattle.refusals.specs.Refusals.{number_of}
+use Rattle.refusals.specs.declared.Fault.{Fault as FaultFound}
+use Rattle.refusals.specs.declared.Refusal.{Refusal}
+use Rattle.refusals.specs.declared.Refusal.TheVariants.{Buffer, Map}
+use Rattle.report.specs.declared.Repaired.{Repaired}
 use Rattle.merge.specs.declared.Merged.{Merged}
 use Rattle.restore.specs.Mending.{counts_of, Mends}
 use Rattle.restore.specs.MendsLaws.{agrees-told, check-told, byte-told}
-use Rattle.restore.specs.declared.Mended.{Mended}
 use Rattle.table.specs.Accepted.{Accepted}
 use Rattle.table.specs.FirstCause.{wrong_length}
 use Rattle.table.specs.Table.{places, size, refusal}
 use Rattle.table.specs.TableLaws.{refusal-small}
 
 -- ---- none of 1 to 7 refuses: what the core tells and leaves of the merged block and map
-module _ (t : List ℕ) (one two out : Held) (f : FittingThree t one two out) (d : Mended) (b₃ map₃ b' map' : List ℕ)
+module _ (t : List ℕ) (one two out : Held) (f : FittingThree t one two out) (d : Result Repaired FaultFound) (b₃ map₃ b' map' : List ℕ)
     (block-is : b₃ ≡ (third t one two).block) (marks-are : map₃ ≡ (third t one two).map) (core : Mends t b₃ map₃ d b' map') where
   done : Mends t (third t one two).block (third t one two).map d b' map'
   done = subst (λ m. Mends t (third t one two).block m d b' map') marks-are (subst (λ b. Mends t b map₃ d b' map') block-is core)
 
-  told : d.agrees ≡ agreeing t (third t one two).block (third t one two).map
+  told : (counts_of d).agrees ≡ agreeing t (third t one two).block (third t one two).map
   told = agrees-told t (third t one two).block (third t one two).map d b' map' done
 
-  pub answer-merged : d.agrees ≡ true → (r : Merged) → merge_answer_of r ≡ merged_with (kinds (size t) one two (places t)) d.restored d.lost d.additions → Answers t one two out r b' map'
+  pub answer-merged : (counts_of d).agrees ≡ true → (r : Result Merged Refusal) → merge_answer_of r ≡ merged_with (kinds (size t) one two (places t)) (counts_of d).restored (counts_of d).lost (counts_of d).additions → Answers t one two out r b' map'
   answer-merged pass r e =
       let yes = sym told ∙ pass in
       let ok : merge_refusal t one two out ≡ 0 = agreed-refusal t one two out f yes in
       let k = kinds (size t) one two (places t) in
       let all : counts_of d ≡ counts_if none (third t one two).map (merge_outcome t one two) = done.report ∙ ap (λ x. counts_if x (third t one two).map (merge_outcome t one two)) (no-fault (merge_fault t one two) yes) in
-      let d2 : d.restored ≡ tally 2 (merge_outcome t one two).map = ap (λ (x : Counts). x.restored) all
+      let d2 : (counts_of d).restored ≡ tally 2 (merge_outcome t one two).map = ap (λ (x : Counts). x.restored) all
       ∙ tally-two t (third t one two).block (third t one two).map (bytes-all (third t one two).map (third-fits t one two out f).map-bytes) in
-      let d3 : d.lost ≡ tally 1 (merge_outcome t one two).map = ap (λ (x : Counts). x.lost) all in
-      let d4 : d.additions ≡ (merge_outcome t one two).adds = ap (λ (x : Counts). x.additions) all in
+      let d3 : (counts_of d).lost ≡ tally 1 (merge_outcome t one two).map = ap (λ (x : Counts). x.lost) all in
+      let d4 : (counts_of d).additions ≡ (merge_outcome t one two).adds = ap (λ (x : Counts). x.additions) all in
       record {
-        report = e ∙ ap (λ x. merged_with k x d.lost d.additions) d2 ∙ ap₂ (merged_with k (tally 2 (merge_outcome t one two).map)) d3 d4 ∙ rw ok;
+        report = e ∙ ap (λ x. merged_with k x (counts_of d).lost (counts_of d).additions) d2 ∙ ap₂ (merged_with k (tally 2 (merge_outcome t one two).map)) d3 d4 ∙ rw ok;
         block-is = done.block-is ∙ ap (λ v. block_if v t (third t one two).block (third t one two).map) yes ∙ sym (ap (λ (x : Held). x.block) (after-accepted t one two out ok));
         map_is = done.map_is ∙ ap (λ v. map_if v t (third t one two).block (third t one two).map) yes ∙ sym (ap (λ (x : Held). x.map) (after-accepted t one two out ok));
       }
 
-  pub answer-contradicted : d.agrees ≡ false → (r : Merged) → merge_answer_of r ≡ refused_with 8 d.check d.byte → Answers t one two out r b' map'
+  pub answer-contradicted : (counts_of d).agrees ≡ false → (r : Result Merged Refusal) → merge_answer_of r ≡ refused_with 8 (counts_of d).check (counts_of d).byte → Answers t one two out r b' map'
   answer-contradicted fail r e =
       let no = sym told ∙ fail in
       let bad : merge_refusal t one two out ≡ 8 = contradicted-refusal t one two out f no in
@@ -68,7 +75,7 @@ module _ (t : List ℕ) (one two out : Held) (f : FittingThree t one two out) (d
 
 -- ---- a call that is refused before
 pub answer-refused : (t : List ℕ) (one two out : Held) (c : ℕ) → merge_refusal t one two out ≡ c → eqb c 0 ≡ false → eqb c 8 ≡ false
-    → (r : Merged) → merge_answer_of r ≡ refused_with c 0 0 → Answers t one two out r out.block out.map
+    → (r : Result Merged Refusal) → merge_answer_of r ≡ refused_with c 0 0 → Answers t one two out r out.block out.map
 answer-refused t one two out zero h e0 e8 r e = absurd (true≢false e0)
 answer-refused t one two out (suc c) h e0 e8 r e = record {
   report = e ∙ rw (h, none-handed (suc c) (merge_fault t one two) e8);
@@ -77,29 +84,32 @@ answer-refused t one two out (suc c) h e0 e8 r e = record {
 }
 
 -- the causes in order, each with what the code found before it
-pub answer-table : (t : List ℕ) (one two out : Held) (c : ℕ) → c ≡ refusal t → (c ≡ 0 → ⊥) → (r : Merged) → merge_answer_of r ≡ refused_with c 0 0 → Answers t one two out r out.block out.map
-answer-table t one two out c look ne r e = let z = refusal-small t in
-    answer-refused t one two out (refusal t) (table-refused t one two out (λ q. ne (look ∙ q))) (ne_eqb (refusal t) 0 (λ q. ne (look ∙ q))) (ne_eqb (refusal t) 8 (λ q. omega arith)) r (e ∙ ap (λ k. refused_with k 0 0) look)
+pub answer-table : (t : List ℕ) (one two out : Held) (q : Refusal) → number_of q ≡ refusal t → Answers t one two out (Err q) out.block out.map
+answer-table t one two out q e =
+    let z = refusal-small t in
+    let ne : refusal t ≡ 0 → ⊥ = λ w. number-some q (e ∙ w) in
+    let on = nothing-on q (λ w. omega (arith, e, w)) in
+    answer-refused t one two out (refusal t) (table-refused t one two out ne) (ne_eqb (refusal t) 0 ne) (ne_eqb (refusal t) 8 (λ w. omega arith)) (Err q) (rw (on.0, on.1, e))
 
-module _ (t : List ℕ) (one two out : Held) (c n s : ℕ) (look : c ≡ refusal t) (ok : c ≡ 0) (en : n ≡ places t) (es : s ≡ size t) where
+module _ (t : List ℕ) (one two out : Held) (m n s : ℕ) (k : Accepted t m n s) where
   -- v is what the code finds of the lengths of h
   abbrev Compared : Held → Bool → Type 0
   Compared h v = v ≡ (wrong_length (length h.block) (n * s) || wrong_length (length h.map) n)
 
   wrong-is : (h : Held) (v : Bool) → Compared h v → wrong_lengths t h.block h.map ≡ v
-  wrong-is h v e = sym (e ∙ ap₂ (λ k l. wrong_length (length h.block) (k * l) || wrong_length (length h.map) k) en es)
+  wrong-is h v e = sym (e ∙ ap₂ (λ x y. wrong_length (length h.block) (x * y) || wrong_length (length h.map) x) k.places-are k.size_is)
 
   -- 5 by any of the three
-  five : wrong_any t one two out ≡ true → (r : Merged) → merge_answer_of r ≡ refused_with 5 0 0 → Answers t one two out r out.block out.map
-  five w r e = answer-refused t one two out 5 (length-refused t one two out (sym look ∙ ok) w) refl refl r e
+  five : wrong_any t one two out ≡ true → Answers t one two out (Err Buffer) out.block out.map
+  five w = answer-refused t one two out 5 (length-refused t one two out k.accepted w) refl refl (Err Buffer) refl
 
-  pub answer-first : (v : Bool) → Compared one v → v ≡ true → (r : Merged) → merge_answer_of r ≡ refused_with 5 0 0 → Answers t one two out r out.block out.map
+  pub answer-first : (v : Bool) → Compared one v → v ≡ true → Answers t one two out (Err Buffer) out.block out.map
   answer-first v e y = five (or_l (wrong_lengths t one.block one.map) _ (wrong-is one v e ∙ y))
 
-  pub answer-second : (v : Bool) → Compared two v → v ≡ true → (r : Merged) → merge_answer_of r ≡ refused_with 5 0 0 → Answers t one two out r out.block out.map
+  pub answer-second : (v : Bool) → Compared two v → v ≡ true → Answers t one two out (Err Buffer) out.block out.map
   answer-second v e y = five (or_r (wrong_lengths t one.block one.map) _ (or_l (wrong_lengths t two.block two.map) _ (wrong-is two v e ∙ y)))
 
-  pub answer-third : (v : Bool) → Compared out v → v ≡ true → (r : Merged) → merge_answer_of r ≡ refused_with 5 0 0 → Answers t one two out r out.block out.map
+  pub answer-third : (v : Bool) → Compared out v → v ≡ true → Answers t one two out (Err Buffer) out.block out.map
   answer-third v e y = five (or_r (wrong_lengths t one.block one.map) _ (or_r (wrong_lengths t two.block two.map) _ (wrong-is out v e ∙ y)))
 
   module _ (u v w : Bool) (e₁ : Compared one u) (e₂ : Compared two v) (e₃ : Compared out w) (y₁ : u ≡ false) (y₂ : v ≡ false) (y₃ : w ≡ false) where
@@ -108,18 +118,18 @@ module _ (t : List ℕ) (one two out : Held) (c n s : ℕ) (look : c ≡ refusal
         (or-neither (wrong_lengths t two.block two.map) _ (wrong-is two v e₂ ∙ y₂) (wrong-is out w e₃ ∙ y₃))
 
     -- 7 by either map
-    seven : over_either one two ≡ true → (r : Merged) → merge_answer_of r ≡ refused_with 7 0 0 → Answers t one two out r out.block out.map
-    seven o r e = answer-refused t one two out 7 (byte-refused t one two out (sym look ∙ ok) none-wrong o) refl refl r e
+    seven : over_either one two ≡ true → Answers t one two out (Err Map) out.block out.map
+    seven o = answer-refused t one two out 7 (byte-refused t one two out k.accepted none-wrong o) refl refl (Err Map) refl
 
-    pub answer-byte-first : (o : Bool) → o ≡ byte_over one.map → o ≡ true → (r : Merged) → merge_answer_of r ≡ refused_with 7 0 0 → Answers t one two out r out.block out.map
+    pub answer-byte-first : (o : Bool) → o ≡ byte_over one.map → o ≡ true → Answers t one two out (Err Map) out.block out.map
     answer-byte-first o e y = seven (or_l (byte_over one.map) (byte_over two.map) (sym e ∙ y))
 
-    pub answer-byte-second : (o : Bool) → o ≡ byte_over two.map → o ≡ true → (r : Merged) → merge_answer_of r ≡ refused_with 7 0 0 → Answers t one two out r out.block out.map
+    pub answer-byte-second : (o : Bool) → o ≡ byte_over two.map → o ≡ true → Answers t one two out (Err Map) out.block out.map
     answer-byte-second o e y = seven (or_r (byte_over one.map) (byte_over two.map) (sym e ∙ y))
 
     -- and a call that none of them refuses
     pub fitting : (o p : Bool) → o ≡ byte_over one.map → p ≡ byte_over two.map → o ≡ false → p ≡ false → FittingThree t one two out
-    fitting o p e f y z = fits t one two out (sym look ∙ ok) none-wrong (or-neither (byte_over one.map) (byte_over two.map) (sym e ∙ y) (sym f ∙ z))
+    fitting o p e f y z = fits t one two out k.accepted none-wrong (or-neither (byte_over one.map) (byte_over two.map) (sym e ∙ y) (sym f ∙ z))
 
 -- ---- what such a call has
 module _ (t : List ℕ) (m n s : ℕ) (a : Accepted t m n s) where

@@ -6,6 +6,10 @@ use Rattle.aerials.specs.Aerials.{kinds, merged}
 use Rattle.erasure.specs.Offered.{Held, wrong_lengths, byte_over, handed_on, Fitting}
 use Rattle.erasure.specs.Restoring.{State, tally, outcome, contradicting, agreeing}
 use Rattle.faults.specs.Faults.{Fault, check_of, byte_of}
+use Rattle.std.specs.declared.result.Result.{Result}
+use Rattle.std.specs.declared.result.Result.TheVariants.{Ok, Err}
+use Rattle.refusals.specs.Refusals.{number_of, check_of as check_in, byte_of as byte_in}
+use Rattle.refusals.specs.declared.Refusal.{Refusal}
 use Rattle.merge.specs.declared.Merged.{Merged}
 use Rattle.table.specs.FirstCause.{first_cause}
 use Rattle.table.specs.Packets.{joined}
@@ -96,22 +100,23 @@ module _ (t : List ℕ) (one two out : Held) where
   ]
 
 -- what the code answers
-abbrev pub merge_answer_of : Merged → MergeAnswer
-merge_answer_of r = record {
-  refusal = r.refusal;
+abbrev pub merge_answer_of : Result Merged Refusal → MergeAnswer
+merge_answer_of (Ok r) = record {
+  refusal = 0;
   agreed = r.agreed;
   single = r.single;
   silent = r.silent;
   clash = r.clash;
-  restored = r.restored;
-  lost = r.lost;
-  additions = r.additions;
-  check = r.check;
-  byte = r.byte;
+  restored = r.repaired.restored;
+  lost = r.repaired.lost;
+  additions = r.repaired.additions;
+  check = 0;
+  byte = 0;
 }
+merge_answer_of (Err r) = refused_with (number_of r) (check_in r) (byte_in r)
 
 -- what the call answers, and what it leaves in the third block and map
-pub record Answers (t : List ℕ) (one two out : Held) (r : Merged) (block' map' : List ℕ) : Type 0 where
+pub record Answers (t : List ℕ) (one two out : Held) (r : Result Merged Refusal) (block' map' : List ℕ) : Type 0 where
   pub report : merge_answer_of r ≡ merge_answer t one two out
   pub block-is : block' ≡ (merge_after t one two out).block
   pub map_is : map' ≡ (merge_after t one two out).map
