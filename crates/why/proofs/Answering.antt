@@ -13,9 +13,13 @@ use Rattle.reasons.specs.Reasons.{kind_of, Listed}
 use Rattle.table.specs.Table.{places, checks}
 use Rattle.why.specs.Telling.{Tells}
 use Rattle.why.specs.Why.{Explains, why_answer_of, why_answer_at, why_refused, why_refusal, why_answer, why_map_after, reason_after}
-use Rattle.why.proofs.WhyLaws.{early, Fits, refused-early, refused_full, block-kept, map-kept, work-kept, block-ran, map-ran, work-ran}
-use Rattle.why.specs.declared.Kind.{Kind}
-use Rattle.why.specs.declared.Reason.{Reason}
+use Rattle.why.proofs.WhyLaws.{early, early-other, Fits, refused-early, refused_full, block-kept, map-kept, work-kept, block-ran, map-ran, work-ran}
+use Rattle.explain.specs.declared.Told.{Told}
+use Rattle.std.specs.declared.result.Result.{Result}
+use Rattle.std.specs.declared.result.Result.TheVariants.{Ok, Err}
+use Rattle.refusals.specs.Refusals.{number_of, check_of, byte_of}
+use Rattle.refusals.specs.declared.Refusal.{Refusal}
+use Rattle.refusals.proofs.Numbers.{number-some, nothing-on}
 
 module _ (t b map work : List ℕ) (p : ℕ) (reason : List ℕ) where
   -- ---- a refusal
@@ -27,8 +31,11 @@ module _ (t b map work : List ℕ) (p : ℕ) (reason : List ℕ) where
   buffer-refused k ne h list = rw (h, reason_after, ne_eqb k 0 ne)
 
   -- before the repair
-  pub explains-early : early t b map work p reason ≢ 0 → (r : Reason) → why_answer_of r ≡ why_refused (early t b map work p reason) → Explains t b map work p reason r b map work reason
-  explains-early ne r e =
+  pub explains-early : (q : Refusal) → number_of q ≡ early t b map work p reason → Explains t b map work p reason (Err q) b map work reason
+  explains-early q n =
+      let ne : early t b map work p reason ≢ 0 = λ z. number-some q (n ∙ z) in
+      let on = nothing-on q (λ z. early-other t b map work p reason (sym n ∙ z)) in
+      let e : why_answer_of (Err q) ≡ why_refused (early t b map work p reason) = rw (n, on.0, on.1) refl in
       let is = refused-early t b map work p reason ne in
       record {
         list = [];
@@ -45,53 +52,64 @@ module _ (t b map work : List ℕ) (p : ℕ) (reason : List ℕ) where
   refusal-at zero after = refl
   refusal-at (suc r) after = refl
 
-  module _ (fit : Fits t b map work p reason) (f : FullyRepaired) {b' map' work' : List ℕ} (done : Answers t b map work f b' map' work') where
-    full-refusal : f.refusal ≡ full_refusal t b map work
+  nothing-at : (r : ℕ) (after : List ℕ) → ((full_answer_at r after).check ≡ 0) × ((full_answer_at r after).byte ≡ 0)
+  nothing-at zero after = (refl, refl)
+  nothing-at (suc r) after = (refl, refl)
+
+  module _ (fit : Fits t b map work p reason) (f : Result FullyRepaired Refusal) {b' map' work' : List ℕ} (done : Answers t b map work f b' map' work') where
+    full-refusal : (full_answer_of f).refusal ≡ full_refusal t b map work
     full-refusal = ap (λ a. a.refusal) done.report ∙ refusal-at (full_refusal t b map work) (full_map_after t b map work)
 
-    refusal_is : why_refusal t b map work p reason ≡ f.refusal
+    refusal_is : why_refusal t b map work p reason ≡ (full_answer_of f).refusal
     refusal_is = refused_full t b map work p reason fit ∙ sym full-refusal
 
-    -- and found that no codeword agrees
-    pub explains-refused : f.refusal ≢ 0 → (r : Reason) → why_answer_of r ≡ why_refused f.refusal → Explains t b map work p reason r b' map' work' reason
-    explains-refused ne r e = record {
-      list = [];
-      listed = λ h. absurd (ne (sym refusal_is ∙ h));
-      report = e ∙ sym (answer-refused f.refusal ne refusal_is []);
-      reason-is = sym (buffer-refused f.refusal ne refusal_is []);
-      block-is = done.block-is ∙ sym (block-ran t b map work p reason fit);
-      map_is = done.map_is ∙ sym (map-ran t b map work p reason fit);
-      work-is = done.work-is ∙ sym (work-ran t b map work p reason fit);
-    }
+  -- and found that no codeword agrees
+  module _ (fit : Fits t b map work p reason) (q : Refusal) {b' map' work' : List ℕ} (done : Answers t b map work (Err q) b' map' work') where
+    pub explains-refused : Explains t b map work p reason (Err q) b' map' work' reason
+    explains-refused =
+        let is = refusal_is fit (Err q) done in
+        let none = nothing-at (full_refusal t b map work) (full_map_after t b map work) in
+        let on-check : check_of q ≡ 0 = ap (λ a. a.check) done.report ∙ none.0 in
+        let on-byte : byte_of q ≡ 0 = ap (λ a. a.byte) done.report ∙ none.1 in
+        let e : why_answer_of (Err q) ≡ why_refused (number_of q) = rw (on-check, on-byte) refl in
+        record {
+          list = [];
+          listed = λ h. absurd (number-some q (sym is ∙ h));
+          report = e ∙ sym (answer-refused (number_of q) (number-some q) is []);
+          reason-is = sym (buffer-refused (number_of q) (number-some q) is []);
+          block-is = done.block-is ∙ sym (block-ran t b map work p reason fit);
+          map_is = done.map_is ∙ sym (map-ran t b map work p reason fit);
+          work-is = done.work-is ∙ sym (work-ran t b map work p reason fit);
+        }
 
-    module _ (ok : f.refusal ≡ 0) where
-      accepted : full_refusal t b map work ≡ 0
-      accepted = sym full-refusal ∙ ok
+  module _ (fit : Fits t b map work p reason) (f : FullyRepaired) {b' map' work' : List ℕ} (done : Answers t b map work (Ok f) b' map' work') where
+    accepted : full_refusal t b map work ≡ 0
+    accepted = sym (full-refusal fit (Ok f) done)
 
-      counts : full_answer_of f ≡ full_answer_at 0 (full_map_after t b map work)
-      counts = done.report ∙ ap (λ r. full_answer_at r (full_map_after t b map work)) accepted
+    counts : full_answer_of (Ok f) ≡ full_answer_at 0 (full_map_after t b map work)
+    counts = done.report ∙ ap (λ r. full_answer_at r (full_map_after t b map work)) accepted
 
-      -- the reason of the place, told
-      pub explains-told : (n : ℕ) → n ≡ places t → (lost : List ℕ) → lost ≡ map → {k : Kind} {e : List ℕ} → Tells n (checks t) lost p k e → {w : List ℕ} → w ≡ replicate (length work') 0 → length work' ≡ length work
-          → Explains t b map work p reason (record { refusal = 0; kind = k.kind; length = k.length; restored = f.restored; lost = f.lost; check = 0; byte = 0 }) b' map' w e
-      explains-told n en lost el {k} {e} told {w} cleared long =
-          let none : why_refusal t b map work p reason ≡ 0 = refusal_is ∙ ok in
-          record {
-            list = told.list;
-            listed = λ h. subst (λ m. Listed m (checks t) map p told.list) en (subst (λ l. Listed n (checks t) l p told.list) el told.listed);
-            report = answered ∙ sym (ap (λ r. why_answer_at r (kind_of map (checks t) p) told.list (why_map_after t b map work p reason)) none);
-            reason-is = told.buffer-is ∙ sym (rw (none, reason_after));
-            block-is = done.block-is ∙ sym (block-ran t b map work p reason fit);
-            map_is = done.map_is ∙ sym (map-ran t b map work p reason fit);
-            work-is = cleared ∙ ap (λ v. replicate v 0) (long ∙ fit.full.room) ∙ sym (work-ran t b map work p reason fit ∙ work-accepted t b map work accepted);
-          }
-        where
-          restored-is : f.restored ≡ tally 2 (why_map_after t b map work p reason)
-          restored-is = ap (λ a. a.restored) counts ∙ ap (tally 2) (sym (map-ran t b map work p reason fit))
+    -- the reason of the place, told
+    pub explains-told : (n : ℕ) → n ≡ places t → (lost : List ℕ) → lost ≡ map → {k : Told} {e : List ℕ} → Tells n (checks t) lost p k e → {w : List ℕ} → w ≡ replicate (length work') 0 → length work' ≡ length work
+        → Explains t b map work p reason (Ok (record { told = k; restored = f.restored; lost = f.lost })) b' map' w e
+    explains-told n en lost el {k} {e} told {w} cleared long =
+        let none : why_refusal t b map work p reason ≡ 0 = refusal_is fit (Ok f) done in
+        record {
+          list = told.list;
+          listed = λ h. subst (λ m. Listed m (checks t) map p told.list) en (subst (λ l. Listed n (checks t) l p told.list) el told.listed);
+          report = answered ∙ sym (ap (λ r. why_answer_at r (kind_of map (checks t) p) told.list (why_map_after t b map work p reason)) none);
+          reason-is = told.buffer-is ∙ sym (rw (none, reason_after));
+          block-is = done.block-is ∙ sym (block-ran t b map work p reason fit);
+          map_is = done.map_is ∙ sym (map-ran t b map work p reason fit);
+          work-is = cleared ∙ ap (λ v. replicate v 0) (long ∙ fit.full.room) ∙ sym (work-ran t b map work p reason fit ∙ work-accepted t b map work accepted);
+        }
+      where
+        restored-is : f.restored ≡ tally 2 (why_map_after t b map work p reason)
+        restored-is = ap (λ a. a.restored) counts ∙ ap (tally 2) (sym (map-ran t b map work p reason fit))
 
-          lost-is : f.lost ≡ tally 1 (why_map_after t b map work p reason)
-          lost-is = ap (λ a. a.lost) counts ∙ ap (tally 1) (sym (map-ran t b map work p reason fit))
+        lost-is : f.lost ≡ tally 1 (why_map_after t b map work p reason)
+        lost-is = ap (λ a. a.lost) counts ∙ ap (tally 1) (sym (map-ran t b map work p reason fit))
 
-          answered : why_answer_of (record { refusal = 0; kind = k.kind; length = k.length; restored = f.restored; lost = f.lost; check = 0; byte = 0 })
-              ≡ why_answer_at 0 (kind_of map (checks t) p) told.list (why_map_after t b map work p reason)
-          answered = rw (told.kind-is, el, told.length-is, restored-is, lost-is)
+        answered : why_answer_of (Ok (record { told = k; restored = f.restored; lost = f.lost }))
+            ≡ why_answer_at 0 (kind_of map (checks t) p) told.list (why_map_after t b map work p reason)
+        answered = rw (told.kind-is, el, told.length-is, restored-is, lost-is)

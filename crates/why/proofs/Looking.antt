@@ -1,14 +1,17 @@
 -- What the look before the repair finds, from what the code found.
-use mathlib.Core.Path.{◌≡◌, sym, ap, ap₂, ◌∙◌}
-use mathlib.Core.Bool.{true, false, cond, not}
+use mathlib.Core.Path.{◌≡◌, refl, sym, ap, ap₂, ◌∙◌}
+use mathlib.Core.Bool.{true, false, cond, not, ◌||◌, true≢false}
 use mathlib.Core.List.{List}
 use Prim.Native.Nat.{ℕ, ◌*◌, ◌<◌, ◌≤◌}
 use native.Mathlib.Omega.{arith}
 use borrow.Author.Tests.{ltb-true, ltb-false}
-use lib.Dec.{ltb}
+use lib.Dec.{eqb, ltb}
 use lib.ListN.{length}
 use Rattle.erasure.specs.Offered.{byte_over}
-use Rattle.lists.specs.Tests.{by_bool}
+use Rattle.std.proofs.lemmas.Bool.{not-false}
+use Rattle.table.specs.Accepted.{Accepted}
+use Rattle.table.specs.FirstCause.{wrong_length}
+use Rattle.lists.specs.Tests.{by_bool, eqb-true, eqb-false, or-false-l, or-false-r}
 use Rattle.table.specs.Table.{places, size, refusal, work_words}
 use Rattle.why.specs.Why.{reason_numbers}
 use Rattle.why.proofs.WhyLaws.{early, early-table, early-block, early-map, early-work, early-reason, early-byte, early-place}
@@ -52,3 +55,19 @@ module _ (t b map work : List ℕ) (p : ℕ) (reason : List ℕ) (c n s : ℕ) (
                 where
                   below : ltb p (places t) ≡ true
                   below = by_bool (ltb p (places t)) (λ e. e) (λ e. let k = ltb-false p (places t) e in absurd (omega arith))
+
+-- a block or map of wrong length
+pub found-lengths : (t b map work : List ℕ) (p : ℕ) (reason : List ℕ) (m n s : ℕ) → Accepted t m n s → (wrong_length (length b) (n * s) || wrong_length (length map) n) ≡ true
+    → 5 ≡ early t b map work p reason
+found-lengths t b map work p reason m n s k h = by_bool (eqb (length b) (n * s))
+    (λ e. by_bool (eqb (length map) n)
+    (λ f. absurd (true≢false (sym h ∙ rw (e, f) refl)))
+    (λ f. found_map t b map work p reason 0 n s (sym k.accepted) refl k.places-are k.size_is (eqb-true (length b) (n * s) e) (eqb-false (length map) n f)))
+    (λ e. found-block t b map work p reason 0 n s (sym k.accepted) refl k.places-are k.size_is (eqb-false (length b) (n * s) e))
+
+-- both are right
+pub right-lengths : (b map : List ℕ) (n s : ℕ) → (wrong_length (length b) (n * s) || wrong_length (length map) n) ≡ false → (length b ≡ n * s) × (length map ≡ n)
+right-lengths b map n s h = (
+  eqb-true (length b) (n * s) (not-false (eqb (length b) (n * s)) (or-false-l (wrong_length (length b) (n * s)) (wrong_length (length map) n) h)),
+  eqb-true (length map) n (not-false (eqb (length map) n) (or-false-r (wrong_length (length b) (n * s)) (wrong_length (length map) n) h)),
+)

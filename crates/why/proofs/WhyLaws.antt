@@ -88,6 +88,9 @@ module _ (t b map work : List ℕ) (p : ℕ) (reason : List ℕ) where
   not_eight : eqb early 8 ≡ false
   not_eight = other-number 8 refl {cs = early_causes t b map work p reason} (cons refl (cons refl (cons refl (cons refl (cons refl (cons refl (cons refl nil)))))))
 
+  pub early-other : early ≡ 8 → ⊥
+  early-other h = true≢false (sym (eq-eqb early 8 h) ∙ not_eight)
+
   -- none of 1 to 7 and 14 refuses: full repair's
   pub refused_full : Fits → why_refusal t b map work p reason ≡ full_refusal t b map work
   unfolding why_refusal

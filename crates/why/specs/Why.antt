@@ -1,5 +1,10 @@
 -- Why is this packet missing? (document 02, C-21): the call with its refusals. Full repair runs first, and the reason for one place is told.
 use Rattle.std.specs.Prelude.{◌≡◌, Bool, true, false, not, ◌||◌, List, [], ◌∷◌, ◌++◌, ℕ, zero, suc, ◌-◌, eqb, ltb, length, replicate}
+use Rattle.std.specs.declared.result.Result.{Result}
+use Rattle.std.specs.declared.result.Result.TheVariants.{Ok, Err}
+use Rattle.refusals.specs.Refusals.{number_of, check_of, byte_of}
+use Rattle.refusals.specs.declared.Refusal.{Refusal}
+use Rattle.explain.specs.Telling.{kind_of as told_kind, length_of}
 use Rattle.erasure.specs.Offered.{byte_over}
 use Rattle.erasure.specs.Restoring.{tally}
 use Rattle.full.specs.Full.{wrong_buffers, clashing, full_refusal, full_block_after, full_map_after, full_work_after}
@@ -79,19 +84,28 @@ module _ (t b map work : List ℕ) (p : ℕ) (reason : List ℕ) where
   why_answer list = why_answer_at (why_refusal t b map work p reason) (kind_of map (checks t) p) list why_map_after
 
 -- what the code answers
-abbrev pub why_answer_of : Reason → WhyAnswer
-why_answer_of r = record {
-  refusal = r.refusal;
-  kind = r.kind;
-  length = r.length;
+abbrev pub why_answer_of : Result Reason Refusal → WhyAnswer
+why_answer_of (Ok r) = record {
+  refusal = 0;
+  kind = told_kind r.told;
+  length = length_of r.told;
   restored = r.restored;
   lost = r.lost;
-  check = r.check;
-  byte = r.byte;
+  check = 0;
+  byte = 0;
+}
+why_answer_of (Err r) = record {
+  refusal = number_of r;
+  kind = 0;
+  length = 0;
+  restored = 0;
+  lost = 0;
+  check = check_of r;
+  byte = byte_of r;
 }
 
 -- what the call answers, and what it leaves in block, map, work and reason: there is only one list for the place (reasons' listed-one)
-pub record Explains (t b map work : List ℕ) (p : ℕ) (reason : List ℕ) (r : Reason) (b' map' work' reason' : List ℕ) : Type 0 where
+pub record Explains (t b map work : List ℕ) (p : ℕ) (reason : List ℕ) (r : Result Reason Refusal) (b' map' work' reason' : List ℕ) : Type 0 where
   pub list : List ℕ
   pub listed : why_refusal t b map work p reason ≡ 0 → Listed (places t) (checks t) map p list
   pub report : why_answer_of r ≡ why_answer t b map work p reason list

@@ -1,158 +1,98 @@
 // The receiver: why a packet is missing, the call with its refusals.
 #![tactic(auto)]
 
-ghost use Rattle.std.specs.Prelude.{◌≡◌, ◌*◌, ◌≤◌, ◌<◌, length, replicate};
+ghost use Rattle.std.specs.Prelude.{◌≡◌, ◌*◌, ◌≤◌, ◌<◌, length};
+ghost use Rattle.std.specs.Result.{IfOk};
 ghost use Rattle.full.specs.Full.{FittingAll};
-ghost use Rattle.table.specs.Accepted.{Accepted};
+ghost use Rattle.refusals.specs.Refusals.{refusal_of};
 ghost use Rattle.table.specs.FirstCause.{first_cause};
 ghost use Rattle.table.specs.Table.{checks};
 ghost use Rattle.why.specs.Telling.{Tells};
-ghost use Rattle.why.specs.Why.{Explains, early_causes, why_answer_of, why_refused};
+ghost use Rattle.why.specs.Why.{Explains, early_causes};
 
-use table::{MOST_PLACES, WORK_WORDS};
+use explain::Told;
+use refusals::Refusal;
+use table::{MOST_PLACES, Table, WORK_WORDS};
 
 // the numbers of a reason buffer
 pub const REASON_NUMBERS: usize = 1024;
 
-// What the call reports: the refusal, 0 for none; the kind of the reason, 1 received, 2 restored, 3 lost; the length of its list; full
-// repair's counts; check and byte are 0.
-#[derive(Drop)]
+// What is told of the place, and full repair's counts.
+#[derive(Clone, Copy, Debug, PartialEq, Eq)]
 pub struct Reason {
-    pub refusal: u32,
-    pub kind: u32,
-    pub length: u32,
+    pub told: Told,
     pub restored: u32,
     pub lost: u32,
-    pub check: u32,
-    pub byte: u32,
 }
 
-// a refusal, all else 0
-fn refused(refusal: u32) -> Reason
-    ensures { why_answer_of result ≡ why_refused refusal }
+// the table, unless one of 1 to 5, 7 and 14 refuses
+fn look<'a>(
+    t: &'a [u16],
+    block: &[u8],
+    map: &[u8],
+    work: &[u64],
+    place: usize,
+    reason: &[u16],
+) -> Result<Table<'a>, Refusal>
+    ensures refusal { refusal_of result ≡ first_cause (early_causes t.now block.now map.now work.now place reason.now) }
+    ensures words { IfOk result (λ table. table.words ≡ t.entry) }
 {
-    Reason {
-        refusal: refusal,
-        kind: 0,
-        length: 0,
-        restored: 0,
-        lost: 0,
-        check: 0,
-        byte: 0,
+    let table = Table::new(t)?;
+    if marks::wrong_lengths(&table, block, map)
+        || work.len() != WORK_WORDS
+        || reason.len() != REASON_NUMBERS
+    {
+        return Err(Refusal::Buffer);
     }
-}
-
-// the first of 1 to 5, 7 and 14 that refuses, 0 for none
-fn look(t: &[u16], block: &[u8], map: &[u8], work: &[u64], place: usize, reason: &[u16]) -> u32
-    ensures { result ≡ first_cause (early_causes t.now block.now map.now work.now place reason.now) }
-{
-    let refusal = table::look_over(t);
-    if refusal != 0 {
-        return refusal;
+    if marks::over(map, 1) {
+        return Err(Refusal::Map);
     }
-    let n = usize::from(t[1]);
-    if block.len() != n * usize::from(t[2]) {
-        return 5;
+    if table.places <= place {
+        return Err(Refusal::NoReason);
     }
-    if map.len() != n {
-        return 5;
-    }
-    if work.len() != WORK_WORDS {
-        return 5;
-    }
-    if reason.len() != REASON_NUMBERS {
-        return 5;
-    }
-    if marks::over_one(map) {
-        return 7;
-    }
-    if n <= place {
-        return 14;
-    }
-    0
-}
-
-// every number becomes zero
-fn clear_numbers(list: &mut [u16])
-    ensures { list.new ≡ replicate (length list.old) 0 }
-{
-    for i in 0..list.len() {
-        list[i] = 0;
-    }
-}
-
-// the kind of the reason, and the length of its list
-#[derive(Drop)]
-pub struct Kind {
-    pub kind: u32,
-    pub length: u32,
+    Ok(table)
 }
 
 // the list for the place and then zeros
-fn tell(
-    t: &[u16],
-    m: usize,
-    n: usize,
-    s: usize,
-    lost: &[u8],
-    place: usize,
-    work: &mut [u64],
-    reason: &mut [u16],
-) -> Kind
-    requires table { Accepted t.now m n s
-        × (length lost.now ≡ n) }
-    requires room { (place < n)
-        × (m * 16 ≤ length work.old)
+fn tell(table: &Table, lost: &[u8], place: usize, work: &mut [u64], reason: &mut [u16]) -> Told
+    requires { (length lost.now ≡ table.now.places)
+        × (place < table.now.places)
+        × (table.now.checks * 16 ≤ length work.old)
         × (length reason.old ≡ 1024) }
-    ensures { Tells n (checks t.now) lost.now place result reason.new }
+    ensures { Tells table.now.places (checks table.now.words.now) lost.now place result reason.new }
 {
-    clear_numbers(reason);
+    reason.fill(0);
     if lost[place] != 1 {
-        return Kind { kind: 1, length: 0 };
+        return Told::Received;
     }
-    let r = explain::explain(t, m, n, s, lost, place, work, reason);
-    Kind {
-        kind: if r.restored { 2 } else { 3 },
-        length: r.length as u32,
-    }
+    explain::explain(table, lost, place, work, reason)
 }
 
 // the call where none of 1 to 7 and 14 refuses
 fn why_packets(
-    t: &[u16],
-    m: usize,
-    n: usize,
-    s: usize,
+    table: &Table,
     block: &mut [u8],
     map: &mut [u8],
     work: &mut [u64],
     place: usize,
     reason: &mut [u16],
-) -> Reason
-    requires table { Accepted t.now m n s }
-    requires fitting { FittingAll t.now block.old map.old work.old }
-    requires place { (place < n)
+) -> Result<Reason, Refusal>
+    requires fitting { FittingAll table.now.words.now block.old map.old work.old }
+    requires place { (place < table.now.places)
         × (length reason.old ≡ 1024) }
-    ensures { Explains t.now block.old map.old work.old place reason.old
+    ensures { Explains table.now.words.now block.old map.old work.old place reason.old
         result block.new map.new work.new reason.new }
 {
     let mut saved = [0u8; MOST_PLACES];
-    packets::copy(&mut saved, 0, map, 0, n);
-    let f = full::full_repair(t, block, map, work);
-    if f.refusal != 0 {
-        return refused(f.refusal);
-    }
-    let r = tell(t, m, n, s, &saved[..n], place, work, reason);
-    bits::clear_work(work);
-    Reason {
-        refusal: 0,
-        kind: r.kind,
-        length: r.length,
-        restored: f.restored,
-        lost: f.lost,
-        check: 0,
-        byte: 0,
-    }
+    saved[..table.places].copy_from_slice(map);
+    let full = full::full_repair(table.words, block, map, work)?;
+    let told = tell(table, &saved[..table.places], place, work, reason);
+    work.fill(0);
+    Ok(Reason {
+        told,
+        restored: full.restored,
+        lost: full.lost,
+    })
 }
 
 // Full repair, and the reason for one place.
@@ -163,23 +103,10 @@ pub fn why(
     work: &mut [u64],
     place: usize,
     reason: &mut [u16],
-) -> Reason
+) -> Result<Reason, Refusal>
     ensures { Explains t.now block.old map.old work.old place reason.old
         result block.new map.new work.new reason.new }
 {
-    let refusal = look(t, block, map, work, place, reason);
-    if refusal != 0 {
-        return refused(refusal);
-    }
-    why_packets(
-        t,
-        usize::from(t[3]),
-        usize::from(t[1]),
-        usize::from(t[2]),
-        block,
-        map,
-        work,
-        place,
-        reason,
-    )
+    let table = look(t, block, map, work, place, reason)?;
+    why_packets(&table, block, map, work, place, reason)
 }

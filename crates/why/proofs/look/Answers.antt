@@ -1,42 +1,31 @@
 -- `why::look` meets its contract.
-use Rattle.table.specs.Accepted.{looked-over, words, block-small}
-use mathlib.Core.Path.{refl, sym, ◌∙◌}
-use native.Mathlib.Omega.{arith}
-use Rattle.why.proofs.Looking.{found-table, found-block, found_map, found-work, found-reason, found-byte, found-place, found_none}
+use mathlib.Core.Path.{refl, sym, ap, ◌∙◌}
+use Rattle.std.proofs.lemmas.Result.{err_from_is_err_and}
+use Rattle.refusals.proofs.Numbers.{number-some}
+use Rattle.why.proofs.WhyLaws.{early-table}
+use Rattle.why.proofs.Looking.{found-lengths, right-lengths, found-work, found-reason}
 use Rattle.why.proofs.look.Goals as goal
+use Rattle.why.proofs.look.Goals.{then-wrong_lengths-via-then-wrong_lengths, then-wrong_lengths-via-else-wrong_lengths+then-work-ne-WORK_WORDS, then-wrong_lengths-via-else-wrong_lengths+else-work-ne-WORK_WORDS+then-reason-ne-REASON_NUMBERS}
 
-pub returns-then-refusal-ne0 : goal.returns-then-refusal-ne0
-returns-then-refusal-ne0 c = let a = c.args in found-table a.t.now a.block.now a.map.now a.work.now a.place a.reason.now _ 0 0 c.look_over-refusal.ensures c.if-refusal-ne0.true
+pub returns-in_err-table-clause-refusal : goal.returns-in_err-table-clause-refusal
+returns-in_err-table-clause-refusal c =
+    let a = c.args in
+    let p = err_from_is_err_and c.from_residual.result c.from_residual.ensures.1 in
+    let e = c.in_err-table.ensures.refusal in
+    rw (p.1, p.2) (e ∙ sym (early-table a.t.now a.block.now a.map.now a.work.now a.place a.reason.now (λ z. number-some _ (e ∙ z))))
 
-pub bounds-t-1 : goal.bounds-t-1
-bounds-t-1 c = omega (arith, words c.args.t.now _ c.look_over-refusal.ensures c.if-refusal-ne0.false)
-
-pub bounds-t-2 : goal.bounds-t-2
-bounds-t-2 c = omega (arith, words c.args.t.now _ c.look_over-refusal.ensures c.if-refusal-ne0.false)
-
-pub overflow_mul-n : goal.overflow_mul-n
-overflow_mul-n c =
-    let t = c.args.t.now in
-    let k = looked-over t _ _ _ _ c.look_over-refusal.ensures c.if-refusal-ne0.false refl c.from-n.ensures c.from.ensures in
-    omega (arith, block-small t _ _ _ k)
-
-pub returns-then-block-n : goal.returns-then-block-n
-returns-then-block-n c = let a = c.args in found-block a.t.now a.block.now a.map.now a.work.now a.place a.reason.now _ _ _ c.look_over-refusal.ensures c.if-refusal-ne0.false c.from-n.ensures c.from.ensures c.if-block-n.true
-
-pub returns-then-map-n : goal.returns-then-map-n
-returns-then-map-n c = let a = c.args in found_map a.t.now a.block.now a.map.now a.work.now a.place a.reason.now _ _ _ c.look_over-refusal.ensures c.if-refusal-ne0.false c.from-n.ensures c.from.ensures c.if-block-n.false c.if-map-n.true
-
-pub returns-then-work-ne-WORK_WORDS : goal.returns-then-work-ne-WORK_WORDS
-returns-then-work-ne-WORK_WORDS c = let a = c.args in found-work a.t.now a.block.now a.map.now a.work.now a.place a.reason.now _ _ _ c.look_over-refusal.ensures c.if-refusal-ne0.false c.from-n.ensures c.from.ensures c.if-block-n.false c.if-map-n.false c.if-work-ne-WORK_WORDS.true
-
-pub returns-then-reason-ne-REASON_NUMBERS : goal.returns-then-reason-ne-REASON_NUMBERS
-returns-then-reason-ne-REASON_NUMBERS c = let a = c.args in found-reason a.t.now a.block.now a.map.now a.work.now a.place a.reason.now _ _ _ c.look_over-refusal.ensures c.if-refusal-ne0.false c.from-n.ensures c.from.ensures c.if-block-n.false c.if-map-n.false c.if-work-ne-WORK_WORDS.false c.if-reason-ne-REASON_NUMBERS.true
-
-pub returns-then-over_one : goal.returns-then-over_one
-returns-then-over_one c = let a = c.args in found-byte a.t.now a.block.now a.map.now a.work.now a.place a.reason.now _ _ _ c.look_over-refusal.ensures c.if-refusal-ne0.false c.from-n.ensures c.from.ensures c.if-block-n.false c.if-map-n.false c.if-work-ne-WORK_WORDS.false c.if-reason-ne-REASON_NUMBERS.false (sym c.over_one.ensures ∙ c.if-over_one.true)
-
-pub returns-then-n-place : goal.returns-then-n-place
-returns-then-n-place c = let a = c.args in found-place a.t.now a.block.now a.map.now a.work.now a.place a.reason.now _ _ _ c.look_over-refusal.ensures c.if-refusal-ne0.false c.from-n.ensures c.from.ensures c.if-block-n.false c.if-map-n.false c.if-work-ne-WORK_WORDS.false c.if-reason-ne-REASON_NUMBERS.false (sym c.over_one.ensures ∙ c.if-over_one.false) (let h = c.if-n-place.true in omega arith)
-
-pub returns : goal.returns
-returns c = let a = c.args in found_none a.t.now a.block.now a.map.now a.work.now a.place a.reason.now _ _ _ c.look_over-refusal.ensures c.if-refusal-ne0.false c.from-n.ensures c.from.ensures c.if-block-n.false c.if-map-n.false c.if-work-ne-WORK_WORDS.false c.if-reason-ne-REASON_NUMBERS.false (sym c.over_one.ensures ∙ c.if-over_one.false) (let h = c.if-n-place.false in omega arith)
+pub returns-then-wrong_lengths-clause-refusal : goal.returns-then-wrong_lengths-clause-refusal
+returns-then-wrong_lengths-clause-refusal c =
+    let a = c.args in
+    let w = ap (λ r. r.now) c.in_ok-table.ensures.words in
+    let k = rw w at c.in_ok-table.table.accepted in
+    elim c.then-wrong_lengths.branch [
+      | then-wrong_lengths-via-then-wrong_lengths u ↦
+          found-lengths a.t.now a.block.now a.map.now a.work.now a.place a.reason.now _ _ _ k (sym c.wrong_lengths.ensures ∙ u.if-wrong_lengths.true)
+      | then-wrong_lengths-via-else-wrong_lengths+then-work-ne-WORK_WORDS u ↦
+          let r = right-lengths a.block.now a.map.now _ _ (sym c.wrong_lengths.ensures ∙ u.if-wrong_lengths.false) in
+          found-work a.t.now a.block.now a.map.now a.work.now a.place a.reason.now 0 _ _ (sym k.accepted) refl k.places-are k.size_is r.0 r.1 u.if-work-ne-WORK_WORDS.true
+      | then-wrong_lengths-via-else-wrong_lengths+else-work-ne-WORK_WORDS+then-reason-ne-REASON_NUMBERS u ↦
+          let r = right-lengths a.block.now a.map.now _ _ (sym c.wrong_lengths.ensures ∙ u.if-wrong_lengths.false) in
+          found-reason a.t.now a.block.now a.map.now a.work.now a.place a.reason.now 0 _ _ (sym k.accepted) refl k.places-are k.size_is r.0 r.1 u.if-work-ne-WORK_WORDS.false u.if-reason-ne-REASON_NUMBERS.true
+    ]

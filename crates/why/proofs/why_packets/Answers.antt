@@ -1,57 +1,25 @@
 -- `why::why_packets` meets its contract.
 use Prim.Native.Nat.{ℕ}
-use mathlib.Core.Path.{sym, ap, ◌∙◌}
-use native.Mathlib.Omega.{arith}
-use lib.ListN.{replicate}
-use Rattle.lists.specs.Buffers.{part_length}
-use Rattle.table.specs.Accepted.{few-places}
-use Rattle.restore.specs.SavedLaws.{saved-room, saved-is}
+use mathlib.Core.Path.{ap, ◌∙◌}
+use lib.ListN.{length, replicate}
+use Rattle.std.proofs.Common.{rules}
+use Rattle.std.proofs.lemmas.List.{take_at}
+use Rattle.std.proofs.lemmas.Result.{err_from_is_err_and}
 use Rattle.why.proofs.Answering.{explains-refused, explains-told}
-use Rattle.why.proofs.Fitting.{fit-places, fit-rows, fits_all}
+use Rattle.why.proofs.Fitting.{fit-places, fits_all}
 use Rattle.why.proofs.why_packets.Goals as goal
 
-pub copy-requires : goal.copy-requires
-copy-requires c =
+pub returns-in_err-full : goal.returns-in_err-full
+returns-in_err-full c =
     let a = c.args in
-    let p = c.requires in
-    (omega (arith, few-places a.t.now a.m a.n a.s p.table), omega (arith, fit-places a.t.now a.m a.n a.s p.table a.block.now a.map.now a.work.now p.fitting))
-
-pub returns-then-f-ne0 : goal.returns-then-f-ne0
-returns-then-f-ne0 c =
-    let a = c.args in
-    let p = c.requires in
-    let fit = fits_all a.t.now a.m a.n a.s p.table a.block.now a.map.now a.work.now p.fitting a.place p.place.0 a.reason.now p.place.1 in
-    explains-refused a.t.now a.block.now a.map.now a.work.now a.place a.reason.now fit _ c.full_repair-f.ensures c.if-f-ne0.true _ c.refused.ensures
-
-pub slice_bounds-saved-end : goal.slice_bounds-saved-end
-slice_bounds-saved-end c = let a = c.args in let p = c.requires in let nar = few-places a.t.now a.m a.n a.s p.table in omega arith
-
-pub slice_bounds-tell-end : goal.slice_bounds-tell-end
-slice_bounds-tell-end c =
-    let a = c.args in
-    let p = c.requires in
-    let nar = few-places a.t.now a.m a.n a.s p.table in
-    let ll = fit-places a.t.now a.m a.n a.s p.table a.block.now a.map.now a.work.now p.fitting in
-    let room = saved-room _ a.map.now _ a.n nar ll c.copy.ensures in
-    sym (part_length _ 0 a.n (omega arith))
-
-pub tell-r-requires : goal.tell-r-requires
-tell-r-requires c =
-    let a = c.args in
-    let p = c.requires in
-    let nar = few-places a.t.now a.m a.n a.s p.table in
-    let ll = fit-places a.t.now a.m a.n a.s p.table a.block.now a.map.now a.work.now p.fitting in
-    let room = saved-room _ a.map.now _ a.n nar ll c.copy.ensures in
-    let w = fit-rows a.t.now a.m a.n a.s p.table a.block.now a.map.now a.work.now p.fitting in
-    let l = c.work-1.given in
-    record { table = (p.table, part_length _ 0 a.n (omega arith)); room = (p.place.0, omega arith, p.place.1) }
+    let fit = fits_all _ _ _ _ a.table.now.accepted a.block.now a.map.now a.work.now c.requires.fitting a.place c.requires.place.0 a.reason.now c.requires.place.1 in
+    let p = err_from_is_err_and c.from_residual.result c.from_residual.ensures.1 in
+    rw (p.1, p.2) (explains-refused a.table.now.words.now a.block.now a.map.now a.work.now a.place a.reason.now fit _ c.in_err-full.ensures)
 
 pub returns : goal.returns
 returns c =
     let a = c.args in
-    let p = c.requires in
-    let nar = few-places a.t.now a.m a.n a.s p.table in
-    let ll = fit-places a.t.now a.m a.n a.s p.table a.block.now a.map.now a.work.now p.fitting in
-    let fit = fits_all a.t.now a.m a.n a.s p.table a.block.now a.map.now a.work.now p.fitting a.place p.place.0 a.reason.now p.place.1 in
-    explains-told a.t.now a.block.now a.map.now a.work.now a.place a.reason.now fit _ c.full_repair-f.ensures c.if-f-ne0.false a.n p.table.places-are _
-    (saved-is _ a.map.now _ a.n nar ll c.copy.ensures) c.tell-r.ensures (c.clear_work.ensures ∙ ap (λ (k : ℕ). replicate k 0) c.work-2-1.given) c.work-1.given
+    let fit = fits_all _ _ _ _ a.table.now.accepted a.block.now a.map.now a.work.now c.requires.fitting a.place c.requires.place.0 a.reason.now c.requires.place.1 in
+    let lost = take_at _ _ _ (ap length c.copy_from_slice.ensures.after ∙ fit-places _ _ _ _ a.table.now.accepted a.block.now a.map.now a.work.now c.requires.fitting) ∙ c.copy_from_slice.ensures.after in
+    explains-told a.table.now.words.now a.block.now a.map.now a.work.now a.place a.reason.now fit _ c.in_ok-full.ensures a.table.now.places a.table.now.accepted.places-are _ lost c.tell-told.ensures
+    (c.fill.ensures.after (search rules) ∙ ap (λ (k : ℕ). replicate k 0) c.tell-told.auto.work) c.full_repair.auto.work
