@@ -3,9 +3,7 @@
 // and map. Where the packets contradict, both are written as merged, zero at the lost places.
 #![tactic(auto)]
 
-ghost use Rattle.std.specs.Prelude.{true, [], ◌∷◌, ◌≡◌, ◌≤◌, length};
-ghost use Rattle.lists.specs.Lists.{has};
-ghost use Rattle.refusals.specs.Refusals.{number_of};
+ghost use Rattle.std.specs.Prelude.{◌≤◌, length};
 
 use merge::Merged;
 use refusals::{Fault, Refusal};
@@ -26,9 +24,7 @@ fn print_counts<P: Print>(out: &P, merged: Merged) -> std::io::Result<()> {
 }
 
 // Says on standard error why nothing is merged.
-fn refuse<P: Print>(err: &P, refusal: Refusal) -> std::io::Result<()>
-    requires { has (number_of refusal) (1 ∷ 2 ∷ 3 ∷ 4 ∷ 5 ∷ 7 ∷ []) ≡ true }
-{
+fn refuse<P: Print>(err: &P, refusal: Refusal) -> std::io::Result<()> {
     match refusal {
         Refusal::Buffer => Print::write_all(
             err,
@@ -37,7 +33,10 @@ fn refuse<P: Print>(err: &P, refusal: Refusal) -> std::io::Result<()>
         Refusal::Map => {
             Print::write_all(err, b"refused 7: a receiver's map has a byte over 1\n")
         }
-        _ => text::say_table_refused(err, refusal),
+        Refusal::ShortTable | Refusal::Limits | Refusal::Lengths | Refusal::Places => {
+            text::say_table_refused(err, refusal)
+        }
+        _ => text::say_refused(err, refusal),
     }
 }
 

@@ -7,24 +7,25 @@ use native.Mathlib.Omega.{arith}
 use lib.Dec.{eqb}
 use lib.ListN.{length, take, length-append}
 use lib.Seq.{length-take-le}
-use Rattle.why.specs.Why.{WhyAnswer, why_answer_of, why_answer_at, why_refusal, Explains}
+use Rattle.std.specs.declared.result.Result.TheVariants.{Ok}
+use Rattle.why.specs.Why.{WhyAnswer, why_answer_of, why_answer_at, why_refusal, length_of, Explains}
 use Rattle.why.specs.declared.Reason.{Reason}
 
 -- by the refusal's number: the buffer has the list and something behind it
-at : (k kind : ℕ) (list after rest reason reason' : List ℕ) (r : Reason) → why_answer_of r ≡ why_answer_at k kind list after
-    → reason' ≡ elim (eqb k 0) [ true ↦ list ++ rest | false ↦ reason ] → r.refusal ≡ 0 → r.length ≤ length reason'
-at zero kind list after rest reason reason' r e is z =
-    let a : r.length ≡ length list = ap (λ (x : WhyAnswer). x.length) e in
+at : (k kind : ℕ) (list after rest reason reason' : List ℕ) (r : Reason) → why_answer_of (Ok r) ≡ why_answer_at k kind list after
+    → reason' ≡ elim (eqb k 0) [ true ↦ list ++ rest | false ↦ reason ] → length_of r.told ≤ length reason'
+at zero kind list after rest reason reason' r e is =
+    let a : length_of r.told ≡ length list = ap (λ (x : WhyAnswer). x.length) e in
     let b : length reason' ≡ length (list ++ rest) = ap length is in
     let d = length-append list rest in
     omega arith
-at (suc k) kind list after rest reason reason' r e is z =
-    let a : r.refusal ≡ suc k = ap (λ (x : WhyAnswer). x.refusal) e in absurd (omega arith)
+at (suc k) kind list after rest reason reason' r e is =
+    let a : 0 ≡ suc k = ap (λ (x : WhyAnswer). x.refusal) e in absurd (omega arith)
 
 module _ (t b map work : List ℕ) (p : ℕ) (reason : List ℕ) (r : Reason) (b' map' work' reason' : List ℕ)
-    (x : Explains t b map work p reason r b' map' work' reason') (z : r.refusal ≡ 0) where
-  pub list-within : r.length ≤ length reason'
-  list-within = at (why_refusal t b map work p reason) _ x.list _ _ reason reason' r x.report x.reason-is z
+    (x : Explains t b map work p reason (Ok r) b' map' work' reason') where
+  pub list-within : length_of r.told ≤ length reason'
+  list-within = at (why_refusal t b map work p reason) _ x.list _ _ reason reason' r x.report x.reason-is
 
-  pub list_counts : r.length ≡ length (take r.length reason')
-  list_counts = sym (length-take-le r.length reason' list-within)
+  pub list_counts : length_of r.told ≡ length (take (length_of r.told) reason')
+  list_counts = sym (length-take-le (length_of r.told) reason' list-within)

@@ -2,9 +2,11 @@
 // repair, and full repair's counts. MAP is the map before any repair. It writes no file.
 #![tactic(auto)]
 
-ghost use Rattle.std.specs.Prelude.{true, [], ◌∷◌, ◌≡◌};
-ghost use Rattle.lists.specs.Lists.{has};
+ghost use Rattle.std.specs.Prelude.{◌≡◌};
+ghost use Rattle.why.specs.Why.{length_of};
 
+
+use explain::Told;
 use refusals::Refusal;
 use std::io::Print;
 use std::rt::Runtime;
@@ -13,9 +15,7 @@ use std::rt::Runtime;
 const MOST_BLOCK: usize = 32768;
 
 // Says on standard error why no reason is told.
-fn refuse<P: Print>(err: &P, refusal: Refusal) -> std::io::Result<()>
-    requires { has (number_of refusal) (1 ∷ 2 ∷ 3 ∷ 4 ∷ 5 ∷ 7 ∷ 14 ∷ 8 ∷ []) ≡ true }
-{
+fn refuse<P: Print>(err: &P, refusal: Refusal) -> std::io::Result<()> {
     match refusal {
         Refusal::Buffer => Print::write_all(
             err,
@@ -33,7 +33,10 @@ fn refuse<P: Print>(err: &P, refusal: Refusal) -> std::io::Result<()>
             err,
             b"refused 8: no codeword agrees with the received packets\n",
         ),
-        _ => text::say_table_refused(err, refusal),
+        Refusal::ShortTable | Refusal::Limits | Refusal::Lengths | Refusal::Places => {
+            text::say_table_refused(err, refusal)
+        }
+        _ => text::say_refused(err, refusal),
     }
 }
 
@@ -71,6 +74,17 @@ fn print_reason<P: Print>(out: &P, place: usize, told: Told, list: &[u16]) -> st
     }
 }
 
+// How many numbers are listed.
+fn listed(told: Told) -> usize
+    ensures { result ≡ length_of told }
+{
+    match told {
+        Told::Received => 0,
+        Told::Restored(length) => length as usize,
+        Told::Lost(length) => length as usize,
+    }
+}
+
 fn explain_place<P: Print, Q: Print>(
     out: &P,
     err: &Q,
@@ -85,10 +99,7 @@ fn explain_place<P: Print, Q: Print>(
         Ok(answer) => answer,
         Err(refusal) => return refuse(err, refusal),
     };
-    let length = match answer.told {
-        Told::Received => 0,
-        Told::Restored(length) | Told::Lost(length) => length as usize,
-    };
+    let length = listed(answer.told);
     print_reason(out, place, answer.told, &reason[..length])?;
     text::print_restored(out, answer.restored, answer.lost, b"\n")
 }
