@@ -7,7 +7,7 @@ use Rattle.receiver.specs.declared.FullRepair.{FullRepair}
 use Rattle.receiver.specs.declared.Merge.{Merge}
 use Rattle.receiver.specs.declared.Reason.{Reason}
 use Rattle.receiver.specs.declared.Repair.{Repair}
-use Rattle.why.specs.declared.Reason as why
+use Rattle.why.specs.Why.{WhyAnswer}
 
 -- C has numbers: 1 or 0 for whether
 abbrev pub one_if : Bool → ℕ
@@ -34,7 +34,7 @@ merged r = record {
   byte = r.byte;
 }
 
-abbrev pub reasoned : Reason → why.Reason
+abbrev pub reasoned : Reason → WhyAnswer
 reasoned r = record {
   refusal = r.refusal;
   kind = r.kind;

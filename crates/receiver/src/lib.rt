@@ -1,7 +1,7 @@
 // The receiver's library for C: the packet call, verification, repair, full repair, merging, a longer table, and the reason for one place.
 #![tactic(auto)]
 
-ghost use Rattle.std.specs.Prelude.{◌≡◌, ◌≤◌, length};
+ghost use Rattle.std.specs.Prelude.{◌≡◌, length};
 ghost use Rattle.table.specs.PacketCall.{packet_refusal, part_start, part_len};
 ghost use Rattle.verify.specs.Verify.{verify_answer};
 ghost use Rattle.repair.specs.Repair.{repair_answer, repair_block_after, repair_map_after};
@@ -10,10 +10,15 @@ ghost use Rattle.faults.specs.Faults.{check_of, byte_of};
 ghost use Rattle.erasure.specs.Offered.{held};
 ghost use Rattle.merge.specs.Merge.{merge_answer, merge_after};
 ghost use Rattle.lengthen.specs.Lengthen.{lengthen_answer, lengthen_after};
+ghost use Rattle.explain.specs.Telling.{kind_of as told_kind, length_of};
 ghost use Rattle.why.specs.Why.{Explains};
+ghost use Rattle.refusals.specs.Refusals.{check_of as check_in, byte_of as byte_in};
+ghost use Rattle.report.specs.Report.{repair_answer_of};
 ghost use Rattle.receiver.specs.Answers.{one_if, repaired, fully_repaired, merged, reasoned};
 
-use verify::Verified;
+use explain::Told;
+use refusals::{Fault, Refusal};
+use report::Repaired;
 
 // Where in the block a packet lies: 0 and 0 on refusal.
 #[repr(C)]
@@ -30,19 +35,28 @@ pub extern "C" fn bs_packet(n: usize, s: usize, place: usize, block: &[u8]) -> P
     ensures start { result.start ≡ part_start n s place (length block.now) }
     ensures length { result.length ≡ part_len n s place (length block.now) }
 {
-    let refusal = table::packet_refusal(n, s, place, block.len());
-    if refusal == 0 {
-        Part {
+    match table::look_at_place(n, s, place, block.len()) {
+        Ok(()) => Part {
             refusal: 0,
             start: place * s,
             length: s,
-        }
-    } else {
-        Part {
-            refusal: refusal,
+        },
+        Err(refusal) => Part {
+            refusal: refusal.number(),
             start: 0,
             length: 0,
-        }
+        },
+    }
+}
+
+// What a refusal hands on: the lowest check that fails with its byte, else 0 and 0.
+fn told(refusal: Refusal) -> Fault
+    ensures { (result.check ≡ check_in refusal)
+        × (result.byte ≡ byte_in refusal) }
+{
+    match refusal {
+        Refusal::Contradiction(fault) => fault,
+        _ => Fault { check: 0, byte: 0 },
     }
 }
 
@@ -56,23 +70,6 @@ pub struct Verification {
     pub byte: u32,
 }
 
-// a check that fails, and its byte
-fn fails(check: usize, byte: usize) -> Verification
-    requires { (check ≤ 1024)
-        × (byte ≤ 1024) }
-    ensures { (result.refusal ≡ 0)
-        × (result.codeword ≡ 0)
-        × (result.check ≡ check)
-        × (result.byte ≡ byte) }
-{
-    Verification {
-        refusal: 0,
-        codeword: 0,
-        check: check as u32,
-        byte: byte as u32,
-    }
-}
-
 #[unsafe(no_mangle)]
 pub extern "C" fn bs_verify(table: &[u16], block: &[u8]) -> Verification
     ensures refusal { result.refusal ≡ (verify_answer table.now block.now).refusal }
@@ -81,19 +78,27 @@ pub extern "C" fn bs_verify(table: &[u16], block: &[u8]) -> Verification
     ensures byte { result.byte ≡ byte_of (verify_answer table.now block.now).fault }
 {
     match verify::verify(table, block) {
-        Verified::Refused(refusal) => Verification {
-            refusal: refusal,
-            codeword: 0,
-            check: 0,
-            byte: 0,
-        },
-        Verified::Codeword => Verification {
+        Ok(None) => Verification {
             refusal: 0,
             codeword: 1,
             check: 0,
             byte: 0,
         },
-        Verified::Fails(check, byte) => fails(check, byte),
+        Ok(Some(found)) => Verification {
+            refusal: 0,
+            codeword: 0,
+            check: found.check,
+            byte: found.byte,
+        },
+        Err(refusal) => {
+            let fault = told(refusal);
+            Verification {
+                refusal: refusal.number(),
+                codeword: 0,
+                check: fault.check,
+                byte: fault.byte,
+            }
+        }
     }
 }
 
@@ -110,21 +115,40 @@ pub struct Repair {
     pub byte: u32,
 }
 
+// The same of an answer of repair, or of a call that goes on with it.
+fn repair_for_c(answer: Result<Repaired, Refusal>) -> Repair
+    ensures { repaired result ≡ repair_answer_of answer }
+{
+    match answer {
+        Ok(r) => Repair {
+            refusal: 0,
+            restored: r.restored,
+            lost: r.lost,
+            additions: r.additions,
+            check: 0,
+            byte: 0,
+        },
+        Err(refusal) => {
+            let handed = told(refusal);
+            Repair {
+                refusal: refusal.number(),
+                restored: 0,
+                lost: 0,
+                additions: 0,
+                check: handed.check,
+                byte: handed.byte,
+            }
+        }
+    }
+}
+
 #[unsafe(no_mangle)]
 pub extern "C" fn bs_repair(table: &[u16], block: &mut [u8], map: &mut [u8]) -> Repair
     ensures report { repaired result ≡ repair_answer table.now block.old map.old }
     ensures block { block.new ≡ repair_block_after table.now block.old map.old }
     ensures map { map.new ≡ repair_map_after table.now block.old map.old }
 {
-    let r = repair::repair(table, block, map);
-    Repair {
-        refusal: r.refusal,
-        restored: r.restored,
-        lost: r.lost,
-        additions: r.additions,
-        check: r.check,
-        byte: r.byte,
-    }
+    repair_for_c(repair::repair(table, block, map))
 }
 
 // What full repair reports: the refusal, 0 for none, and the counts; check and byte are 0.
@@ -150,13 +174,24 @@ pub extern "C" fn bs_full_repair(
     ensures map { map.new ≡ full_map_after table.now block.old map.old work.old }
     ensures work { work.new ≡ full_work_after table.now block.old map.old work.old }
 {
-    let f = full::full_repair(table, block, map, work);
-    FullRepair {
-        refusal: f.refusal,
-        restored: f.restored,
-        lost: f.lost,
-        check: f.check,
-        byte: f.byte,
+    match full::full_repair(table, block, map, work) {
+        Ok(f) => FullRepair {
+            refusal: 0,
+            restored: f.restored,
+            lost: f.lost,
+            check: 0,
+            byte: 0,
+        },
+        Err(cause) => {
+            let fault = told(cause);
+            FullRepair {
+                refusal: cause.number(),
+                restored: 0,
+                lost: 0,
+                check: fault.check,
+                byte: fault.byte,
+            }
+        }
     }
 }
 
@@ -203,18 +238,34 @@ pub extern "C" fn bs_merge(
         (held block2.now map2.now)
         (held block3.old map3.old)).map }
 {
-    let m = merge::merge(table, block1, map1, block2, map2, block3, map3);
-    Merge {
-        refusal: m.refusal,
-        agreed: m.agreed,
-        single: m.single,
-        silent: m.silent,
-        clash: m.clash,
-        restored: m.restored,
-        lost: m.lost,
-        additions: m.additions,
-        check: m.check,
-        byte: m.byte,
+    match merge::merge(table, block1, map1, block2, map2, block3, map3) {
+        Ok(m) => Merge {
+            refusal: 0,
+            agreed: m.agreed,
+            single: m.single,
+            silent: m.silent,
+            clash: m.clash,
+            restored: m.repaired.restored,
+            lost: m.repaired.lost,
+            additions: m.repaired.additions,
+            check: 0,
+            byte: 0,
+        },
+        Err(refusal) => {
+            let fault = told(refusal);
+            Merge {
+                refusal: refusal.number(),
+                agreed: 0,
+                single: 0,
+                silent: 0,
+                clash: 0,
+                restored: 0,
+                lost: 0,
+                additions: 0,
+                check: fault.check,
+                byte: fault.byte,
+            }
+        }
     }
 }
 
@@ -240,15 +291,7 @@ pub extern "C" fn bs_lengthen(
         (held block.old map.old)
         (held arrivals.now arrived.now)).map }
 {
-    let l = lengthen::lengthen(old, new, block, map, arrivals, arrived);
-    Repair {
-        refusal: l.refusal,
-        restored: l.restored,
-        lost: l.lost,
-        additions: l.additions,
-        check: l.check,
-        byte: l.byte,
-    }
+    repair_for_c(lengthen::lengthen(old, new, block, map, arrivals, arrived))
 }
 
 // What the reason for one place reports: the refusal, 0 for none; its kind, 1 received, 2 restored, 3 lost; the
@@ -265,6 +308,18 @@ pub struct Reason {
     pub byte: u32,
 }
 
+// What is told of a place, as numbers: the kind and the length of the list.
+fn kind_for_c(told: Told) -> (u32, u32)
+    ensures { (result.0 ≡ told_kind told)
+        × (result.1 ≡ length_of told) }
+{
+    match told {
+        Told::Received => (1, 0),
+        Told::Restored(length) => (2, length),
+        Told::Lost(length) => (3, length),
+    }
+}
+
 #[unsafe(no_mangle)]
 pub extern "C" fn bs_why(
     table: &[u16],
@@ -277,14 +332,30 @@ pub extern "C" fn bs_why(
     ensures { Explains table.now block.old map.old work.old place reason.old
         (reasoned result) block.new map.new work.new reason.new }
 {
-    let w = why::why(table, block, map, work, place, reason);
-    Reason {
-        refusal: w.refusal,
-        kind: w.kind,
-        length: w.length,
-        restored: w.restored,
-        lost: w.lost,
-        check: w.check,
-        byte: w.byte,
+    match why::why(table, block, map, work, place, reason) {
+        Ok(w) => {
+            let (kind, length) = kind_for_c(w.told);
+            Reason {
+                refusal: 0,
+                kind,
+                length,
+                restored: w.restored,
+                lost: w.lost,
+                check: 0,
+                byte: 0,
+            }
+        }
+        Err(refusal) => {
+            let fault = told(refusal);
+            Reason {
+                refusal: refusal.number(),
+                kind: 0,
+                length: 0,
+                restored: 0,
+                lost: 0,
+                check: fault.check,
+                byte: fault.byte,
+            }
+        }
     }
 }

@@ -1,5 +1,6 @@
 -- The packet call for C: the number, and where the part lies.
-use mathlib.Core.Path.{◌≡◌, sym, ap, ◌∙◌}
+use mathlib.Core.Path.{◌≡◌, refl, sym, ap, ◌∙◌}
+use Rattle.refusals.proofs.Numbers.{number-some}
 use Prim.Native.Nat.{ℕ, ◌*◌}
 use native.Mathlib.Omega.{arith}
 use borrow.Author.Tests.{ne_eqb}
@@ -22,14 +23,15 @@ nowhere n s place len r e z = let k = ne_eqb (packet_refusal n s place len) 0 (�
     (e, (sym (ap (λ b. cond b (place * s) 0) k), sym (ap (λ b. cond b s 0) k)))
 
 pub overflow_mul-result : goal.overflow_mul-result
-overflow_mul-result c = omega (arith, packet-room c.args.n c.args.s c.args.place (length c.args.block.now) (sym c.packet_refusal-refusal.ensures ∙ c.if-refusal-eq0.true))
+overflow_mul-result c = omega (arith, packet-room c.args.n c.args.s c.args.place (length c.args.block.now) (sym c.in-Ok.ensures))
 
-pub returns-then-refusal-eq0 : goal.returns-then-refusal-eq0
-returns-then-refusal-eq0 c =
-    let q = lies c.args.n c.args.s c.args.place (length c.args.block.now) c.packet_refusal-refusal.result c.packet_refusal-refusal.ensures c.if-refusal-eq0.true in
+pub returns-in-Ok : goal.returns-in-Ok
+returns-in-Ok c =
+    let q = lies c.args.n c.args.s c.args.place (length c.args.block.now) 0 c.in-Ok.ensures refl in
     record { refusal = q.0; start = q.1.0; length = q.1.1 }
 
-pub returns-else-refusal-eq0 : goal.returns-else-refusal-eq0
-returns-else-refusal-eq0 c =
-    let q = nowhere c.args.n c.args.s c.args.place (length c.args.block.now) c.packet_refusal-refusal.result c.packet_refusal-refusal.ensures c.if-refusal-eq0.false in
+pub returns-in-Err : goal.returns-in-Err
+returns-in-Err c =
+    let e = c.number.ensures ∙ c.in-Err.ensures in
+    let q = nowhere c.args.n c.args.s c.args.place (length c.args.block.now) c.number.result e (λ z. number-some c.in-Err.refusal (sym c.number.ensures ∙ z)) in
     record { refusal = q.0; start = q.1.0; length = q.1.1 }
