@@ -14,33 +14,6 @@ use refusals::Fault;
 use report::Repaired;
 use table::{Located, MOST_CHECKS, MOST_PLACES, MOST_WORDS, Table};
 
-// the lowest check without a lost place whose sum isn't zero, and the lowest byte of that sum that isn't; those that
-// restored a place sum to zero
-fn judge(table: &Table, block: &[u8], map: &[u8], count: &[u16], used: &[u8]) -> Option<Fault>
-    requires { (length block.now ≡ table.now.places * table.now.size)
-        × (length map.now ≡ table.now.places)
-        × Counted table.now.words.now table.now.checks map.now count.now
-        × Spent table.now.words.now table.now.checks table.now.places table.now.size block.now map.now used.now }
-    ensures { fault_found result
-        ≡ contradiction table.now.size (checks table.now.words.now) (state_of table.now.size table.now.places block.now map.now 0) }
-{
-    let mut at = 5 + table.checks;
-    for j in 0..table.checks {
-        let w = usize::from(table.words[4 + j]);
-        if marks::to_sum(count[j], used[j]) {
-            let places = table::run(table.words, at, w);
-            if let Some(low) = sums::sum_of_check(places, block, table.places, table.size) {
-                return Some(Fault {
-                    check: j as u32,
-                    byte: low as u32,
-                });
-            }
-        }
-        at += w;
-    }
-    None
-}
-
 // The additions of all turns, and the lowest check that fails after them, with its byte.
 #[derive(Clone, Copy, Debug, PartialEq, Eq)]
 pub struct Turned {
@@ -66,7 +39,9 @@ pub fn restore_lost(located: &Located, block: &mut [u8], map: &mut [u8]) -> Turn
     let adds = turns::restore_all(
         located, &head, &next, &owner, &mut count, block, map, &mut used,
     );
-    let fault = judge(&located.table, block, map, &count, &used);
+    let fault = verify::lowest_failing(&located.table, block, |j| {
+        marks::to_sum(count[j], used[j])
+    });
     Turned { adds, fault }
 }
 

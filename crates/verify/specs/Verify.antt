@@ -1,6 +1,6 @@
 -- Verification (document 01, "Repair and the other calls"): "says that the block is a codeword, or gives the lowest check that
 -- fails", by document 02, C-12, "with that byte": the lowest of its sum that isn't zero. Checks and bytes are numbered from 0.
-use Rattle.std.specs.Prelude.{Bool, true, false, List, [], ◌∷◌, ◌++◌, ℕ, zero, suc, ◌*◌, length}
+use Rattle.std.specs.Prelude.{◌≡◌, ◌⊎◌, Bool, true, false, List, [], ◌∷◌, ◌++◌, ℕ, zero, suc, ◌*◌, length}
 use Rattle.std.proofs.Math.Option.{Option, none, some}
 use Rattle.std.specs.declared.option.Option.{Option as Found}
 use Rattle.std.specs.declared.result.Result.{Result}
@@ -9,6 +9,7 @@ use Rattle.refusals.specs.Refusals.{number_of}
 use Rattle.refusals.specs.declared.Fault.{Fault as FaultFound}
 use Rattle.refusals.specs.declared.Refusal.{Refusal}
 use Rattle.faults.specs.Faults.{Fault, failing, every_check, fault_found, fault_told}
+use Rattle.table.specs.Codewords.{zero_sum}
 use Rattle.table.specs.FirstCause.{first_cause, wrong_length}
 use Rattle.table.specs.Packets.{packets}
 use Rattle.table.specs.Table.{places, size, checks, table_causes}
@@ -47,3 +48,8 @@ verify_answer_at (suc r) v = refused_with (suc r)
 
 abbrev pub verify_answer : List ℕ → List ℕ → Values
 verify_answer t b = verify_answer_at (verify_refusal t b) (failing every_check (size t) (packets (size t) (places t) b) 0 (checks t))
+
+-- r says of check c, over packets b of s bytes, whether it is judged: if not, it doesn't count or sums to zero
+pub record Judges (s : ℕ) (b : List (List ℕ)) (counts : List ℕ → Bool) (c : List ℕ) (r : Bool) : Type 0 where
+  pub judged : r ≡ true → counts c ≡ true
+  pub spared : r ≡ false → (counts c ≡ false) ⊎ (zero_sum s b c ≡ true)

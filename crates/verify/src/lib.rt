@@ -1,30 +1,35 @@
 // The receiver: verification.
 #![tactic(auto)]
 
-ghost use Rattle.std.specs.Prelude.{◌≡◌, ◌*◌, length};
+ghost use Rattle.std.specs.Prelude.{◌≡◌, ◌*◌, ◌<◌, ℕ, Bool, List, [], length, get_or};
 ghost use Rattle.table.specs.Packets.{packets};
 ghost use Rattle.table.specs.Table.{checks};
-ghost use Rattle.faults.specs.Faults.{failing, every_check, fault_found};
-ghost use Rattle.verify.specs.Verify.{values_of, verify_answer};
+ghost use Rattle.faults.specs.Faults.{failing, fault_found};
+ghost use Rattle.verify.specs.Verify.{Judges, values_of, verify_answer};
 
 use refusals::{Fault, Refusal};
 use table::Table;
 
-// the lowest check that fails, and the lowest byte of its sum that isn't zero
-fn look_at_checks(table: &Table, block: &[u8]) -> Option<Fault>
-    requires { length block.now ≡ table.now.places * table.now.size }
-    ensures { fault_found result
-        ≡ failing every_check table.now.size (packets table.now.size table.now.places block.now) 0 (checks table.now.words.now) }
+// The lowest check that is judged and fails, and the lowest byte of its sum that isn't zero. A check that isn't judged is
+// one that doesn't count, or whose sum is known to be zero.
+pub fn lowest_failing<F: Fn(usize) -> bool>(table: &Table, block: &[u8], judged: F) -> Option<Fault>
+    requires bytes { length block.now ≡ table.now.places * table.now.size }
+    requires asked { (j : ℕ) → j < table.now.checks → F.pre judged j }
+    ensures { (counts : List ℕ → Bool)
+        → ((j : ℕ) (r : Bool) → j < table.now.checks → F.post judged j r → Judges table.now.size (packets table.now.size table.now.places block.now) counts (get_or (checks table.now.words.now) j []) r)
+        → fault_found result ≡ failing counts table.now.size (packets table.now.size table.now.places block.now) 0 (checks table.now.words.now) }
 {
     let mut at = 5 + table.checks;
     for j in 0..table.checks {
         let w = usize::from(table.words[4 + j]);
-        let places = table::run(table.words, at, w);
-        if let Some(low) = sums::sum_of_check(places, block, table.places, table.size) {
-            return Some(Fault {
-                check: j as u32,
-                byte: low as u32,
-            });
+        if judged(j) {
+            let places = table::run(table.words, at, w);
+            if let Some(low) = sums::sum_of_check(places, block, table.places, table.size) {
+                return Some(Fault {
+                    check: j as u32,
+                    byte: low as u32,
+                });
+            }
         }
         at += w;
     }
@@ -39,5 +44,5 @@ pub fn verify(t: &[u16], block: &[u8]) -> Result<Option<Fault>, Refusal>
     if block.len() != table.places * table.size {
         return Err(Refusal::Buffer);
     }
-    Ok(look_at_checks(&table, block))
+    Ok(lowest_failing(&table, block, |_| true))
 }

@@ -1,9 +1,15 @@
 -- `restore::restore_lost` meets its contract.
 use Rattle.lists.specs.ListLaws.{get_d-zeros}
 use Rattle.chains.specs.LinkedLaws.{linked_of}
-use Rattle.restore.proofs.Passing.{spent-start}
+use Rattle.restore.proofs.Passing.{spent-start, judges}
 use Rattle.table.specs.Accepted.{few-places, few-checks, few_words}
 use native.Mathlib.Omega.{arith}
+use Prim.Native.Nat.{◌<◌}
+use mathlib.Core.Path.{◌≡◌}
+use mathlib.Core.Bool.{true, false}
+use lib.ListN.{get_or}
+use Rattle.std.proofs.Common.{rules}
+use Rattle.erasure.specs.Restoring.{none_lost}
 use Rattle.restore.proofs.restore_lost.Goals as goal
 
 pub count_all-requires : goal.count_all-requires
@@ -27,11 +33,16 @@ restore_all-adds-requires c =
       spent-start _ _ _ _ _ _ (few-checks a.located.now.table.words.now a.located.now.table.checks a.located.now.table.places a.located.now.table.size a.located.now.table.accepted),
     )
 
-pub judge-fault-requires : goal.judge-fault-requires
-judge-fault-requires c =
-    let p = c.requires in
-    let e = c.restore_all-adds.ensures in
-    (omega (arith, p.0), omega (arith, p.1), e.1, e.2)
+pub lowest_failing-fault-requires-clause-asked : goal.lowest_failing-fault-requires-clause-asked
+lowest_failing-fault-requires-clause-asked c = λ j h. let few : j < 512 = omega (arith, few-checks _ _ _ _ c.args.located.now.table.accepted) in search rules
 
 pub returns : goal.returns
-returns c = (c.restore_all-adds.ensures.0, c.judge-fault.ensures)
+returns c =
+    let e = c.restore_all-adds.ensures in
+    let k = c.args.located.now.table.accepted in
+    let new = c.restore_all-adds.new in (
+      e.0,
+      c.lowest_failing-fault.ensures (none_lost new.map) (λ j r h p.
+          let q : (r ≡ true → get_or new.count j 0 ≡ 0) × (r ≡ false → get_or new.count j 0 ≡ 0 → get_or new.used j 0 ≡ 1) = search rules in
+          judges _ _ _ _ k new.block new.map new.count new.used e.1 e.2 j h r q),
+    )

@@ -1,10 +1,13 @@
 -- `verify::verify` meets its contract.
 use Rattle.std.proofs.lemmas.Result.{err_from_is_err_and}
 use Rattle.refusals.proofs.Numbers.{number-some}
+use Rattle.faults.specs.Faults.{every_check}
 use Rattle.verify.specs.Verify.{refused_with, verdict}
 use Rattle.verify.specs.VerifyLaws.{nothing-handed, verification-is, verification-refused, verification-short}
 use Prim.Native.Nat.{◌*◌}
-use mathlib.Core.Path.{sym, ap, ap₂, ◌∙◌}
+use mathlib.Core.Bool.{true, true≢false}
+use Rattle.std.proofs.Common.{rules}
+use mathlib.Core.Path.{◌≡◌, refl, sym, ap, ap₂, ◌∙◌}
 use Rattle.verify.proofs.verify.Goals as goal
 
 pub returns-in_err-table : goal.returns-in_err-table
@@ -24,5 +27,6 @@ pub returns : goal.returns
 returns c =
     let w = ap (λ r. r.now) c.in_ok-table.ensures.words in
     let k = rw w at c.in_ok-table.table.accepted in
-    let e = rw (w, k.places-are, k.size_is) at c.look_at_checks.ensures in
+    let all = c.lowest_failing.ensures every_check (λ j r h p. let y : r ≡ true = search rules in record { judged = λ e. refl; spared = λ e. absurd (true≢false (sym y ∙ e)) }) in
+    let e = rw (w, k.places-are, k.size_is) at all in
     ap verdict e ∙ sym (verification-is c.args.t.now c.args.block.now k.accepted (c.if-block-table.false ∙ ap₂ ◌*◌ k.places-are k.size_is))
