@@ -18,7 +18,8 @@ use Rattle.repair.specs.Repair.{repair_refusal, repair_answer, repair_block_afte
 use Rattle.repair.proofs.RepairTheorems.{repairing}
 use Rattle.verify.specs.Verify.{values_of, verify_answer}
 use Rattle.verify.specs.VerifyTheorems.{codeword-passes}
-use Rattle.verify.specs.declared.Verified.TheVariants.{Codeword}
+use Rattle.std.specs.declared.option.Option.TheVariants.{None}
+use Rattle.std.specs.declared.result.Result.TheVariants.{Ok}
 use Rattle.theorems.specs.Demands.{handed, ToTheLastStep, TheOneBlock, planning-then-encoding, encoding-codeword}
 use Rattle.theorems.specs.Restoring.{Restores, restores}
 
@@ -33,13 +34,13 @@ pub record Arrives (u sent block map : List ℕ) : Type 0 where
 pub record Week (t u p : List ℕ) (s : ℕ) (information block_buffer scratch_buffer : List ℕ) (limit : ℕ) (sent block map : List ℕ) : Type 0 where
   -- encoding: accepted, and what was sent is the one block, which verification passes
   pub encoded : TheOneBlock t p s information block_buffer scratch_buffer limit
-  pub sent-passes : verify_answer u sent ≡ values_of Codeword
+  pub sent-passes : verify_answer u sent ≡ values_of (Ok None)
   -- repair: accepted; it restores every lost packet outside the largest stopping set L (there is one: `largest-exists`), each as it was
   -- sent, and none inside; received packets are untouched
   pub repair-accepted : repair_refusal u block map ≡ 0
   pub repaired : (L : ℕ → Bool) → Largest u map L → Restores u block map sent L
   -- where nothing stays lost, the block is the one that was sent, and verification passes it
-  pub whole : (repair_answer u block map).lost ≡ 0 → (repair_block_after u block map ≡ sent) × (verify_answer u (repair_block_after u block map) ≡ values_of Codeword)
+  pub whole : (repair_answer u block map).lost ≡ 0 → (repair_block_after u block map ≡ sent) × (verify_answer u (repair_block_after u block map) ≡ values_of (Ok None))
 
 no-byte-over : {map : List ℕ} → All (λ x. x ≤ 1) map → any_of (ltb 1) map ≡ false
 no-byte-over nil = refl
@@ -79,7 +80,7 @@ module _ (t plan_buffer work : List ℕ) (s : ℕ) (information block_buffer scr
       word : IsCodeword (at_size s t) sent
       word = encoding-codeword t plan_buffer work planned s information block_buffer scratch_buffer limit lent
 
-      passes : verify_answer (at_size s t) sent ≡ values_of Codeword
+      passes : verify_answer (at_size s t) sent ≡ values_of (Ok None)
       passes = codeword-passes (at_size s t) sent (table-ok planned lent) word
 
       fits : Fitting (at_size s t) block map

@@ -16,9 +16,8 @@ use Rattle.reasons.specs.Reasons.{Restores, EvenSet, LeastEven, kind_of, Listed}
 use Rattle.reasons.proofs.Restored.{list-restores, list-some, only-list}
 use Rattle.table.specs.Table.{places, checks, refusal}
 use Rattle.table.specs.TableLaws.{accepted}
-use Rattle.why.specs.Why.{Explains, why_answer_of, why_refusal, why_map_after, why_answer_at, why_answer, reason_after}
+use Rattle.why.specs.Why.{WhyAnswer, Explains, why_refusal, why_map_after, why_answer_at, why_answer, reason_after}
 use Rattle.why.proofs.WhyLaws.{Fits, accepted-fits, refused_full, refusal-told, answer-accepted, buffer-accepted, map-ran}
-use Rattle.why.specs.declared.Reason.{Reason}
 
 -- ---- the kinds
 kind-cases : (lost : List ℕ) (cs : List (List ℕ)) (p k : ℕ) → kind_of lost cs p ≡ k → {A : Type 0}
@@ -29,8 +28,8 @@ kind-cases lost cs p k e f g h = by_bool (is_lost lost p)
 
 module _ (t b map work : List ℕ) (p : ℕ) (reason : List ℕ) where
   -- the relation for a lost place leaves no choice: any two answers to one call are the same, and so are the reason buffers
-  pub why-one : (r s : Reason) (b₁ m₁ w₁ e₁ b₂ m₂ w₂ e₂ : List ℕ) → Explains t b map work p reason r b₁ m₁ w₁ e₁ → Explains t b map work p reason s b₂ m₂ w₂ e₂
-      → (why_answer_of r ≡ why_answer_of s) × (e₁ ≡ e₂)
+  pub why-one : (r s : WhyAnswer) (b₁ m₁ w₁ e₁ b₂ m₂ w₂ e₂ : List ℕ) → Explains t b map work p reason r b₁ m₁ w₁ e₁ → Explains t b map work p reason s b₂ m₂ w₂ e₂
+      → (r ≡ s) × (e₁ ≡ e₂)
   why-one r s b₁ m₁ w₁ e₁ b₂ m₂ w₂ e₂ x y = by_bool (eqb (why_refusal t b map work p reason) 0)
       (λ h. let ok = eqb-true (why_refusal t b map work p reason) 0 h in
       let same = listed-one (places t) (checks t) map p x.list y.list (x.listed ok) (y.listed ok) in
@@ -48,7 +47,7 @@ module _ (t b map work : List ℕ) (p : ℕ) (reason : List ℕ) where
       refused-same (suc k) ne = refl
 
   -- ---- an accepted call
-  module _ (r : Reason) (b' map' work' reason' : List ℕ) (x : Explains t b map work p reason r b' map' work' reason') (ok : r.refusal ≡ 0) where
+  module _ (r : WhyAnswer) (b' map' work' reason' : List ℕ) (x : Explains t b map work p reason r b' map' work' reason') (ok : r.refusal ≡ 0) where
     none : why_refusal t b map work p reason ≡ 0
     none = sym (refusal-told t b map work p reason x.list) ∙ sym (ap (λ a. a.refusal) x.report) ∙ ok
 
@@ -61,7 +60,7 @@ module _ (t b map work : List ℕ) (p : ℕ) (reason : List ℕ) where
     listed : Listed (places t) (checks t) map p x.list
     listed = x.listed none
 
-    told : why_answer_of r ≡ why_answer_at 0 (kind_of map (checks t) p) x.list (why_map_after t b map work p reason)
+    told : r ≡ why_answer_at 0 (kind_of map (checks t) p) x.list (why_map_after t b map work p reason)
     told = x.report ∙ answer-accepted t b map work p reason none x.list
 
     kind-is : r.kind ≡ kind_of map (checks t) p
