@@ -56,6 +56,7 @@ fn push(col: &mut [u32], t: &[u16], at: usize, weight: usize, own: usize)
 }
 
 // all of them, in the order of taking
+// (order, owns and their count are passed one by one: the definitions take each, so a struct is no plainer in the clauses)
 pub fn push_all(col: &mut [u32], located: &Located, order: &[u16], owns: &[u16], taken: usize)
     requires taken { Taken located.now.table.words.now located.now.table.checks located.now.starts.now order.now owns.now taken }
     requires room { places located.now.table.words.now ≤ length col.old }

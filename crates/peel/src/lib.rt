@@ -64,6 +64,7 @@ pub struct Counts {
 }
 
 // all events
+// (order, owns and their count are passed one by one: the definitions take each, so a struct is no plainer in the clauses)
 pub fn peel_checks(
     located: &Located,
     live: &mut [u8],

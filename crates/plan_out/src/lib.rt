@@ -29,7 +29,6 @@ pub fn write_out(
     ensures answer { planning_answer_of (Ok result) ≡ planning_answer_at 0 located.now.table.words.now }
     ensures plan { plan.new ≡ with_numbers located.now.table.words.now plan.old }
 {
-    let t = located.table.words;
     let g = c.aside;
     let mut fitted = [0u16; MASK_WIDTH];
     let mut rows = [0u32; MASK_WIDTH];
@@ -44,17 +43,7 @@ pub fn write_out(
         &mut rows,
     );
     let w = compose::write_plan(
-        t,
-        located.starts,
-        order,
-        owns,
-        c.taken,
-        aside,
-        g,
-        &fitted,
-        &rows,
-        c.kept,
-        plan,
+        located, order, owns, c.taken, aside, g, &fitted, &rows, c.kept, plan,
     );
     Planned {
         length: w.length as u32,
