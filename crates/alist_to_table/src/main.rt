@@ -45,11 +45,10 @@ fn refuse<P: Print>(err: &P, refusal: Refusal) -> std::io::Result<()>
 // Makes the table of a text, and writes it.
 fn make_file<R: Runtime, P: Print>(rt: &R, err: &P, text: &[u8], s: usize) -> std::io::Result<()> {
     let mut table = [0u16; table::MOST_WORDS];
-    let length = match alist_read::read_alist(text, s, &mut table) {
-        Ok(length) => length as usize,
-        Err(refusal) => return refuse(err, refusal),
-    };
-    made_table::write_table(rt, err, 3, &table[..length])
+    match alist_read::read_alist(text, s, &mut table) {
+        Ok(length) => made_table::write_table(rt, err, 3, &table[..length as usize]),
+        Err(refusal) => refuse(err, refusal),
+    }
 }
 
 // Reads the text to a buffer, likewise.

@@ -20,7 +20,12 @@ fn print_counts<P: Print>(out: &P, merged: Merged) -> std::io::Result<()> {
     text::print_count(out, b" silent ", u64::from(merged.silent), b"")?;
     text::print_count(out, b" clash ", u64::from(merged.clash), b"\n")?;
     text::print_restored(out, merged.repaired.restored, merged.repaired.lost, b"")?;
-    text::print_count(out, b" additions ", u64::from(merged.repaired.additions), b"\n")
+    text::print_count(
+        out,
+        b" additions ",
+        u64::from(merged.repaired.additions),
+        b"\n",
+    )
 }
 
 // Says on standard error why nothing is merged.

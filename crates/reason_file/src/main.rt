@@ -3,8 +3,7 @@
 #![tactic(auto)]
 
 ghost use Rattle.std.specs.Prelude.{◌≡◌};
-ghost use Rattle.why.specs.Why.{length_of};
-
+ghost use Rattle.explain.specs.Telling.{length_of};
 
 use explain::Told;
 use refusals::Refusal;
@@ -75,7 +74,7 @@ fn print_reason<P: Print>(out: &P, place: usize, told: Told, list: &[u16]) -> st
 }
 
 // How many numbers are listed.
-fn listed(told: Told) -> usize
+fn list_length(told: Told) -> usize
     ensures { result ≡ length_of told }
 {
     match told {
@@ -99,7 +98,7 @@ fn explain_place<P: Print, Q: Print>(
         Ok(answer) => answer,
         Err(refusal) => return refuse(err, refusal),
     };
-    let length = listed(answer.told);
+    let length = list_length(answer.told);
     print_reason(out, place, answer.told, &reason[..length])?;
     text::print_restored(out, answer.restored, answer.lost, b"\n")
 }
