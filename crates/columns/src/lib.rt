@@ -12,7 +12,7 @@ ghost use Rattle.columns.specs.Cols.{Columns, Taken};
 ghost use Rattle.columns.specs.Fitting.{Aside, Ready};
 ghost use Rattle.gf2.specs.Gf2.{row_of};
 
-use table::MOST_PLACES;
+use table::{Located, MOST_PLACES};
 
 // c added into the columns of a check's places
 fn spread(col: &mut [u32], t: &[u16], at: usize, weight: usize, c: u32)
@@ -21,23 +21,24 @@ fn spread(col: &mut [u32], t: &[u16], at: usize, weight: usize, c: u32)
 {
     for i in 0..weight {
         let p = usize::from(t[at + i]);
-        col[p] = col[p] ^ c;
+        col[p] ^= c;
     }
 }
 
 // bit i of a place's column: whether the i-th set-aside check holds the place
-pub fn fill_columns(col: &mut [u32], t: &[u16], m: usize, starts: &[u16], aside: &[u16], g: usize)
-    requires aside { Aside t.now m starts.now aside.now g }
-    requires room { places t.now ≤ length col.old }
+pub fn fill_columns(col: &mut [u32], located: &Located, aside: &[u16], g: usize)
+    requires aside { Aside located.now.table.words.now located.now.table.checks located.now.starts.now aside.now g }
+    requires room { places located.now.table.words.now ≤ length col.old }
     requires empty { Columns [] col.old }
-    ensures { Columns (map row_of (map (check t.now m) (take g aside.now))) col.new }
+    ensures { Columns (map row_of (map (check located.now.table.words.now located.now.table.checks) (take g aside.now))) col.new }
 {
+    let t = located.table.words;
     for i in 0..g {
         let j = usize::from(aside[i]);
         spread(
             col,
             t,
-            usize::from(starts[j]),
+            usize::from(located.starts[j]),
             usize::from(t[4 + j]),
             1 << i,
         );
@@ -55,26 +56,20 @@ fn push(col: &mut [u32], t: &[u16], at: usize, weight: usize, own: usize)
 }
 
 // all of them, in the order of taking
-pub fn push_all(
-    col: &mut [u32],
-    t: &[u16],
-    m: usize,
-    starts: &[u16],
-    order: &[u16],
-    owns: &[u16],
-    taken: usize,
-)
-    requires taken { Taken t.now m starts.now order.now owns.now taken }
-    requires room { places t.now ≤ length col.old }
+// (order, owns and their count are passed one by one: the definitions take each, so a struct is no plainer in the clauses)
+pub fn push_all(col: &mut [u32], located: &Located, order: &[u16], owns: &[u16], taken: usize)
+    requires taken { Taken located.now.table.words.now located.now.table.checks located.now.starts.now order.now owns.now taken }
+    requires room { places located.now.table.words.now ≤ length col.old }
     ensures { (E : List ℕ) → Columns E col.old
-        → Columns (map (put_in_all (solved (check t.now m) order.now owns.now taken)) E) col.new }
+        → Columns (map (put_in_all (solved (check located.now.table.words.now located.now.table.checks) order.now owns.now taken)) E) col.new }
 {
+    let t = located.table.words;
     for k in 0..taken {
         let j = usize::from(order[k]);
         push(
             col,
             t,
-            usize::from(starts[j]),
+            usize::from(located.starts[j]),
             usize::from(t[4 + j]),
             usize::from(owns[k]),
         );
@@ -83,10 +78,7 @@ pub fn push_all(
 
 // the fitted places ascending, and with each its row of the inverse
 pub fn fit_places(
-    t: &[u16],
-    m: usize,
-    n: usize,
-    starts: &[u16],
+    located: &Located,
     order: &[u16],
     owns: &[u16],
     taken: usize,
@@ -95,15 +87,15 @@ pub fn fit_places(
     fitted: &mut [u16],
     rows: &mut [u32],
 )
-    requires ready { Ready t.now m n starts.now order.now owns.now taken aside.now g }
+    requires ready { Ready located.now.table.words.now located.now.table.checks located.now.table.places located.now.starts.now order.now owns.now taken aside.now g }
     requires fitted { g ≤ length fitted.old }
     requires rows { g ≤ length rows.old }
-    ensures { Fitted n (solved (check t.now m) order.now owns.now taken)
-        (map (check t.now m) (take g aside.now)) g fitted.new rows.new }
+    ensures { Fitted located.now.table.places (solved (check located.now.table.words.now located.now.table.checks) order.now owns.now taken)
+        (map (check located.now.table.words.now located.now.table.checks) (take g aside.now)) g fitted.new rows.new }
 {
     let mut col = [0u32; MOST_PLACES];
-    fill_columns(&mut col, t, m, starts, aside, g);
-    push_all(&mut col, t, m, starts, order, owns, taken);
+    fill_columns(&mut col, located, aside, g);
+    push_all(&mut col, located, order, owns, taken);
     masks::units(rows, g);
-    masks::fit(&col, n, g, rows, fitted);
+    masks::fit(&col, located.table.places, g, rows, fitted);
 }

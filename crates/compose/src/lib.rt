@@ -9,16 +9,16 @@ ghost use Rattle.lists.specs.Lists.{Wrote};
 ghost use Rattle.emit.specs.Emit.{WroteSteps, Room, marked, Below};
 ghost use Rattle.compose.specs.Compose.{gap_steps_in, plan_steps_in, clear_count, free_places, info_places, Phases, Composed};
 
-use table::MOST_PLACES;
+use table::{Located, MOST_PLACES};
 
+// (order, owns and taken are passed one by one: the definitions take each, so a struct of them is no plainer in the clauses)
 // ---- the steps, from plan[at] on; the place behind them is returned
 
 // the steps where checks were set aside
 fn gap_steps(
     plan: &mut [u32],
     at: usize,
-    t: &[u16],
-    starts: &[u16],
+    located: &Located,
     order: &[u16],
     owns: &[u16],
     taken: usize,
@@ -27,26 +27,25 @@ fn gap_steps(
     fitted: &[u16],
     rows: &[u32],
 ) -> usize
-    requires room { Room plan.old at (gap_steps_in t.now order.now owns.now taken aside.now g) }
-    requires phases { Phases t.now starts.now order.now owns.now taken aside.now g fitted.now rows.now }
+    requires room { Room plan.old at (gap_steps_in located.now.table.words.now order.now owns.now taken aside.now g) }
+    requires phases { Phases located.now.table.words.now located.now.starts.now order.now owns.now taken aside.now g fitted.now rows.now }
     ensures { WroteSteps plan.old at
-        (gap_steps_in t.now order.now owns.now taken aside.now g)
+        (gap_steps_in located.now.table.words.now order.now owns.now taken aside.now g)
         plan.new result }
 {
     let mut skip = [0u8; MOST_PLACES];
     emit::mark(&mut skip, fitted, g);
-    let a = emit::solve_all(plan, at, t, starts, order, owns, taken, &skip);
-    let b = emit::set_aside(plan, a, t, starts, aside, g, &skip);
-    let e = emit::fit_all(plan, b, usize::from(t[1]), g, fitted, rows);
-    emit::solve_whole(plan, e, t, starts, order, owns, taken)
+    let a = emit::solve_all(plan, at, located, order, owns, taken, &skip);
+    let b = emit::set_aside(plan, a, located, aside, g, &skip);
+    let e = emit::fit_all(plan, b, located.table.places, g, fitted, rows);
+    emit::solve_whole(plan, e, located, order, owns, taken)
 }
 
 // all steps
 fn write_steps(
     plan: &mut [u32],
     at: usize,
-    t: &[u16],
-    starts: &[u16],
+    located: &Located,
     order: &[u16],
     owns: &[u16],
     taken: usize,
@@ -55,17 +54,17 @@ fn write_steps(
     fitted: &[u16],
     rows: &[u32],
 ) -> usize
-    requires room { Room plan.old at (plan_steps_in t.now order.now owns.now taken aside.now g) }
-    requires phases { Phases t.now starts.now order.now owns.now taken aside.now g fitted.now rows.now }
+    requires room { Room plan.old at (plan_steps_in located.now.table.words.now order.now owns.now taken aside.now g) }
+    requires phases { Phases located.now.table.words.now located.now.starts.now order.now owns.now taken aside.now g fitted.now rows.now }
     ensures { WroteSteps plan.old at
-        (plan_steps_in t.now order.now owns.now taken aside.now g)
+        (plan_steps_in located.now.table.words.now order.now owns.now taken aside.now g)
         plan.new result }
 {
     if g == 0 {
-        return emit::solve_whole(plan, at, t, starts, order, owns, taken);
+        return emit::solve_whole(plan, at, located, order, owns, taken);
     }
     gap_steps(
-        plan, at, t, starts, order, owns, taken, aside, g, fitted, rows,
+        plan, at, located, order, owns, taken, aside, g, fitted, rows,
     )
 }
 
@@ -73,8 +72,7 @@ fn write_steps(
 fn step_section(
     plan: &mut [u32],
     at: usize,
-    t: &[u16],
-    starts: &[u16],
+    located: &Located,
     order: &[u16],
     owns: &[u16],
     taken: usize,
@@ -83,18 +81,17 @@ fn step_section(
     fitted: &[u16],
     rows: &[u32],
 ) -> usize
-    requires room { Room plan.old (at + 1) (plan_steps_in t.now order.now owns.now taken aside.now g) }
-    requires phases { Phases t.now starts.now order.now owns.now taken aside.now g fitted.now rows.now }
-    requires few { length (plan_steps_in t.now order.now owns.now taken aside.now g) ≤ most_steps }
+    requires room { Room plan.old (at + 1) (plan_steps_in located.now.table.words.now order.now owns.now taken aside.now g) }
+    requires phases { Phases located.now.table.words.now located.now.starts.now order.now owns.now taken aside.now g fitted.now rows.now }
+    requires few { length (plan_steps_in located.now.table.words.now order.now owns.now taken aside.now g) ≤ most_steps }
     ensures { Wrote plan.old at
-        (step_numbers (plan_steps_in t.now order.now owns.now taken aside.now g))
+        (step_numbers (plan_steps_in located.now.table.words.now order.now owns.now taken aside.now g))
         plan.new result }
 {
     let e = write_steps(
         plan,
         at + 1,
-        t,
-        starts,
+        located,
         order,
         owns,
         taken,
@@ -160,10 +157,7 @@ fn clears(taken: usize, g: usize) -> usize
     requires few { g ≤ most_aside }
     ensures { result ≡ clear_count taken g }
 {
-    if g == 0 {
-        return taken;
-    }
-    2 * taken + 2 * g
+    if g == 0 { taken } else { 2 * taken + 2 * g }
 }
 
 #[derive(Drop)]
@@ -174,8 +168,7 @@ pub struct Written {
 
 // the whole plan
 pub fn write_plan(
-    t: &[u16],
-    starts: &[u16],
+    located: &Located,
     order: &[u16],
     owns: &[u16],
     taken: usize,
@@ -186,17 +179,15 @@ pub fn write_plan(
     kept: usize,
     plan: &mut [u32],
 ) -> Written
-    requires phases { Phases t.now starts.now order.now owns.now taken aside.now g fitted.now rows.now }
-    requires kept { kept ≡ (plan_of t.now).M }
+    requires phases { Phases located.now.table.words.now located.now.starts.now order.now owns.now taken aside.now g fitted.now rows.now }
+    requires kept { kept ≡ (plan_of located.now.table.words.now).M }
     requires room { least_plan ≤ length plan.old }
-    ensures { Composed t.now plan.old plan.new result.length result.additions }
+    ensures { Composed located.now.table.words.now plan.old plan.new result.length result.additions }
 {
-    let n = usize::from(t[1]);
+    let n = located.table.places;
     plan::write_head(plan, n, g, kept);
     let k = info_section(plan, plan::INFO_COUNT_AT, n, owns, taken, fitted, g);
-    let e = step_section(
-        plan, k, t, starts, order, owns, taken, aside, g, fitted, rows,
-    );
+    let e = step_section(plan, k, located, order, owns, taken, aside, g, fitted, rows);
     Written {
         length: e,
         additions: e - k - 1 - clears(taken, g),

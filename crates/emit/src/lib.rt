@@ -2,7 +2,6 @@
 #![tactic(auto)]
 
 ghost use Rattle.std.specs.Prelude.{◌≡◌, ◌≤◌, ◌<◌, length, take, drop};
-ghost use Rattle.table.specs.Accepted.{Located};
 ghost use Rattle.table.specs.Checks.{Places};
 ghost use Rattle.table.specs.Table.{most_places, number, places};
 ghost use Rattle.rule.specs.Buffers.{mask_width};
@@ -10,7 +9,7 @@ ghost use Rattle.emit.specs.Emit.{Room, WroteSteps, marking, Readable, Numbers, 
 ghost use Rattle.emit.specs.Emit.{sum_steps, check_steps, solve_steps, whole_steps, aside_steps, fit_steps, fitting_rows};
 
 use plan::Step;
-use table::MOST_PLACES;
+use table::{Located, MOST_PLACES};
 
 // ---- marks, a byte a place
 
@@ -25,6 +24,7 @@ pub fn mark(marks: &mut [u8], places: &[u16], count: usize)
     }
 }
 
+// (order, owns and taken are passed one by one: the definitions take each, so a struct of them is no plainer in the clauses)
 // ---- the steps, from plan[at] on; the place behind them is returned
 
 // slot to is cleared, and given a check's places, without itself and without the marked ones
@@ -63,25 +63,25 @@ fn sum_check(
 fn check_into(
     plan: &mut [u32],
     at: usize,
-    t: &[u16],
-    starts: &[u16],
+    located: &Located,
     j: usize,
     to: usize,
     skip: &[u8],
 ) -> usize
-    requires room { Room plan.old at (check_steps t.now j to skip.now) }
-    requires table { Readable t.now starts.now skip.now }
-    requires check { j < number t.now }
+    requires room { Room plan.old at (check_steps located.now.table.words.now j to skip.now) }
+    requires table { Readable located.now.table.words.now located.now.starts.now skip.now }
+    requires check { j < number located.now.table.words.now }
     requires slot { to < 4096 }
     ensures { WroteSteps plan.old at
-        (check_steps t.now j to skip.now)
+        (check_steps located.now.table.words.now j to skip.now)
         plan.new result }
 {
+    let t = located.table.words;
     sum_check(
         plan,
         at,
         t,
-        usize::from(starts[j]),
+        usize::from(located.starts[j]),
         usize::from(t[4 + j]),
         to,
         skip,
@@ -92,30 +92,26 @@ fn check_into(
 pub fn solve_all(
     plan: &mut [u32],
     at: usize,
-    t: &[u16],
-    starts: &[u16],
+    located: &Located,
     order: &[u16],
     owns: &[u16],
     taken: usize,
     skip: &[u8],
 ) -> usize
-    requires room { Room plan.old at (solve_steps t.now order.now owns.now taken skip.now) }
-    requires table { Readable t.now starts.now skip.now }
-    requires checks { Numbers t.now order.now taken }
-    requires own { Below (places t.now) owns.now taken }
+    requires room { Room plan.old at (solve_steps located.now.table.words.now order.now owns.now taken skip.now) }
+    requires table { Readable located.now.table.words.now located.now.starts.now skip.now }
+    requires checks { Numbers located.now.table.words.now order.now taken }
+    requires own { Below (places located.now.table.words.now) owns.now taken }
     ensures { WroteSteps plan.old at
-        (solve_steps t.now order.now owns.now taken skip.now)
+        (solve_steps located.now.table.words.now order.now owns.now taken skip.now)
         plan.new result }
 {
     let mut k = at;
-    let mut i = taken;
-    while 0 < i {
-        i -= 1;
+    for i in (0..taken).rev() {
         k = check_into(
             plan,
             k,
-            t,
-            starts,
+            located,
             usize::from(order[i]),
             usize::from(owns[i]),
             skip,
@@ -128,46 +124,43 @@ pub fn solve_all(
 pub fn solve_whole(
     plan: &mut [u32],
     at: usize,
-    t: &[u16],
-    starts: &[u16],
+    located: &Located,
     order: &[u16],
     owns: &[u16],
     taken: usize,
 ) -> usize
-    requires room { Room plan.old at (whole_steps t.now order.now owns.now taken) }
-    requires table { Located t.now (number t.now) (places t.now) starts.now }
-    requires checks { Numbers t.now order.now taken }
-    requires own { Below (places t.now) owns.now taken }
+    requires room { Room plan.old at (whole_steps located.now.table.words.now order.now owns.now taken) }
+    requires checks { Numbers located.now.table.words.now order.now taken }
+    requires own { Below (places located.now.table.words.now) owns.now taken }
     ensures { WroteSteps plan.old at
-        (whole_steps t.now order.now owns.now taken)
+        (whole_steps located.now.table.words.now order.now owns.now taken)
         plan.new result }
 {
     let none = [0u8; MOST_PLACES];
-    solve_all(plan, at, t, starts, order, owns, taken, &none)
+    solve_all(plan, at, located, order, owns, taken, &none)
 }
 
 // the checks set aside, into the scratch slots, without the marked places
 pub fn set_aside(
     plan: &mut [u32],
     at: usize,
-    t: &[u16],
-    starts: &[u16],
+    located: &Located,
     aside: &[u16],
     g: usize,
     skip: &[u8],
 ) -> usize
-    requires room { Room plan.old at (aside_steps t.now aside.now g skip.now) }
-    requires table { Readable t.now starts.now skip.now }
-    requires checks { Numbers t.now aside.now g }
+    requires room { Room plan.old at (aside_steps located.now.table.words.now aside.now g skip.now) }
+    requires table { Readable located.now.table.words.now located.now.starts.now skip.now }
+    requires checks { Numbers located.now.table.words.now aside.now g }
     requires few { g ≤ mask_width }
     ensures { WroteSteps plan.old at
-        (aside_steps t.now aside.now g skip.now)
+        (aside_steps located.now.table.words.now aside.now g skip.now)
         plan.new result }
 {
-    let n = usize::from(t[1]);
+    let n = located.table.places;
     let mut k = at;
     for i in 0..g {
-        k = check_into(plan, k, t, starts, usize::from(aside[i]), n + i, skip);
+        k = check_into(plan, k, located, usize::from(aside[i]), n + i, skip);
     }
     k
 }

@@ -1,7 +1,7 @@
 // The scan of masks over columns: fitted places and inverse at once.
 #![tactic(auto)]
 
-ghost use Rattle.std.specs.Prelude.{◌≡◌, List, ℕ, ◌+◌, ◌≤◌, ◌<◌, length, get_or};
+ghost use Rattle.std.specs.Prelude.{◌≡◌, List, ℕ, ◌+◌, ◌≤◌, ◌<◌, length, get_or, unwrap_or, IfSome};
 ghost use Rattle.masks.specs.Dot.{dot};
 ghost use Rattle.masks.specs.Scan.{Units, Lowest, mended, Mended, Tied, Scan};
 
@@ -23,19 +23,18 @@ pub fn units(masks: &mut [u32], g: usize)
     }
 }
 
-// the lowest free mask that sees the column, or the number of free masks
-fn find(masks: &[u32], free: usize, c: u32) -> usize
+// the lowest free mask that sees the column
+fn find(masks: &[u32], free: usize, c: u32) -> Option<usize>
     requires { free ≤ length masks.now }
-    ensures { Lowest masks.now free c result }
+    ensures lowest { Lowest masks.now free c (unwrap_or result free) }
+    ensures free { IfSome result (λ i. i < free) }
 {
-    let mut i = 0;
-    while i < free {
+    for i in 0..free {
         if sees(masks[i], c) {
-            break;
+            return Some(i);
         }
-        i += 1;
     }
-    i
+    None
 }
 
 // v added into a mask that sees the column
@@ -78,22 +77,12 @@ fn fit_one(masks: &mut [u32], fitted: &mut [u16], g: usize, free: usize, p: usiz
     ensures scan { (f : ℕ → ℕ) → (W : List ℕ) → f p ≡ c → Scan f W g (p + 1) free masks.old fitted.old
         → Scan f W g p result masks.new fitted.new }
 {
-    let i = find(masks, free, c);
-    if i < free {
-        tie(masks, g, i, free - 1, c);
-        fitted[free - 1] = p as u16;
-        free - 1
-    } else {
-        free
-    }
-}
-
-// the k-th of n places, from the highest down
-fn from_top(n: usize, k: usize) -> usize
-    requires { k < n }
-    ensures { result + k + 1 ≡ n }
-{
-    n - 1 - k
+    let Some(i) = find(masks, free, c) else {
+        return free;
+    };
+    tie(masks, g, i, free - 1, c);
+    fitted[free - 1] = p as u16;
+    free - 1
 }
 
 // every column, from the highest place down; each mask is then its place's row of the inverse, places ascending
@@ -106,8 +95,7 @@ pub fn fit(col: &[u32], n: usize, g: usize, masks: &mut [u32], fitted: &mut [u16
         → Scan f W g n g masks.old fitted.old → Scan f W g 0 result masks.new fitted.new }
 {
     let mut free = g;
-    for k in 0..n {
-        let p = from_top(n, k);
+    for p in (0..n).rev() {
         free = fit_one(masks, fitted, g, free, p, col[p]);
     }
     free

@@ -3,6 +3,10 @@ use Rattle.std.specs.Prelude.{◌≡◌, refl, List, ◌++◌, ℕ, zero, suc, �
 use Rattle.std.proofs.Common.{sym, ◌∙◌, arith, length-append, take_at}
 use Rattle.std.proofs.Math.Path.{ap}
 use Rattle.std.proofs.lemmas.List.{length-replicate}
+use Rattle.std.specs.declared.result.Result.{Result}
+use Rattle.std.specs.declared.result.Result.TheVariants.{Ok, Err}
+use Rattle.refusals.specs.declared.Refusal.{Refusal}
+use Rattle.refusals.specs.Refusals.{refusal_of}
 use Rattle.table.specs.Table.{refusal}
 use Rattle.plan.specs.Step.{add_steps}
 use Rattle.plan.specs.Layout.{plan_refusal, most_aside}
@@ -31,15 +35,21 @@ answer-refusal : (p : ℕ) (t : List ℕ) → (planning_answer_at p t).refusal �
 answer-refusal zero t = refl
 answer-refusal (suc p) t = refl
 
-module _ (t buf : List ℕ) (r : Planned) (a : planning_answer_of r ≡ planning_answer t buf lent_work) where
-  pub own-refusal : r.refusal ≡ planning_refusal_at t (length buf) work_words
-  unfolding lent_work
-  own-refusal = ap (λ x. x.refusal) a ∙ answer-refusal (planning_refusal t buf lent_work) t ∙ ap (planning_refusal_at t (length buf)) (length-replicate {A = ℕ} work_words 0)
+-- the number of what is answered
+refusal_is : (r : Result Planned Refusal) → refusal_of r ≡ (planning_answer_of r).refusal
+refusal_is (Ok p) = refl
+refusal_is (Err c) = refl
 
+module _ (t buf : List ℕ) (r : Result Planned Refusal) (a : planning_answer_of r ≡ planning_answer t buf lent_work) where
+  pub own-refusal : refusal_of r ≡ planning_refusal_at t (length buf) work_words
+  unfolding lent_work
+  own-refusal = refusal_is r ∙ ap (λ x. x.refusal) a ∙ answer-refusal (planning_refusal t buf lent_work) t ∙ ap (planning_refusal_at t (length buf)) (length-replicate {A = ℕ} work_words 0)
+
+module _ (t buf : List ℕ) (r : Planned) (a : planning_answer_of (Ok r) ≡ planning_answer t buf lent_work) where
   -- where the table is accepted
-  pub own-plan : (buf' : List ℕ) → buf' ≡ planning_plan_after t buf lent_work → r.refusal ≡ 0 → Own t r buf'
-  own-plan buf' b z =
-      let e : planning_refusal t buf lent_work ≡ 0 = sym (answer-refusal (planning_refusal t buf lent_work) t) ∙ sym (ap (λ x. x.refusal) a) ∙ z in
+  pub own-plan : (buf' : List ℕ) → buf' ≡ planning_plan_after t buf lent_work → Own t r buf'
+  own-plan buf' b =
+      let e : planning_refusal t buf lent_work ≡ 0 = sym (answer-refusal (planning_refusal t buf lent_work) t) ∙ sym (ap (λ x. x.refusal) a) in
       let ok = accepted-planning t (length buf) (length lent_work) e in
       let l : length (numbers_of t) ≡ r.length = sym (rw e at (ap (λ x. x.length) a)) in
       let w : buf' ≡ numbers_of t ++ drop (length (numbers_of t)) buf = rw (e, planning_plan_after) at b in

@@ -6,9 +6,10 @@ ghost use Rattle.planning.specs.Planning.{planning_answer_of, planning_answer, p
 ghost use Rattle.own_plan.specs.Own.{lent_work};
 
 use planning::Planned;
+use refusals::Refusal;
 
 // Plans a table: the planner's call with work of its own.
-pub fn plan_of(table: &[u16], plan: &mut [u32]) -> Planned
+pub fn plan_of(table: &[u16], plan: &mut [u32]) -> Result<Planned, Refusal>
     ensures answer { planning_answer_of result ≡ planning_answer table.now plan.old lent_work }
     ensures plan { plan.new ≡ planning_plan_after table.now plan.old lent_work }
 {

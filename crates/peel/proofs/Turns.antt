@@ -22,7 +22,7 @@ use Rattle.rule.specs.Choices.{FirstMost, most-passes, most-first, most-rest}
 use Rattle.rule.specs.Rule.{first, without, freed, worth_most}
 use Rattle.live.specs.Live.{Tally, Forgot, found}
 use Rattle.freed.specs.Most.{lives, most_from, twos}
-use Rattle.live.specs.declared.Found.TheVariants.{At, Nothing}
+use Rattle.std.specs.declared.option.Option.TheVariants.{Some, None}
 use Rattle.peel.specs.declared.Event.TheVariants.{Took, Aside}
 use Rattle.live.specs.TallyLaws.{Out, Out.here as ohere, Out.there as othere, tally-less, single-is}
 use Rattle.peel.specs.Turn.{less, In, In.here, In.there, Pick, Picked, Picked.by_place, Picked.by-choice, Ready, Removed}
@@ -129,19 +129,19 @@ all-lives live i (suc c) h = by_bool (eqb (get_or live i 0) 1)
     (λ e. rw e (cons (h i (omega arith) (omega arith)) (all-lives live (suc i) c (λ j a b. h j (omega arith) (omega arith)))))
     (λ e. rw e (all-lives live (suc i) c (λ j a b. h j (omega arith) (omega arith))))
 
-pub found_at : (o : Option ℕ) (p : ℕ) → found o ≡ At p → o ≡ some p
+pub found_at : (o : Option ℕ) (p : ℕ) → found o ≡ Some p → o ≡ some p
 unfolding found
 found_at (some q) p e = ap some (one e) where
-  one : At q ≡ At p → q ≡ p
+  one : Some q ≡ Some p → q ≡ p
   one z = cc
 found_at none p e = no e where
-  no : Nothing ≡ At p → none ≡ some p
+  no : None ≡ Some p → none ≡ some p
   no z = let y : ◌≡◌ {A = ℕ} 0 1 = cc in absurd (omega arith)
 
-pub found_none : (o : Option ℕ) → found o ≡ Nothing → o ≡ none
+pub found_none : (o : Option ℕ) → found o ≡ None → o ≡ none
 unfolding found
 found_none (some q) e = no e where
-  no : At q ≡ Nothing → some q ≡ none
+  no : Some q ≡ None → some q ≡ none
   no z = let y : ◌≡◌ {A = ℕ} 0 1 = cc in absurd (omega arith)
 found_none none e = refl
 

@@ -2,9 +2,8 @@
 #![tactic(auto)]
 
 ghost use Rattle.std.specs.Prelude.{◌≡◌, map, ℕ, ◌+◌, ◌≤◌, ◌<◌, length, get_or, replicate};
-ghost use Rattle.table.specs.Accepted.{Accepted, Located};
 ghost use Rattle.table.specs.Checks.{check};
-ghost use Rattle.table.specs.Table.{total, places, size};
+ghost use Rattle.table.specs.Table.{total};
 ghost use Rattle.keep.specs.Kept.{kept_of};
 ghost use Rattle.live.specs.Live.{Calm};
 ghost use Rattle.freed.specs.Most.{lives};
@@ -12,8 +11,7 @@ ghost use Rattle.peel.specs.Choice.{ChoiceOf, weight};
 ghost use Rattle.peel.specs.Turn.{In, Ready, Picked, Removed, Room, Peeled};
 ghost use Rattle.peel.specs.Turn.{Numbers, Fresh, Entered, First};
 
-use live::Found;
-use table::{MOST_CHECKS, MOST_PLACES};
+use table::{Located, MOST_CHECKS, MOST_PLACES, Table};
 
 #[derive(Drop)]
 pub enum Event {
@@ -22,25 +20,15 @@ pub enum Event {
 }
 
 // the next event; the scan starts from top
-fn pick(
-    t: &[u16],
-    m: usize,
-    n: usize,
-    starts: &[u16],
-    live: &[u8],
-    count: &[u16],
-    names: &[u16],
-    top: usize,
-) -> Event
-    requires located { Located t.now m n starts.now }
-    requires ready { Ready t.now m n live.now count.now names.now }
-    requires live { 0 < length (lives live.now 0 m) }
+fn pick(located: &Located, live: &[u8], count: &[u16], names: &[u16], top: usize) -> Event
+    requires ready { Ready located.now.table.words.now located.now.table.checks located.now.table.places live.now count.now names.now }
+    requires live { 0 < length (lives live.now 0 located.now.table.checks) }
     requires calm { Calm count.now top }
-    ensures { Picked (check t.now m) (lives live.now 0 m) n result }
+    ensures { Picked (check located.now.table.words.now located.now.table.checks) (lives live.now 0 located.now.table.checks) located.now.table.places result }
 {
     match live::single(count, top) {
-        Found::At(p) => Event::Took(p, usize::from(names[p])),
-        Found::Nothing => Event::Aside(freed::most_freed_of(t, m, starts, live, count)),
+        Some(p) => Event::Took(p, usize::from(names[p])),
+        None => Event::Aside(freed::most_freed_of(located, live, count)),
     }
 }
 
@@ -49,21 +37,20 @@ fn remove(
     live: &mut [u8],
     count: &mut [u16],
     names: &mut [u16],
-    t: &[u16],
-    m: usize,
-    starts: &[u16],
+    located: &Located,
     j: usize,
     top: usize,
 ) -> usize
-    requires located { Located t.now m (length count.old) starts.now }
-    requires ready { Ready t.now m (length count.old) live.old count.old names.old }
-    requires live { In j (lives live.old 0 m) }
+    requires counts { length count.old ≡ located.now.table.places }
+    requires ready { Ready located.now.table.words.now located.now.table.checks (length count.old) live.old count.old names.old }
+    requires live { In j (lives live.old 0 located.now.table.checks) }
     requires calm { Calm count.old top }
-    ensures removed { Removed t.now m (length count.old) j live.old
+    ensures removed { Removed located.now.table.words.now located.now.table.checks (length count.old) j live.old
         live.new count.new names.new }
     ensures calm { Calm count.new result }
 {
-    let at = usize::from(starts[j]);
+    let t = located.table.words;
+    let at = usize::from(located.starts[j]);
     let weight = usize::from(t[4 + j]);
     live[j] = 0;
     live::forget(count, names, t, at, weight, j as u16);
@@ -77,11 +64,9 @@ pub struct Counts {
 }
 
 // all events
+// (order, owns and their count are passed one by one: the definitions take each, so a struct is no plainer in the clauses)
 pub fn peel_checks(
-    t: &[u16],
-    m: usize,
-    n: usize,
-    starts: &[u16],
+    located: &Located,
     live: &mut [u8],
     count: &mut [u16],
     names: &mut [u16],
@@ -90,65 +75,52 @@ pub fn peel_checks(
     aside: &mut [u16],
     total: usize,
 ) -> Counts
-    requires located { Located t.now m n starts.now }
-    requires ready { Ready t.now m n live.old count.old names.old }
-    requires total { (total ≡ length (lives live.old 0 m))
-        × (total ≤ m) }
-    requires room { Room m order.old owns.old aside.old }
-    ensures { Peeled (check t.now m) m n total (lives live.old 0 m)
+    requires ready { Ready located.now.table.words.now located.now.table.checks located.now.table.places live.old count.old names.old }
+    requires total { (total ≡ length (lives live.old 0 located.now.table.checks))
+        × (total ≤ located.now.table.checks) }
+    requires room { Room located.now.table.checks order.old owns.old aside.old }
+    ensures { Peeled (check located.now.table.words.now located.now.table.checks) located.now.table.checks located.now.table.places total (lives live.old 0 located.now.table.checks)
         order.new owns.new aside.new result.taken result.aside }
 {
     let mut taken = 0;
     let mut put = 0;
-    let mut left = total;
-    let mut top = n;
-    while 0 < left {
-        let event = pick(t, m, n, starts, live, count, names, top);
+    let mut top = located.table.places;
+    for _left in (0..total).rev() {
+        let event = pick(located, live, count, names, top);
         match event {
             Event::Took(p, j) => {
                 order[taken] = j as u16;
                 owns[taken] = p as u16;
                 taken += 1;
-                top = remove(live, count, names, t, m, starts, j, p + 1);
+                top = remove(live, count, names, located, j, p + 1);
             }
             Event::Aside(j) => {
                 aside[put] = j as u16;
                 put += 1;
-                top = remove(live, count, names, t, m, starts, j, 0);
+                top = remove(live, count, names, located, j, 0);
             }
         }
-        left -= 1;
     }
-    Counts {
-        taken: taken,
-        aside: put,
-    }
+    Counts { taken, aside: put }
 }
 
 // check j becomes live
-fn enter(
-    live: &mut [u8],
-    count: &mut [u16],
-    names: &mut [u16],
-    t: &[u16],
-    m: usize,
-    starts: &[u16],
-    j: usize,
-)
-    requires located { Located t.now m (length count.old) starts.now }
-    requires room { (j < m)
-        × (m ≤ length live.old)
+fn enter(live: &mut [u8], count: &mut [u16], names: &mut [u16], located: &Located, j: usize)
+    requires counts { length count.old ≡ located.now.table.places }
+    requires room { (j < located.now.table.checks)
+        × (located.now.table.checks ≤ length live.old)
         × (length count.old ≤ length names.old) }
-    requires counts { (p : ℕ) → get_or count.old p 0 ≤ m }
-    ensures { Entered t.now m j live.old count.old names.old
+    requires few { (p : ℕ) → get_or count.old p 0 ≤ located.now.table.checks }
+    ensures { Entered located.now.table.words.now located.now.table.checks j live.old count.old names.old
         live.new count.new names.new }
 {
     live[j] = 1;
+    let t = located.table.words;
     live::note(
         count,
         names,
         t,
-        usize::from(starts[j]),
+        usize::from(located.starts[j]),
         usize::from(t[4 + j]),
         j as u16,
     );
@@ -159,47 +131,36 @@ fn first_tally(
     live: &mut [u8],
     count: &mut [u16],
     names: &mut [u16],
-    t: &[u16],
-    m: usize,
-    starts: &[u16],
+    located: &Located,
     ids: &[u16],
     k: usize,
 )
-    requires located { Located t.now m (length count.old) starts.now }
-    requires kept { Numbers t.now m ids.now k }
-    requires fresh { Fresh m (length count.old) live.old count.old names.old }
-    ensures { First t.now m (length count.old) live.new count.new names.new }
+    requires counts { length count.old ≡ located.now.table.places }
+    requires kept { Numbers located.now.table.words.now located.now.table.checks ids.now k }
+    requires fresh { Fresh located.now.table.checks (length count.old) live.old count.old names.old }
+    ensures { First located.now.table.words.now located.now.table.checks (length count.old) live.new count.new names.new }
 {
-    let mut i = k;
-    while 0 < i {
-        i -= 1;
-        let j = usize::from(ids[i]);
-        enter(live, count, names, t, m, starts, j);
+    for i in (0..k).rev() {
+        enter(live, count, names, located, usize::from(ids[i]));
     }
 }
 
 // the ones of the kept checks
-fn ones_of(t: &[u16], m: usize, ids: &[u16], k: usize) -> usize
-    requires table { Accepted t.now m (places t.now) (size t.now) }
-    requires kept { Numbers t.now m ids.now k }
-    ensures { result ≡ total (map (weight t.now) (kept_of t.now m)) }
+fn ones_of(table: &Table, ids: &[u16], k: usize) -> usize
+    requires { Numbers table.now.words.now table.now.checks ids.now k }
+    ensures { result ≡ total (map (weight table.now.words.now) (kept_of table.now.words.now table.now.checks)) }
 {
+    let t = table.words;
     let mut sum = 0;
-    let mut i = k;
-    while 0 < i {
-        i -= 1;
-        let j = usize::from(ids[i]);
-        sum += usize::from(t[4 + j]);
+    for i in (0..k).rev() {
+        sum += usize::from(t[4 + usize::from(ids[i])]);
     }
     sum
 }
 
 // steps 2 and 3 for the kept checks, with room for flags, counts and names
 fn peel_live(
-    t: &[u16],
-    m: usize,
-    n: usize,
-    starts: &[u16],
+    located: &Located,
     ids: &[u16],
     k: usize,
     live: &mut [u8],
@@ -209,47 +170,39 @@ fn peel_live(
     owns: &mut [u16],
     aside: &mut [u16],
 ) -> Counts
-    requires located { Located t.now m n starts.now }
-    requires kept { Numbers t.now m ids.now k }
-    requires fresh { Fresh m n live.old count.old names.old }
-    requires room { Room m order.old owns.old aside.old }
-    ensures { Peeled (check t.now m) m n k (kept_of t.now m)
+    requires kept { Numbers located.now.table.words.now located.now.table.checks ids.now k }
+    requires fresh { Fresh located.now.table.checks located.now.table.places live.old count.old names.old }
+    requires room { Room located.now.table.checks order.old owns.old aside.old }
+    ensures { Peeled (check located.now.table.words.now located.now.table.checks) located.now.table.checks located.now.table.places k (kept_of located.now.table.words.now located.now.table.checks)
         order.new owns.new aside.new result.taken result.aside }
 {
-    first_tally(live, count, names, t, m, starts, ids, k);
-    peel_checks(t, m, n, starts, live, count, names, order, owns, aside, k)
+    first_tally(live, count, names, located, ids, k);
+    peel_checks(located, live, count, names, order, owns, aside, k)
 }
 
 // steps 2 and 3 for the kept checks
 fn peel_kept(
-    t: &[u16],
-    m: usize,
-    n: usize,
-    starts: &[u16],
+    located: &Located,
     ids: &[u16],
     k: usize,
     order: &mut [u16],
     owns: &mut [u16],
     aside: &mut [u16],
 ) -> Counts
-    requires located { Located t.now m n starts.now }
-    requires kept { Numbers t.now m ids.now k }
-    requires room { Room m order.old owns.old aside.old }
-    ensures { Peeled (check t.now m) m n k (kept_of t.now m)
+    requires kept { Numbers located.now.table.words.now located.now.table.checks ids.now k }
+    requires room { Room located.now.table.checks order.old owns.old aside.old }
+    ensures { Peeled (check located.now.table.words.now located.now.table.checks) located.now.table.checks located.now.table.places k (kept_of located.now.table.words.now located.now.table.checks)
         order.new owns.new aside.new result.taken result.aside }
 {
     let mut live = [0u8; MOST_CHECKS];
     let mut count = [0u16; MOST_PLACES];
     let mut names = [0u16; MOST_PLACES];
     peel_live(
-        t,
-        m,
-        n,
-        starts,
+        located,
         ids,
         k,
         &mut live,
-        &mut count[..n],
+        &mut count[..located.table.places],
         &mut names,
         order,
         owns,
@@ -267,29 +220,25 @@ pub struct Choice {
 
 // steps 1 to 3; the work is zero afterwards
 pub fn choose_checks(
-    t: &[u16],
-    m: usize,
-    n: usize,
-    starts: &[u16],
+    located: &Located,
     work: &mut [u64],
     order: &mut [u16],
     owns: &mut [u16],
     aside: &mut [u16],
 ) -> Choice
-    requires located { Located t.now m n starts.now }
     requires work { length work.old ≡ 8192 }
     requires room { Room 512 order.old owns.old aside.old }
-    ensures choice { ChoiceOf t.now order.new owns.new aside.new
+    ensures choice { ChoiceOf located.now.table.words.now order.new owns.new aside.new
         result.kept result.ones result.taken result.aside }
     ensures work { work.new ≡ replicate 8192 0 }
 {
     let mut ids = [0u16; MOST_CHECKS];
-    let k = keep::keep_checks(t, m, n, work, &mut ids);
-    let ones = ones_of(t, m, &ids, k);
-    let c = peel_kept(t, m, n, starts, &ids, k, order, owns, aside);
+    let k = keep::keep_checks(&located.table, work, &mut ids);
+    let ones = ones_of(&located.table, &ids, k);
+    let c = peel_kept(located, &ids, k, order, owns, aside);
     Choice {
         kept: k,
-        ones: ones,
+        ones,
         taken: c.taken,
         aside: c.aside,
     }

@@ -1,7 +1,7 @@
 // Well-formed plans.
 
 ghost use Rattle.std.specs.Prelude.{◌≡◌};
-ghost use Rattle.plan.specs.Layout.{plan_places, plan_gap, info_count, info_in, step_count, steps_at, plan_refusal};
+ghost use Rattle.plan.specs.Layout.{plan_places, plan_gap, plan_kept, info_count, info_in, step_count, steps_at, steps_in, plan_refusal};
 
 // The numbers of a plan that is well-formed.
 #[derive(Clone, Copy)]
@@ -24,6 +24,12 @@ impl Plan<'_> {
         crate::gap(self.words)
     }
 
+    pub fn kept(&self) -> usize
+        ensures { result ≡ plan_kept self.now.words.now }
+    {
+        crate::kept(self.words)
+    }
+
     pub fn info_count(&self) -> usize
         ensures { result ≡ info_count self.now.words.now }
     {
@@ -40,6 +46,12 @@ impl Plan<'_> {
         ensures { result ≡ step_count self.now.words.now }
     {
         crate::step_count(self.words)
+    }
+
+    pub fn steps(&self) -> &[u32]
+        ensures { result.now ≡ steps_in self.now.words.now }
+    {
+        crate::steps(self.words)
     }
 
     // where the steps start

@@ -7,8 +7,8 @@ use native.Mathlib.Numerals.{add-one}
 use native.Mathlib.Omega.{arith}
 use lib.ListN.{length, get_or, drop, drop_of_length-le}
 use lib.Seq.{drop-cons}
-use Rattle.plan.specs.declared.Decoded.{Decoded}
-use Rattle.plan.specs.declared.Decoded.TheVariants.{Valid, Invalid}
+use Rattle.std.specs.declared.option.Option.{Option as Optional}
+use Rattle.std.specs.declared.option.Option.TheVariants.{Some, None}
 use Rattle.plan.specs.declared.Step.{Step}
 use Rattle.plan.specs.Step.{unpack, unpack_all, decoded_of}
 use Rattle.numerals.specs.Numerals.{decimal}
@@ -41,10 +41,10 @@ module _ {text₀ whole text : List ℕ} {at₀ at : ℕ} where
   last_step steps i h l = rw (drop_of_length-le steps h) at l
 
 -- ---- a number that is a step, or is none
-pub is-step : (o : Option Step) (x : Step) → decoded_of o ≡ Valid x → o ≡ some x
+pub is-step : (o : Option Step) (x : Step) → decoded_of o ≡ Some x → o ≡ some x
 is-step none x e = absurd (let z : ◌≡◌ {A = ℕ} 0 1 = cc in omega arith)
 is-step (some y) x e = let z : y ≡ x = cc in ap some z
 
-pub no_step : (o : Option Step) {d : Decoded} → d ≡ decoded_of o → d ≡ Invalid → o ≡ none
+pub no_step : (o : Option Step) {d : Optional Step} → d ≡ decoded_of o → d ≡ None → o ≡ none
 no_step none e f = refl
 no_step (some y) e f = absurd (let z : ◌≡◌ {A = ℕ} 0 1 = cc in omega arith)

@@ -3,13 +3,13 @@
 
 ghost use Rattle.std.specs.Prelude.{◌≡◌, ◌++◌, map, ◌+◌, ◌≤◌, length};
 ghost use Rattle.plan.specs.declared.Step.TheVariants.{Add};
-ghost use Rattle.plan.specs.Step.{add_steps, unpack};
-ghost use Rattle.plan.specs.Layout.{plan_refusal, info_in, steps_of};
+ghost use Rattle.plan.specs.Step.{add_steps, unpack, unpack_all};
+ghost use Rattle.plan.specs.Layout.{steps_of};
 ghost use Rattle.numerals.specs.Numerals.{decimal};
 ghost use Rattle.text.specs.Lines.{Appended, bytes, words_after_blanks};
 ghost use Rattle.plan_text.specs.PlanText.{heading, info_line, step_line, step_lines, number_text, refused_line, plan_text_of};
 
-use plan::{Decoded, Step};
+use plan::{Plan, Step};
 
 // ---- lines, each written from at on; where it ends
 
@@ -43,26 +43,24 @@ fn put_heading(
 }
 
 // the information places, each after a blank, and the line's end
-fn put_places(out: &mut [u8], at: usize, plan: &[u32]) -> usize
-    requires plan_value { plan_refusal plan.now ≡ 0 }
-    requires plan_in_bounds { at + length (words_after_blanks (map decimal (info_in plan.now))) ≤ length out.old }
-    ensures { Appended out.old at (words_after_blanks (map decimal (info_in plan.now))) out.new result }
+fn put_places(out: &mut [u8], at: usize, places: &[u32]) -> usize
+    requires { at + length (words_after_blanks (map decimal places.now)) ≤ length out.old }
+    ensures { Appended out.old at (words_after_blanks (map decimal places.now)) out.new result }
 {
     let mut end = at;
-    for k in 0..plan::info_count(plan) {
-        end = text::put_count(out, end, b" ", plan::info_place(plan, k) as u64);
+    for place in places {
+        end = text::put_count(out, end, b" ", *place as u64);
     }
     text::put(out, end, b"\n")
 }
 
 // the second line
-fn put_info(out: &mut [u8], at: usize, plan: &[u32]) -> usize
-    requires plan_value { plan_refusal plan.now ≡ 0 }
-    requires plan_in_bounds { at + length (info_line (info_in plan.now)) ≤ length out.old }
-    ensures { Appended out.old at (info_line (info_in plan.now)) out.new result }
+fn put_info(out: &mut [u8], at: usize, places: &[u32]) -> usize
+    requires { at + length (info_line places.now) ≤ length out.old }
+    ensures { Appended out.old at (info_line places.now) out.new result }
 {
     let at = text::put(out, at, b"info");
-    put_places(out, at, plan)
+    put_places(out, at, places)
 }
 
 // the line of a step that adds
@@ -91,20 +89,19 @@ fn put_number(out: &mut [u8], at: usize, word: u32) -> usize
     ensures { Appended out.old at (number_text (unpack word)) out.new result }
 {
     match Step::unpack(word) {
-        Decoded::Valid(x) => put_step(out, at, x),
-        Decoded::Invalid => at,
+        Some(x) => put_step(out, at, x),
+        None => at,
     }
 }
 
 // the lines of the steps
-fn put_steps(out: &mut [u8], at: usize, plan: &[u32]) -> usize
-    requires plan_value { plan_refusal plan.now ≡ 0 }
-    requires plan_in_bounds { at + length (step_lines (steps_of plan.now)) ≤ length out.old }
-    ensures { Appended out.old at (step_lines (steps_of plan.now)) out.new result }
+fn put_steps(out: &mut [u8], at: usize, numbers: &[u32]) -> usize
+    requires { at + length (step_lines (unpack_all numbers.now)) ≤ length out.old }
+    ensures { Appended out.old at (step_lines (unpack_all numbers.now)) out.new result }
 {
     let mut end = at;
-    for i in (plan::steps_at(plan))..plan.len() {
-        end = put_number(out, end, plan[i]);
+    for number in numbers {
+        end = put_number(out, end, *number);
     }
     end
 }
@@ -118,22 +115,13 @@ pub fn put_refused(out: &mut [u8], at: usize, number: u32) -> usize
 }
 
 // ---- the whole text of a plan, with the table's size and ones and the number of the plan's add steps
-pub fn put_plan(out: &mut [u8], plan: &[u32], s: usize, ones: u32, additions: u32) -> usize
-    requires plan_value { plan_refusal plan.now ≡ 0 }
-    requires additions_value { additions ≡ add_steps (steps_of plan.now) }
-    requires ones_in_bounds { length (plan_text_of plan.now s ones) ≤ length out.old }
-    ensures { Appended out.old 0 (plan_text_of plan.now s ones) out.new result }
+pub fn put_plan(out: &mut [u8], plan: &Plan, s: usize, ones: u32, additions: u32) -> usize
+    requires additions_value { additions ≡ add_steps (steps_of plan.now.words.now) }
+    requires ones_in_bounds { length (plan_text_of plan.now.words.now s ones) ≤ length out.old }
+    ensures { Appended out.old 0 (plan_text_of plan.now.words.now s ones) out.new result }
 {
-    let at = put_heading(
-        out,
-        0,
-        plan::places(plan),
-        s,
-        plan::kept(plan),
-        ones,
-        plan::gap(plan),
-    );
-    let at = put_info(out, at, plan);
-    let at = put_steps(out, at, plan);
+    let at = put_heading(out, 0, plan.places(), s, plan.kept(), ones, plan.gap());
+    let at = put_info(out, at, plan.info());
+    let at = put_steps(out, at, plan.steps());
     put_line(out, at, b"adds ", additions as u64)
 }

@@ -27,10 +27,15 @@ pub extern "C" fn bs_encode(
     ensures block { block.new ≡ encode_block_after plan.now size information.now block.old scratch.old limit }
     ensures scratch { scratch.new ≡ encode_scratch_after plan.now size information.now block.old scratch.old limit }
 {
-    let r = encoder::encode(plan, size, information, block, scratch, limit);
-    Encoding {
-        refusal: r.refusal,
-        additions: r.additions,
+    match encoder::encode(plan, size, information, block, scratch, limit) {
+        Ok(additions) => Encoding {
+            refusal: 0,
+            additions,
+        },
+        Err(r) => Encoding {
+            refusal: r.number(),
+            additions: 0,
+        },
     }
 }
 
@@ -52,13 +57,22 @@ pub extern "C" fn bs_plan(table: &[u16], plan: &mut [u32], work: &mut [u64]) -> 
     ensures plan { plan.new ≡ planning_plan_after table.now plan.old work.old }
     ensures work { work.new ≡ planning_work_after table.now plan.old work.old }
 {
-    let r = planner::plan(table, plan, work);
-    Planning {
-        refusal: r.refusal,
-        length: r.length,
-        kept: r.kept,
-        ones: r.ones,
-        gap: r.gap,
-        additions: r.additions,
+    match planner::plan(table, plan, work) {
+        Ok(p) => Planning {
+            refusal: 0,
+            length: p.length,
+            kept: p.kept,
+            ones: p.ones,
+            gap: p.gap,
+            additions: p.additions,
+        },
+        Err(r) => Planning {
+            refusal: r.number(),
+            length: 0,
+            kept: 0,
+            ones: 0,
+            gap: 0,
+            additions: 0,
+        },
     }
 }

@@ -1,16 +1,13 @@
 -- `columns::fill_columns` meets its contract: the columns are those of the first i set-aside checks.
-use Rattle.table.specs.Accepted.{has-weights, each-places, places-from}
+use Rattle.table.specs.Accepted.{has-weights, each-places, places-wide}
 use Rattle.table.specs.Checks.{offset}
 use Rattle.masks.specs.DotLaws.{unit-word}
 use Rattle.columns.proofs.Pushing.{fill-turn}
 use Prim.Native.Nat.{◌+◌, ◌<◌}
-use mathlib.Core.Path.{◌≡◌, refl, ◌∙◌}
+use mathlib.Core.Path.{◌≡◌, ◌∙◌}
 use native.Mathlib.Omega.{arith}
 use lib.ListN.{length, get_or}
 use Rattle.columns.proofs.fill_columns.Goals as goal
-
-pub loop-i-init : goal.loop-i-init
-loop-i-init c = (omega arith, refl, c.requires.empty)
 
 pub offset_bounds-aside-i : goal.offset_bounds-aside-i
 offset_bounds-aside-i c =
@@ -36,8 +33,8 @@ bounds-aside-i c =
     let sr = v.located.starts-at.room in
     omega arith
 
-pub offset_bounds-starts-j : goal.offset_bounds-starts-j
-offset_bounds-starts-j c =
+pub offset_bounds-located-j : goal.offset_bounds-located-j
+offset_bounds-located-j c =
     let s = c.loop-i in
     let less = c.loop-i-test.true in
     let v = c.requires.aside in
@@ -48,8 +45,8 @@ offset_bounds-starts-j c =
     let sr = v.located.starts-at.room in
     omega arith
 
-pub bounds-starts-j : goal.bounds-starts-j
-bounds-starts-j c =
+pub bounds-located-j : goal.bounds-located-j
+bounds-located-j c =
     let s = c.loop-i in
     let less = c.loop-i-test.true in
     let v = c.requires.aside in
@@ -132,11 +129,11 @@ spread-requires c =
     let sr = v.located.starts-at.room in
     let a = c.args in
     let j = c.from-j.result in
-    let jl : j < a.m = omega (arith, c.from-j.ensures) in
-    let e1 : c.from.result ≡ 5 + a.m + offset a.t.now j = c.from.ensures ∙ v.located.starts-at.each j jl in
-    let e2 : c.from-in-loop-i.result ≡ get_or a.t.now (4 + j) 0 = c.from-in-loop-i.ensures in
+    let jl : j < a.located.now.table.checks = omega (arith, c.from-j.ensures) in
+    let e1 : c.from.result ≡ 5 + a.located.now.table.checks + offset a.located.now.table.words.now j = c.from.ensures ∙ v.located.starts-at.each j jl in
+    let e2 : c.from-in-loop-i.result ≡ get_or a.located.now.table.words.now (4 + j) 0 = c.from-in-loop-i.ensures in
     let from = c.requires.room in
-    places-from _ _ _ _ v.located.table j jl _ _ e1 e2 (length s.col) (omega (arith, s.invariant.1))
+    places-wide _ _ _ _ v.located.table j jl _ _ e1 e2 (length s.col) (omega (arith, s.auto.col))
 
 pub loop-i-preserved : goal.loop-i-preserved
 loop-i-preserved c =
@@ -150,16 +147,13 @@ loop-i-preserved c =
     let sr = v.located.starts-at.room in
     let a = c.args in
     let j = c.from-j.result in
-    let jl : j < a.m = omega (arith, c.from-j.ensures) in
-    let e1 : c.from.result ≡ 5 + a.m + offset a.t.now j = c.from.ensures ∙ v.located.starts-at.each j jl in
-    let e2 : c.from-in-loop-i.result ≡ get_or a.t.now (4 + j) 0 = c.from-in-loop-i.ensures in
-    (omega arith, c.col-1.given ∙ s.invariant.1, fill-turn _ _ _ j _ _ s.i _ _ (each-places _ _ _ _ v.located.table j jl) (omega arith) c.from-j.ensures e1 e2 (unit-word s.i (omega arith)) s.invariant.2 c.spread.ensures)
-
-pub shape_of-col : goal.shape_of-col
-shape_of-col c = c.loop-i.invariant.1
+    let jl : j < a.located.now.table.checks = omega (arith, c.from-j.ensures) in
+    let e1 : c.from.result ≡ 5 + a.located.now.table.checks + offset a.located.now.table.words.now j = c.from.ensures ∙ v.located.starts-at.each j jl in
+    let e2 : c.from-in-loop-i.result ≡ get_or a.located.now.table.words.now (4 + j) 0 = c.from-in-loop-i.ensures in
+    (fill-turn _ _ _ j _ _ s.i _ _ (each-places _ _ _ _ v.located.table j jl) (omega arith) c.from-j.ensures e1 e2 (unit-word s.i (omega arith)) s.invariant c.spread.ensures)
 
 pub returns : goal.returns
 returns c =
     let s = c.loop-i in
     let e : s.i ≡ c.args.g = omega arith in
-    rw e at s.invariant.2
+    rw e at s.invariant

@@ -2,7 +2,7 @@
 use mathlib.Core.Path.{ap}
 use mathlib.Core.List.{map}
 use native.Mathlib.Omega.{arith}
-use Rattle.table.specs.Accepted.{few-places, has-weights}
+use Rattle.table.specs.Accepted.{few-places}
 use Rattle.plan.specs.Step.{pack}
 use Rattle.rule.proofs.WithinLimits.{aside-width}
 use Rattle.emit.specs.Emit.{fitting_rows}
@@ -26,25 +26,22 @@ set_aside-b-requires c =
     let m = c.mark in
     record { room = room-B p m.new.marks m.ensures c.args.plan.now c.args.at c.requires.room c.solve_all-a.ensures; table = readable p m.new.marks m.ensures; checks = set-aside p; few = aside-width p.few }
 
-pub bounds-t-1 : goal.bounds-t-1
-bounds-t-1 c = let r = has-weights _ _ _ _ c.requires.phases.located.table in omega arith
-
 pub fit_all-e-requires : goal.fit_all-e-requires
 fit_all-e-requires c =
     let p = c.requires.phases in
     let m = c.mark in
     let n = few-places _ _ _ _ p.located.table in
-    let e = c.from.ensures in record { room = rw e (room-C p m.new.marks m.ensures c.args.plan.now c.args.at c.requires.room c.solve_all-a.ensures c.set_aside-b.ensures); places = omega arith; few = aside-width p.few; fitted = rw e (fitted-below p); rows = p.fits.room.1 }
+    let e = c.args.located.now.table.accepted.places-are in record { room = rw e (room-C p m.new.marks m.ensures c.args.plan.now c.args.at c.requires.room c.solve_all-a.ensures c.set_aside-b.ensures); places = omega arith; few = aside-width p.few; fitted = rw e (fitted-below p); rows = p.fits.room.1 }
 
 pub solve_whole-requires : goal.solve_whole-requires
 solve_whole-requires c =
     let p = c.requires.phases in
     let m = c.mark in
-    let f = wrote-is c.fit_all-e.ensures (ap (λ n. map pack (fitting_rows n c.args.g c.args.fitted.now c.args.rows.now 0 c.args.g)) c.from.ensures) in record { room = room-D p m.new.marks m.ensures c.args.plan.now c.args.at c.requires.room c.solve_all-a.ensures c.set_aside-b.ensures f; table = p.located; checks = solved-checks p; own = own-places p }
+    let f = wrote-is c.fit_all-e.ensures (ap (λ n. map pack (fitting_rows n c.args.g c.args.fitted.now c.args.rows.now 0 c.args.g)) c.args.located.now.table.accepted.places-are) in record { room = room-D p m.new.marks m.ensures c.args.plan.now c.args.at c.requires.room c.solve_all-a.ensures c.set_aside-b.ensures f; checks = solved-checks p; own = own-places p }
 
 pub returns : goal.returns
 returns c =
     let p = c.requires.phases in
     let m = c.mark in
-    let f = wrote-is c.fit_all-e.ensures (ap (λ n. map pack (fitting_rows n c.args.g c.args.fitted.now c.args.rows.now 0 c.args.g)) c.from.ensures) in
+    let f = wrote-is c.fit_all-e.ensures (ap (λ n. map pack (fitting_rows n c.args.g c.args.fitted.now c.args.rows.now 0 c.args.g)) c.args.located.now.table.accepted.places-are) in
     all-parts p m.new.marks m.ensures c.args.plan.now c.args.at c.requires.room c.solve_all-a.ensures c.set_aside-b.ensures f c.solve_whole.ensures

@@ -13,7 +13,7 @@ use Rattle.compose.proofs.step_section.Goals as goal
 pub overflow_cast-plan : goal.overflow_cast-plan
 overflow_cast-plan c =
     let a = c.args in
-    let steps = plan_steps (places a.t.now) (solved_in a.t.now a.order.now a.owns.now a.taken) (aside_in a.t.now a.aside.now a.g) in
+    let steps = plan_steps (places a.located.now.table.words.now) (solved_in a.located.now.table.words.now a.order.now a.owns.now a.taken) (aside_in a.located.now.table.words.now a.aside.now a.g) in
     let l = packed-length steps in
     let w = c.write_steps-e.ensures.next in
     let q = c.requires.few in
@@ -22,6 +22,6 @@ overflow_cast-plan c =
 pub returns : goal.returns
 returns c =
     let a = c.args in
-    let steps = plan_steps (places a.t.now) (solved_in a.t.now a.order.now a.owns.now a.taken) (aside_in a.t.now a.aside.now a.g) in
+    let steps = plan_steps (places a.located.now.table.words.now) (solved_in a.located.now.table.words.now a.order.now a.owns.now a.taken) (aside_in a.located.now.table.words.now a.aside.now a.g) in
     let l = packed-length steps in
     wrote-is (wrote_count (omega (arith, c.requires.room)) c.write_steps-e.ensures) (ap (λ n. n ∷ map pack steps) l)

@@ -12,7 +12,7 @@ pub solve_whole-requires : goal.solve_whole-requires
 solve_whole-requires c =
     let p = c.requires.phases in
     let e = ap length (steps-none p c.if-g-eq0.true) in
-    record { room = omega (arith, c.requires.room); table = p.located; checks = solved-checks p; own = own-places p }
+    record { room = omega (arith, c.requires.room); checks = solved-checks p; own = own-places p }
 
 pub returns-then-g-eq0 : goal.returns-then-g-eq0
 returns-then-g-eq0 c = wrote-is c.solve_whole.ensures (ap (map pack) (sym (steps-none c.requires.phases c.if-g-eq0.true)))

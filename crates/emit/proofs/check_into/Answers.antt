@@ -11,12 +11,12 @@ use Rattle.lists.specs.WroteLaws.{wrote-is}
 use Rattle.emit.proofs.Passes.{check-read}
 use Rattle.emit.proofs.check_into.Goals as goal
 
-pub offset_bounds-starts-j : goal.offset_bounds-starts-j
-offset_bounds-starts-j c =
+pub offset_bounds-located-j : goal.offset_bounds-located-j
+offset_bounds-located-j c =
     let r = c.requires.table.located.starts-at.room in let j = c.requires.check in omega arith
 
-pub bounds-starts-j : goal.bounds-starts-j
-bounds-starts-j c =
+pub bounds-located-j : goal.bounds-located-j
+bounds-located-j c =
     let r = c.requires.table.located.starts-at.room in let j = c.requires.check in omega arith
 
 pub overflow_add-j : goal.overflow_add-j
@@ -36,9 +36,6 @@ sum_check-requires c =
     let a = c.args in
     let r = check-read c.from.result c.from-2.result a.j c.requires.table c.requires.check c.from.ensures c.from-2.ensures in
     record { room = rw r.0 c.requires.room; check = r.1; marks = c.requires.table.all; slot = c.requires.slot }
-
-pub shape_of-plan : goal.shape_of-plan
-shape_of-plan c = c.plan-1.given
 
 pub returns : goal.returns
 returns c =

@@ -10,13 +10,13 @@ use Rattle.table.specs.Checks.{check}
 use Rattle.table.specs.Table.{number}
 use Rattle.rule.specs.Rule.{clear_and_add, solving_steps}
 use Rattle.emit.specs.Emit.{marked, solved_in}
-use Rattle.lists.specs.WroteLaws.{left-all, left_is, left-more, left-length, left-done}
+use Rattle.lists.specs.WroteLaws.{left-all, left_is, left-more, left-done}
 use Rattle.emit.specs.PackedLaws.{packed-length, left-steps}
 use Rattle.emit.proofs.Passes.{solves, one, solves-none, solves-next}
 use Rattle.emit.proofs.solve_all.Goals as goal
 
 pub loop-i-init : goal.loop-i-init
-loop-i-init c = (omega arith, left-all _ _ _)
+loop-i-init c = left-all _ _ _
 
 pub offset_bounds-order-i : goal.offset_bounds-order-i
 offset_bounds-order-i c = let r = c.requires.checks.room in omega arith
@@ -35,13 +35,13 @@ check_into-k-requires c =
     let a = c.args in
     let s = c.loop-i in
     let sk = a.skip.now in
-    let t = a.t.now in
+    let t = a.located.now.table.words.now in
     let room : a.at + length (solves sk t a.order.now a.owns.now a.taken) ≤ length a.plan.now = omega (arith, packed-length (solving_steps (marked sk) (rev (solved_in t a.order.now a.owns.now a.taken))), c.requires.room) in
     let rest = solves sk t a.order.now a.owns.now (s.i - 1) in
     let j = c.from.result in
     let to = c.from-in-loop-i.result in
     let next = solves-next sk t a.order.now a.owns.now s.i c.loop-i-test.true ∙ ap₂ (λ x y. one sk t x y ++ rest) (sym c.from.ensures) (sym c.from-in-loop-i.ensures) in
-    let w = left_is (one sk t j to ++ rest) s.invariant.1 next in
+    let w = left_is (one sk t j to ++ rest) s.invariant next in
     let b = c.requires.checks.each (s.i - 1) (omega arith) in
     let o = c.requires.own.each (s.i - 1) (omega arith) in
     let n = few-places _ _ _ _ c.requires.table.located.table in
@@ -54,30 +54,21 @@ loop-i-preserved c =
     let a = c.args in
     let s = c.loop-i in
     let sk = a.skip.now in
-    let t = a.t.now in
+    let t = a.located.now.table.words.now in
     let room : a.at + length (solves sk t a.order.now a.owns.now a.taken) ≤ length a.plan.now = omega (arith, packed-length (solving_steps (marked sk) (rev (solved_in t a.order.now a.owns.now a.taken))), c.requires.room) in
     let rest = solves sk t a.order.now a.owns.now (s.i - 1) in
     let j = c.from.result in
     let to = c.from-in-loop-i.result in
     let next = solves-next sk t a.order.now a.owns.now s.i c.loop-i-test.true ∙ ap₂ (λ x y. one sk t x y ++ rest) (sym c.from.ensures) (sym c.from-in-loop-i.ensures) in
-    let w = left_is (one sk t j to ++ rest) s.invariant.1 next in
-    (omega arith, left-more room (one sk t j to) rest w c.check_into-k.ensures)
-
-pub shape_of-plan : goal.shape_of-plan
-shape_of-plan c =
-    let a = c.args in
-    let s = c.loop-i in
-    let sk = a.skip.now in
-    let t = a.t.now in
-    let room : a.at + length (solves sk t a.order.now a.owns.now a.taken) ≤ length a.plan.now = omega (arith, packed-length (solving_steps (marked sk) (rev (solved_in t a.order.now a.owns.now a.taken))), c.requires.room) in
-    left-length room s.invariant.1
+    let w = left_is (one sk t j to ++ rest) s.invariant next in
+    left-more room (one sk t j to) rest w c.check_into-k.ensures
 
 pub returns : goal.returns
 returns c =
     let a = c.args in
     let s = c.loop-i in
     let sk = a.skip.now in
-    let t = a.t.now in
+    let t = a.located.now.table.words.now in
     let room : a.at + length (solves sk t a.order.now a.owns.now a.taken) ≤ length a.plan.now = omega (arith, packed-length (solving_steps (marked sk) (rev (solved_in t a.order.now a.owns.now a.taken))), c.requires.room) in
     let e : s.i ≡ 0 = omega arith in
-    left-done (left_is [] s.invariant.1 (ap (solves sk t a.order.now a.owns.now) e ∙ solves-none sk t a.order.now a.owns.now))
+    left-done (left_is [] s.invariant (ap (solves sk t a.order.now a.owns.now) e ∙ solves-none sk t a.order.now a.owns.now))

@@ -1,14 +1,12 @@
 -- `masks::fit_one` meets its contract.
+use Rattle.std.proofs.Common.{arith}
 use Rattle.masks.proofs.Scanning.{one-skipped, one-taken}
-use native.Mathlib.Omega.{arith}
 use Rattle.masks.proofs.fit_one.Goals as goal
 
-pub returns-then-i-free : goal.returns-then-i-free
-returns-then-i-free c =
-    let less = c.if-i-free.true in
-    record { fewer = omega arith; scan = λ f W e s. one-taken c.find-i.result e s less (c.find-i.ensures.sees less) c.tie.ensures }
+pub returns : goal.returns
+returns c =
+    let less = c.in-Some.ensures.free in
+    record { fewer = omega arith; scan = λ f W e s. one-taken c.in-Some.i e s less (c.in-Some.ensures.lowest.sees less) c.tie.ensures }
 
-pub returns-else-i-free : goal.returns-else-i-free
-returns-else-i-free c =
-    let left = c.if-i-free.false in
-    record { fewer = omega arith; scan = λ f W e s. one-skipped e s (λ i h. c.find-i.ensures.blind i (omega arith)) }
+pub returns-in_default : goal.returns-in_default
+returns-in_default c = record { fewer = omega arith; scan = λ f W e s. one-skipped e s (λ i h. c.in_default.ensures.lowest.blind i (omega arith)) }

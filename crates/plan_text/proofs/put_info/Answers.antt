@@ -4,4 +4,4 @@ use Rattle.text.specs.LinesLaws.{both_words}
 use Rattle.plan_text.proofs.put_info.Goals as goal
 
 pub returns : goal.returns
-returns c = both_words (omega (arith, c.requires.plan_in_bounds)) c.put-at.ensures c.put_places.ensures
+returns c = both_words (omega (arith, c.requires)) c.put-at.ensures c.put_places.ensures
