@@ -2,9 +2,9 @@
 // zeros, in packets of SIZE bytes; of the table's size where none is given.
 #![tactic(auto)]
 
-ghost use Rattle.std.specs.Prelude.{◌≡◌, ◌≤◌, length};
-ghost use Rattle.plan.specs.Layout.{plan_refusal};
+ghost use Rattle.std.specs.Prelude.{◌≤◌, length};
 
+use plan::Plan;
 use std::io::Print;
 use std::rt::Runtime;
 use table::MOST_BYTES;
@@ -69,14 +69,12 @@ fn encode_within<R: Runtime, P: Print>(
 }
 
 // Encodes in packets of s bytes.
-fn encode_by<R: Runtime, P: Print>(rt: &R, err: &P, plan: &[u32], s: usize) -> std::io::Result<()>
-    requires { plan_refusal plan.now ≡ 0 }
-{
+fn encode_by<R: Runtime, P: Print>(rt: &R, err: &P, plan: &Plan, s: usize) -> std::io::Result<()> {
     if table::outside(MOST_BYTES, s) {
         Print::write_all(err, b"refused 2: a packet has 1 to 1024 bytes\n")?;
         return Ok(());
     }
-    let whole = plan::places(plan) * s;
+    let whole = plan.places() * s;
     if whole > MOST_BLOCK {
         Print::write_all(err, b"the block has more than 32768 bytes\n")?;
         return Ok(());
@@ -84,11 +82,11 @@ fn encode_by<R: Runtime, P: Print>(rt: &R, err: &P, plan: &[u32], s: usize) -> s
     encode_within(
         rt,
         err,
-        plan,
+        plan.words,
         s,
-        plan::info_count(plan) * s,
+        plan.info_count() * s,
         whole,
-        plan::gap(plan) * s,
+        plan.gap() * s,
     )
 }
 
@@ -111,8 +109,10 @@ fn encode_file<R: Runtime, P: Print>(rt: &R, err: &P, table: &[u16]) -> std::io:
     let Some(s) = size_for(rt, err, table)? else {
         return Ok(());
     };
-    let length = planned.length as usize;
-    encode_by(rt, err, &plan[..length], s)
+    let plan = Plan {
+        words: &plan[..planned.length as usize],
+    };
+    encode_by(rt, err, &plan, s)
 }
 
 fn main(rt: HostRuntime) -> std::io::Result<()> {

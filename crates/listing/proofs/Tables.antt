@@ -12,6 +12,11 @@ use Rattle.table.specs.TableLaws.{accepted}
 use Rattle.plan.specs.Step.{add_steps}
 use Rattle.plan.specs.Layout.{steps_of}
 use Rattle.planning.specs.declared.Planned.{Planned}
+use Rattle.std.specs.declared.result.Result.{Result}
+use Rattle.std.specs.declared.result.Result.TheVariants.{Ok, Err}
+use Rattle.refusals.specs.declared.Refusal.{Refusal}
+use Rattle.refusals.specs.Refusals.{number_of, refusal_of}
+use Rattle.refusals.proofs.Numbers.{number-some}
 use Rattle.planning.specs.Planning.{plan_of, numbers_of, planning_answer_of, planning_answer, planning_plan_after, planning_refusal_at, least_plan, work_words}
 use Rattle.theorems.specs.OwnPlan.{by_rule, own-steps}
 use Rattle.own_plan.specs.Own.{Own, lent_work, own-refusal, own-plan}
@@ -29,18 +34,18 @@ use Rattle.plan_text.specs.PlanTextLaws.{plan-most}
 abbrev pub plan_buffer : List ℕ
 plan_buffer = replicate least_plan 0
 
-module _ (t : List ℕ) (r : Planned) (a : planning_answer_of r ≡ planning_answer t plan_buffer lent_work) where
-  refusal_is : r.refusal ≡ planning_refusal_at t least_plan work_words
-  refusal_is = own-refusal t plan_buffer r a ∙ ap (λ (k : ℕ). planning_refusal_at t k work_words) (length-replicate {A = ℕ} least_plan 0)
+refusal_is : (t : List ℕ) (r : Result Planned Refusal) → planning_answer_of r ≡ planning_answer t plan_buffer lent_work → refusal_of r ≡ planning_refusal_at t least_plan work_words
+refusal_is t r a = own-refusal t plan_buffer r a ∙ ap (λ (k : ℕ). planning_refusal_at t k work_words) (length-replicate {A = ℕ} least_plan 0)
 
-  -- the table is refused
-  pub refused-put : (r.refusal ≡ 0 → ⊥) → refused_line r.refusal ≡ table_text t
-  refused-put h = ap refused_line refusal_is ∙ sym (refused-text t (λ e. h (refusal_is ∙ e)))
+-- the table is refused
+pub refused-put : (t : List ℕ) (r : Refusal) → planning_answer_of (Err r) ≡ planning_answer t plan_buffer lent_work → refused_line (number_of r) ≡ table_text t
+refused-put t r a = let e = refusal_is t (Err r) a in ap refused_line e ∙ sym (refused-text t (λ z. number-some r (e ∙ z)))
 
-  -- the table is accepted
-  module _ (buf : List ℕ) (b : buf ≡ planning_plan_after t plan_buffer lent_work) (z : r.refusal ≡ 0) where
+-- the table is accepted
+module _ (t : List ℕ) (r : Planned) (a : planning_answer_of (Ok r) ≡ planning_answer t plan_buffer lent_work) where
+  module _ (buf : List ℕ) (b : buf ≡ planning_plan_after t plan_buffer lent_work) where
     pub own : Own t r buf
-    own = own-plan t plan_buffer r a buf b z
+    own = own-plan t plan_buffer r a buf b
 
     abbrev plan : List ℕ
     plan = take r.length buf
@@ -56,7 +61,7 @@ module _ (t : List ℕ) (r : Planned) (a : planning_answer_of r ≡ planning_ans
           let m = plan-most plan s r.ones own.formed (omega arith) w in omega arith
 
       pub plan-put : plan_text_of plan s r.ones ≡ table_text t
-      plan-put = ap₂ (λ x. plan_text_of x s) own.numbers own.ones ∙ ap (λ x. plan_text_of (numbers_of t) x (plan_of t).W) e ∙ sym (accepted-text t (sym refusal_is ∙ z) own.accepted own.few)
+      plan-put = ap₂ (λ x. plan_text_of x s) own.numbers own.ones ∙ ap (λ x. plan_text_of (numbers_of t) x (plan_of t).W) e ∙ sym (accepted-text t (sym (refusal_is t (Ok r) a)) own.accepted own.few)
 
 -- ---- a file
 -- written at the start of the buffer

@@ -7,6 +7,8 @@ ghost use Rattle.text.specs.Lines.{Appended};
 ghost use Rattle.plan_text.specs.PlanText.{most_text};
 ghost use Rattle.listing.specs.Listing.{table_text, listing};
 
+use plan::Plan;
+
 // room for every text
 pub const MOST_TEXT: usize = 192000;
 
@@ -16,13 +18,15 @@ fn list_table(out: &mut [u8], table: &[u16]) -> usize
     ensures { Appended out.old 0 (table_text table.now) out.new result }
 {
     let mut plan = [0u32; planner::LEAST_PLAN];
-    let planned = own_plan::plan_of(table, &mut plan);
-    if planned.refusal != 0 {
-        return plan_text::put_refused(out, 0, planned.refusal);
-    }
-    let length = planned.length as usize;
+    let planned = match own_plan::plan_of(table, &mut plan) {
+        Ok(planned) => planned,
+        Err(refusal) => return plan_text::put_refused(out, 0, refusal.number()),
+    };
+    let plan = Plan {
+        words: &plan[..planned.length as usize],
+    };
     let s = usize::from(table[2]);
-    plan_text::put_plan(out, &plan[..length], s, planned.ones, planned.additions)
+    plan_text::put_plan(out, &plan, s, planned.ones, planned.additions)
 }
 
 // of a table's file

@@ -1,14 +1,25 @@
 // table_to_alist TABLE TEXT: writes a table as alist text.
 #![tactic(auto)]
 
-ghost use Rattle.std.specs.Prelude.{◌≤◌, length};
+ghost use Rattle.std.specs.Prelude.{List, ℕ, ◌≡◌, ◌≤◌, length};
 ghost use Rattle.alist.specs.AlistLength.{most_alist};
+ghost use Rattle.alist.specs.AlistText.{alist_text};
 
 use std::io::Print;
 use std::rt::Runtime;
 
 // as many bytes as the longest text of any table
 const MOST_TEXT: usize = 1200000;
+
+// Writes the file of a table's text, and says so.
+fn write_bytes<R: Runtime, P: Print>(rt: &R, err: &P, bytes: &[u8]) -> std::io::Result<()>
+    requires { (t : List ℕ) × (bytes.now ≡ alist_text t) }
+{
+    if text::write_argument(rt, err, 2, bytes)? {
+        text::print_count(rt, b"text of ", bytes.len() as u64, b" bytes\n")?;
+    }
+    Ok(())
+}
 
 // Writes the text's file by way of a buffer, and says so.
 fn write_text<R: Runtime, P: Print>(
@@ -19,14 +30,10 @@ fn write_text<R: Runtime, P: Print>(
 ) -> std::io::Result<()>
     requires { most_alist ≤ length file.old }
 {
-    let length = match alist_write::write_alist(table, file) {
-        Ok(length) => length as usize,
-        Err(refusal) => return text::say_table_refused(err, refusal),
-    };
-    if text::write_argument(rt, err, 2, &file[..length])? {
-        text::print_count(rt, b"text of ", length as u64, b" bytes\n")?;
+    match alist_write::write_alist(table, file) {
+        Ok(length) => write_bytes(rt, err, &file[..length as usize]),
+        Err(refusal) => text::say_table_refused(err, refusal),
     }
-    Ok(())
 }
 
 // The same with a buffer of its own.

@@ -6,27 +6,18 @@ use native.Mathlib.Omega.{arith}
 use Rattle.encode_file.proofs.Sizes.{sizes}
 use Rattle.encode_file.proofs.encode_by.Goals as goal
 
-pub places-requires : goal.places-requires
-places-requires g c = (sizes c.args.plan.now c.args.s c.requires (sym c.outside.ensures ∙ c.if-outside.false)).long
-
 pub overflow_mul-whole : goal.overflow_mul-whole
-overflow_mul-whole g c = rw c.places.ensures (let z = (sizes c.args.plan.now c.args.s c.requires (sym c.outside.ensures ∙ c.if-outside.false)).block in omega arith)
-
-pub info_count-requires : goal.info_count-requires
-info_count-requires g c = (sizes c.args.plan.now c.args.s c.requires (sym c.outside.ensures ∙ c.if-outside.false)).long
+overflow_mul-whole g c = rw c.places.ensures (let z = (sizes c.args.plan.now.words.now c.args.s c.args.plan.now.formed (sym c.outside.ensures ∙ c.if-outside.false)).block in omega arith)
 
 pub overflow_mul-info_count : goal.overflow_mul-info_count
-overflow_mul-info_count g c = rw c.info_count.ensures (let z = sizes c.args.plan.now c.args.s c.requires (sym c.outside.ensures ∙ c.if-outside.false) in omega (arith, z.block, z.information))
-
-pub gap-requires : goal.gap-requires
-gap-requires g c = (sizes c.args.plan.now c.args.s c.requires (sym c.outside.ensures ∙ c.if-outside.false)).long
+overflow_mul-info_count g c = rw c.info_count.ensures (let z = sizes c.args.plan.now.words.now c.args.s c.args.plan.now.formed (sym c.outside.ensures ∙ c.if-outside.false) in omega (arith, z.block, z.information))
 
 pub overflow_mul-gap : goal.overflow_mul-gap
-overflow_mul-gap g c = rw c.gap.ensures (let z = sizes c.args.plan.now c.args.s c.requires (sym c.outside.ensures ∙ c.if-outside.false) in omega (arith, z.block, z.scratch))
+overflow_mul-gap g c = rw c.gap.ensures (let z = sizes c.args.plan.now.words.now c.args.s c.args.plan.now.formed (sym c.outside.ensures ∙ c.if-outside.false) in omega (arith, z.block, z.scratch))
 
 pub encode_within-requires : goal.encode_within-requires
 encode_within-requires g c =
-    let z = sizes c.args.plan.now c.args.s c.requires (sym c.outside.ensures ∙ c.if-outside.false) in
+    let z = sizes c.args.plan.now.words.now c.args.s c.args.plan.now.formed (sym c.outside.ensures ∙ c.if-outside.false) in
     let s = c.args.s in
     let n = c.places in
     let k = c.info_count in

@@ -6,13 +6,10 @@ use Rattle.own_plan.specs.Own.{own-plan}
 use Rattle.encode_file.proofs.encode_file.Goals as goal
 
 pub size_for-requires : goal.size_for-requires
-size_for-requires g c = words c.args.table.now _ refl (own-plan c.args.table.now (replicate 15360 0) c.plan_of-planned.result c.plan_of-planned.ensures.answer _ c.plan_of-planned.ensures.plan c.if-planned-ne0.false).accepted
+size_for-requires g c = words c.args.table.now _ refl (own-plan c.args.table.now (replicate 15360 0) c.in-Ok.planned c.in-Ok.ensures.answer _ c.in-Ok.ensures.plan).accepted
 
 pub slice_bounds-plan-end : goal.slice_bounds-plan-end
-slice_bounds-plan-end g c = (own-plan c.args.table.now (replicate 15360 0) c.plan_of-planned.result c.plan_of-planned.ensures.answer _ c.plan_of-planned.ensures.plan c.if-planned-ne0.false).within
+slice_bounds-plan-end g c = (own-plan c.args.table.now (replicate 15360 0) c.in-Ok.planned c.in-Ok.ensures.answer _ c.in-Ok.ensures.plan).within
 
-pub slice_bounds-encode_by-end : goal.slice_bounds-encode_by-end
-slice_bounds-encode_by-end g c = (own-plan c.args.table.now (replicate 15360 0) c.plan_of-planned.result c.plan_of-planned.ensures.answer _ c.plan_of-planned.ensures.plan c.if-planned-ne0.false).counts
-
-pub encode_by-requires : goal.encode_by-requires
-encode_by-requires g c = (own-plan c.args.table.now (replicate 15360 0) c.plan_of-planned.result c.plan_of-planned.ensures.answer _ c.plan_of-planned.ensures.plan c.if-planned-ne0.false).formed
+pub invariant_of-plan-clause-formed : goal.invariant_of-plan-clause-formed
+invariant_of-plan-clause-formed g c = (own-plan c.args.table.now (replicate 15360 0) c.in-Ok.planned c.in-Ok.ensures.answer _ c.in-Ok.ensures.plan).formed

@@ -10,28 +10,31 @@ use Rattle.listing.proofs.list_table.Goals as goal
 pub put_refused-requires : goal.put_refused-requires
 put_refused-requires c = refused-room _ c.args.out.now c.requires
 
-pub returns-then-planned-ne0 : goal.returns-then-planned-ne0
-returns-then-planned-ne0 c = let p = c.plan_of-planned in same_word (refused-put c.args.table.now p.result p.ensures.answer (λ e. omega (arith, c.if-planned-ne0.true))) c.put_refused.ensures
+pub returns-in-Err : goal.returns-in-Err
+returns-in-Err c = let e = refused-put c.args.table.now _ c.in-Err.ensures.answer in same_word (rw c.number.ensures e) c.put_refused.ensures
 
 pub bounds-table-2 : goal.bounds-table-2
 bounds-table-2 c =
-    let p = c.plan_of-planned in let t = c.args.table.now in
-    let long = words t _ refl (own t p.result p.ensures.answer _ p.ensures.plan (omega (arith, c.if-planned-ne0.false))).accepted in
+    let p = c.in-Ok in let t = c.args.table.now in
+    let long = words t _ refl (own t p.planned p.ensures.answer _ p.ensures.plan).accepted in
     omega arith
 
 pub slice_bounds-plan-end : goal.slice_bounds-plan-end
-slice_bounds-plan-end c = let p = c.plan_of-planned in (own c.args.table.now p.result p.ensures.answer _ p.ensures.plan (omega (arith, c.if-planned-ne0.false))).within
+slice_bounds-plan-end c = let p = c.in-Ok in (own c.args.table.now p.planned p.ensures.answer _ p.ensures.plan).within
 
-pub slice_bounds-put_plan-end : goal.slice_bounds-put_plan-end
-slice_bounds-put_plan-end c = let p = c.plan_of-planned in (own c.args.table.now p.result p.ensures.answer _ p.ensures.plan (omega (arith, c.if-planned-ne0.false))).counts
+pub invariant_of-plan-clause-formed : goal.invariant_of-plan-clause-formed
+invariant_of-plan-clause-formed c = let p = c.in-Ok in (own c.args.table.now p.planned p.ensures.answer _ p.ensures.plan).formed
 
 pub put_plan-requires : goal.put_plan-requires
 put_plan-requires c =
     let a = c.args in
-    let p = c.plan_of-planned in
-    let z : p.result.refusal ≡ 0 = omega (arith, c.if-planned-ne0.false) in record { plan_value = (own a.table.now p.result p.ensures.answer _ p.ensures.plan z).formed; additions_value = plan-adds a.table.now p.result p.ensures.answer _ p.ensures.plan z; ones_in_bounds = plan-fits a.table.now p.result p.ensures.answer _ p.ensures.plan z c.from-s.ensures a.out.now c.requires }
+    let p = c.in-Ok in
+    record {
+      additions_value = plan-adds a.table.now p.planned p.ensures.answer _ p.ensures.plan;
+      ones_in_bounds = plan-fits a.table.now p.planned p.ensures.answer _ p.ensures.plan c.from-s.ensures a.out.now c.requires;
+    }
 
 pub returns : goal.returns
 returns c =
-    let p = c.plan_of-planned in
-    same_word (plan-put c.args.table.now p.result p.ensures.answer _ p.ensures.plan (omega (arith, c.if-planned-ne0.false)) c.from-s.ensures) c.put_plan.ensures
+    let p = c.in-Ok in
+    same_word (plan-put c.args.table.now p.planned p.ensures.answer _ p.ensures.plan c.from-s.ensures) c.put_plan.ensures
