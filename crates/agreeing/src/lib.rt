@@ -33,6 +33,7 @@ fn band_agrees(board: &mut [u64], text: &[u8], columns: Lists, rows: Lists, r: u
     let mut weight = columns.weights;
     let mut next = columns.entries;
     let mut c = 0;
+    // by steps of a tile, the last of which is narrower: with `step_by` its measure stays unproved
     while c < columns.count {
         let span = SIDE.min(columns.count - c);
         let tile = Lists {
@@ -64,6 +65,7 @@ pub fn lists_agree(board: &mut [u64], text: &[u8], columns: Lists, rows: Lists) 
     let mut weight = rows.weights;
     let mut next = rows.entries;
     let mut r = 0;
+    // as above, by steps of a tile
     while r < rows.count {
         let k = SIDE.min(rows.count - r);
         let band = Lists {

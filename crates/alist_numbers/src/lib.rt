@@ -79,6 +79,7 @@ fn put_word(text: &mut [u8], start: usize, at: usize, x: u64, base: usize) -> us
 {
     let mut k = at;
     let mut y = x;
+    // y loses its lowest one at each turn: nothing is counted
     while y != 0 {
         k = put_next(text, start, k, base + u64::trailing_zeros(y) as usize + 1);
         y = y & (y - 1);

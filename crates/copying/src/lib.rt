@@ -33,6 +33,7 @@ fn copy_information(plan: &Plan, s: usize, information: &[u8], block: &mut [u8])
 {
     let info = plan.info();
     let mut k = 0;
+    // run by run: each turn says where the next begins
     while k < info.len() {
         let r = together(info, k);
         packets::copy(block, info[k] as usize * s, information, k * s, (r - k) * s);

@@ -62,6 +62,7 @@ fn write_word(table: &mut [u16], at: usize, x: u64, base: usize) -> usize
 {
     let mut k = at;
     let mut y = x;
+    // y loses its lowest one at each turn: nothing is counted
     while y != 0 {
         table[k] = (base + u64::trailing_zeros(y) as usize) as u16;
         k += 1;

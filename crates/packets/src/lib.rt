@@ -7,6 +7,8 @@ ghost use Rattle.packets.specs.Given.{Given, sum_without};
 ghost use Rattle.table.specs.Packets.{packets, joined, mixed};
 ghost use Rattle.lists.specs.Lists.{written};
 
+// A block's n and s are handed on beside it: contracts say what the block holds before and after, and a struct that lends it is no plainer.
+
 // s zeros are written at at.
 pub fn clear(b: &mut [u8], at: usize, s: usize)
     requires { at + s ≤ length b.old }
@@ -98,7 +100,7 @@ fn restore_chunk(
     store(block, p * s + off, &acc);
 }
 
-// The same for fewer than 64, the last.
+// The same for fewer than 64, the last: so many only the call knows, so that no const parameter joins the two.
 fn restore_rest(
     places: &[u16],
     block: &mut [u8],
@@ -127,6 +129,7 @@ pub fn restore(places: &[u16], block: &mut [u8], n: usize, s: usize, skip: usize
         ≡ joined (set (packets s n block.old) p (sum_without places.now block.old n s skip)) }
 {
     let mut i = 0;
+    // the rest starts where this loop ends, so that i outlives it
     while 64 <= s - i {
         restore_chunk(places, block, n, s, skip, p, i);
         i += 64;

@@ -20,6 +20,8 @@ use explain::Told;
 use refusals::{Fault, Refusal};
 use report::Repaired;
 
+// Refusals and kinds are numbers here, and answers plain structs: that is the C interface.
+
 // Where in the block a packet lies: 0 and 0 on refusal.
 #[repr(C)]
 #[derive(Drop)]

@@ -29,6 +29,7 @@ pub fn restore_lost(located: &Located, block: &mut [u8], map: &mut [u8]) -> Turn
         × (fault_found result.fault
         ≡ contradiction located.now.table.size (checks located.now.table.words.now) (state_of located.now.table.size located.now.table.places block.new map.new 0)) }
 {
+    // fixed buffers, and chains of indices in them: there is no heap
     let mut count = [0u16; MOST_CHECKS];
     let mut head = [0u16; MOST_PLACES];
     let mut next = [0u16; MOST_WORDS];

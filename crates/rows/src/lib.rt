@@ -10,6 +10,7 @@ ghost use Rattle.rows.specs.Leads.{Reducible, Lowered, path_of};
 #[derive(Clone, Copy, Debug, PartialEq, Eq)]
 pub struct Reduced {
     pub lead: Option<usize>,
+    // of the places noted in a lent buffer: there is no heap for a list of them
     pub count: usize,
 }
 

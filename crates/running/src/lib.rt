@@ -23,6 +23,7 @@ pub fn run(plan: &Plan, s: usize, steps: usize, block: &mut [u8], scratch: &mut 
     let mut sources = [0u16; LONGEST_RUN];
     let mut additions = 0;
     let mut i = 0;
+    // run by run: each turn says where the next begins
     while i < steps {
         let x = slots::decode(plan.words[at + i]);
         let to = slots::target(x);

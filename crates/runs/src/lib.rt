@@ -92,6 +92,7 @@ fn add_rest(
         block.old scratch.old block.new scratch.new }
 {
     let mut off = 64;
+    // what is left starts where each loop ends, so that off outlives them
     while 128 <= s - off {
         run_chunk::<128>(sources, to, fresh, off, n, s, block, scratch);
         off += 128;

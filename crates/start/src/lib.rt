@@ -82,6 +82,7 @@ fn clear_unmarked(b: &mut [u8], marks: &[u8], first: usize, low: usize, high: us
     ensures { GapCleared marks.now s first low high b.old b.new }
 {
     let mut i = low;
+    // run by run: each turn says where the next begins
     while i < high {
         let from = past(marks, true, first, i, high);
         let to = past(marks, false, first, from, high);

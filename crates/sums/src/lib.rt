@@ -63,7 +63,7 @@ fn lowest_in_chunk(places: &[u16], block: &[u8], n: usize, s: usize, off: usize)
     lowest(&acc)
 }
 
-// The same among fewer than 64, the last.
+// The same among fewer than 64, the last: so many only the call knows, so that no const parameter joins the two.
 fn lowest_in_rest(places: &[u16], block: &[u8], n: usize, s: usize, off: usize) -> Option<usize>
     requires { Given places.now block.now n s
         × ((off ≤ s) × (s < off + 64)) }
@@ -106,6 +106,7 @@ fn vanishes(places: &[u16], block: &[u8], n: usize, s: usize) -> bool
 {
     let mut o = [0u8; 64];
     let mut i = 0;
+    // the rest starts where this loop ends, so that i outlives it
     while 64 <= s - i {
         or_chunk(&mut o, places, block, n, s, i);
         i += 64;
@@ -125,6 +126,7 @@ pub fn sum_of_check(places: &[u16], block: &[u8], n: usize, s: usize) -> Option<
         return None;
     }
     let mut i = 0;
+    // the rest starts where this loop ends, so that i outlives it
     while 64 <= s - i {
         if let Some(r) = lowest_in_chunk(places, block, n, s, i) {
             return Some(i + r);

@@ -10,6 +10,8 @@ ghost use Rattle.tables.specs.Answers.{answered};
 
 use refusals::Refusal;
 
+// Refusals and kinds are numbers here, and answers plain structs: that is the C interface.
+
 // What a maker answers: the refusal, 0 for none, and how many numbers the table has, or bytes the text.
 #[repr(C)]
 #[derive(Drop)]

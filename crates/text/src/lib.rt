@@ -183,6 +183,7 @@ pub fn read_into<F: Read, R: Alloc, P: Print>(
     ensures { IfOk result (λ r. ReadInto r buf.new) }
 {
     let mut n = 0;
+    // each turn goes on behind what was read, however much that is
     while n < buf.len() {
         let Some(more) = read_some(file, rt, err, &mut buf[n..])? else {
             return Ok(None);

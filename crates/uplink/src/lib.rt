@@ -6,6 +6,8 @@ ghost use Rattle.encoder.specs.Encoding.{encode_answer, encode_block_after, enco
 ghost use Rattle.planning.specs.Planning.{planning_answer, planning_plan_after, planning_work_after};
 ghost use Rattle.uplink.specs.Answers.{encoded, planned};
 
+// Refusals and kinds are numbers here, and answers plain structs: that is the C interface.
+
 // What the encoder answers: the refusal, 0 for none, and the additions.
 #[repr(C)]
 #[derive(Drop)]
