@@ -7,8 +7,6 @@ ghost use Rattle.erasure.specs.Offered.{held};
 ghost use Rattle.aerials.specs.Aerials.{heard, packet_of, kind_of, kinds, merged};
 ghost use Rattle.packets.specs.Filling.{Sized};
 
-use table::Table;
-
 // The kinds of a place; those from SILENT on are lost. They are bytes, since they are written into the third map: memory is fixed.
 pub const AGREED: u8 = 0;
 
@@ -58,7 +56,8 @@ fn hear(
 
 // All places: the merged packets in the third block, their kinds in the third map.
 pub fn hear_all(
-    table: &Table,
+    n: usize,
+    s: usize,
     block1: &[u8],
     map1: &[u8],
     block2: &[u8],
@@ -66,22 +65,21 @@ pub fn hear_all(
     block3: &mut [u8],
     map3: &mut [u8],
 )
-    requires { Sized table.now.places table.now.size block1.now map1.now
-        × Sized table.now.places table.now.size block2.now map2.now
-        × Sized table.now.places table.now.size block3.old map3.old }
+    requires { Sized n s block1.now map1.now
+        × Sized n s block2.now map2.now
+        × Sized n s block3.old map3.old }
     ensures block { block3.new
-        ≡ (merged table.now.size
+        ≡ (merged s
         (held block1.now map1.now)
         (held block2.now map2.now)
-        table.now.places).block }
+        n).block }
     ensures kinds { map3.new
-        ≡ kinds table.now.size
+        ≡ kinds s
         (held block1.now map1.now)
         (held block2.now map2.now)
-        table.now.places }
+        n }
 {
-    let s = table.size;
-    for p in 0..table.places {
+    for p in 0..n {
         map3[p] = hear(map1[p], map2[p], block1, block2, block3, p * s, s);
     }
 }

@@ -7,8 +7,6 @@ ghost use Rattle.erasure.specs.Offered.{held};
 ghost use Rattle.lists.specs.Lists.{written};
 ghost use Rattle.packets.specs.Filling.{Sized};
 
-use table::Table;
-
 // A mark of the map: received, lost.
 const RECEIVED: u8 = 0;
 
@@ -46,30 +44,30 @@ fn enter(carried: u8, arrived: u8, block: &mut [u8], arrivals: &[u8], at: usize,
     carried
 }
 
-// All places of the new table, of which n are old.
+// All k places, of which n are old.
 pub fn enter_all(
     n: usize,
-    table: &Table,
+    k: usize,
+    s: usize,
     block: &mut [u8],
     map: &mut [u8],
     arrivals: &[u8],
     arrived: &[u8],
 )
-    requires { Sized table.now.places table.now.size block.old map.old
-        × Sized table.now.places table.now.size arrivals.now arrived.now }
+    requires { Sized k s block.old map.old
+        × Sized k s arrivals.now arrived.now }
     ensures block { block.new
-        ≡ (entered table.now.size n
+        ≡ (entered s n
         (held block.old map.old)
         (held arrivals.now arrived.now)
-        table.now.places).block }
+        k).block }
     ensures map { map.new
-        ≡ (entered table.now.size n
+        ≡ (entered s n
         (held block.old map.old)
         (held arrivals.now arrived.now)
-        table.now.places).map }
+        k).map }
 {
-    let s = table.size;
-    for p in 0..table.places {
+    for p in 0..k {
         let mark = carried(map, n, p);
         map[p] = enter(mark, arrived[p], block, arrivals, p * s, s);
     }

@@ -61,7 +61,7 @@ pub fn full_repair(
     ensures { Answers t.now block.old map.old work.old result block.new map.new work.new }
 {
     let table = Table::new(t)?;
-    if marks::wrong_lengths(&table, block, map) || work.len() != WORK_WORDS {
+    if marks::wrong_lengths(block, map, table.places, table.size) || work.len() != WORK_WORDS {
         return Err(Refusal::Buffer);
     }
     if marks::over(map, 1) {

@@ -25,10 +25,10 @@ fn look(
         (held block.now map.now)
         (held arrivals.now arrived.now)) }
 {
-    if marks::wrong_lengths(new, block, map) {
+    if marks::wrong_lengths(block, map, new.places, new.size) {
         return Err(Refusal::Buffer);
     }
-    if marks::wrong_lengths(new, arrivals, arrived) {
+    if marks::wrong_lengths(arrivals, arrived, new.places, new.size) {
         return Err(Refusal::Buffer);
     }
     if !longer::is_lengthening(old, new) {
@@ -60,7 +60,9 @@ fn go_on(
         (held arrivals.now arrived.now)
         result block.new map.new }
 {
-    entering::enter_all(old.places, new, block, map, arrivals, arrived);
+    entering::enter_all(
+        old.places, new.places, new.size, block, map, arrivals, arrived,
+    );
     Ok(restore::restore_packets(new, block, map)?)
 }
 

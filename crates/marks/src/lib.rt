@@ -10,12 +10,11 @@ ghost use Rattle.erasure.specs.Restoring.{tally, zero_lost};
 
 use table::Table;
 
-// a block and map that aren't of the table's lengths
-pub fn wrong_lengths(table: &Table, block: &[u8], map: &[u8]) -> bool
-    ensures { result
-        ≡ (wrong_length (length block.now) (table.now.places * table.now.size) || wrong_length (length map.now) table.now.places) }
+// a block and map that aren't of n places of s bytes
+pub fn wrong_lengths(block: &[u8], map: &[u8], n: usize, s: usize) -> bool
+    ensures { result ≡ (wrong_length (length block.now) (n * s) || wrong_length (length map.now) n) }
 {
-    block.len() != table.places * table.size || map.len() != table.places
+    n.checked_mul(s) != Some(block.len()) || map.len() != n
 }
 
 // a map byte over most

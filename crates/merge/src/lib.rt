@@ -36,7 +36,16 @@ fn merge_packets(
         (held block3.old map3.old)
         result block3.new map3.new }
 {
-    aerials::hear_all(table, block1, map1, block2, map2, block3, map3);
+    aerials::hear_all(
+        table.places,
+        table.size,
+        block1,
+        map1,
+        block2,
+        map2,
+        block3,
+        map3,
+    );
     let agreed = marks::tally_of(map3, AGREED);
     let single = marks::tally_of(map3, SINGLE);
     let silent = marks::tally_of(map3, SILENT);
@@ -70,13 +79,13 @@ pub fn merge(
         result block3.new map3.new }
 {
     let table = Table::new(t)?;
-    if marks::wrong_lengths(&table, block1, map1) {
+    if marks::wrong_lengths(block1, map1, table.places, table.size) {
         return Err(Refusal::Buffer);
     }
-    if marks::wrong_lengths(&table, block2, map2) {
+    if marks::wrong_lengths(block2, map2, table.places, table.size) {
         return Err(Refusal::Buffer);
     }
-    if marks::wrong_lengths(&table, block3, map3) {
+    if marks::wrong_lengths(block3, map3, table.places, table.size) {
         return Err(Refusal::Buffer);
     }
     if marks::over(map1, 1) {

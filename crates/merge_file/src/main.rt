@@ -3,7 +3,9 @@
 // and map. Where the packets contradict, both are written as merged, zero at the lost places.
 #![tactic(auto)]
 
-ghost use Rattle.std.specs.Prelude.{◌≤◌, length};
+ghost use Rattle.std.specs.Prelude.{true, [], ◌∷◌, ◌≡◌, ◌≤◌, length};
+ghost use Rattle.lists.specs.Lists.{has};
+ghost use Rattle.refusals.specs.Refusals.{number_of};
 
 use merge::Merged;
 use refusals::{Fault, Refusal};
@@ -29,7 +31,9 @@ fn print_counts<P: Print>(out: &P, merged: Merged) -> std::io::Result<()> {
 }
 
 // Says on standard error why nothing is merged.
-fn refuse<P: Print>(err: &P, refusal: Refusal) -> std::io::Result<()> {
+fn refuse<P: Print>(err: &P, refusal: Refusal) -> std::io::Result<()>
+    requires { has (number_of refusal) (1 ∷ 2 ∷ 3 ∷ 4 ∷ 5 ∷ 7 ∷ []) ≡ true }
+{
     match refusal {
         Refusal::Buffer => Print::write_all(
             err,
@@ -38,10 +42,7 @@ fn refuse<P: Print>(err: &P, refusal: Refusal) -> std::io::Result<()> {
         Refusal::Map => {
             Print::write_all(err, b"refused 7: a receiver's map has a byte over 1\n")
         }
-        Refusal::ShortTable | Refusal::Limits | Refusal::Lengths | Refusal::Places => {
-            text::say_table_refused(err, refusal)
-        }
-        _ => text::say_refused(err, refusal),
+        _ => text::say_table_refused(err, refusal),
     }
 }
 
@@ -64,6 +65,19 @@ fn say_contradict<P: Print>(err: &P, fault: Fault) -> std::io::Result<()> {
     text::print_fault(err, fault)
 }
 
+// Says that packets contradict, and writes what is merged.
+fn write_contradicted<R: Runtime, P: Print>(
+    rt: &R,
+    err: &P,
+    fault: Fault,
+    block: &[u8],
+    map: &[u8],
+) -> std::io::Result<()> {
+    let said = say_contradict(err, fault);
+    write_files(rt, err, block, map)?;
+    said
+}
+
 fn merge_into<R: Runtime, P: Print>(
     rt: &R,
     err: &P,
@@ -82,12 +96,15 @@ fn merge_into<R: Runtime, P: Print>(
             }
             Ok(())
         }
-        Err(Refusal::Contradiction(fault)) => {
-            let said = say_contradict(err, fault);
-            write_files(rt, err, block, map)?;
-            said
-        }
-        Err(refusal) => refuse(err, refusal),
+        Err(refusal) => match refusal {
+            Refusal::Contradiction(fault) => write_contradicted(rt, err, fault, block, map),
+            // merging never answers this one, but its contract tells the causes with number 8 apart by check and byte alone
+            Refusal::NoCodeword => {
+                let fault = Fault { check: 0, byte: 0 };
+                write_contradicted(rt, err, fault, block, map)
+            }
+            _ => refuse(err, refusal),
+        },
     }
 }
 

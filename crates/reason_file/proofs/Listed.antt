@@ -24,7 +24,7 @@ at (suc k) kind list after rest reason reason' r e is =
     let a : 0 ≡ suc k = ap (λ (x : WhyAnswer). x.refusal) e in absurd (omega arith)
 
 module _ (t b map work : List ℕ) (p : ℕ) (reason : List ℕ) (r : Reason) (b' map' work' reason' : List ℕ)
-    (x : Explains t b map work p reason (Ok r) b' map' work' reason') where
+    (x : Explains t b map work p reason (why_answer_of (Ok r)) b' map' work' reason') where
   pub list-within : length_of r.told ≤ length reason'
   list-within = at (why_refusal t b map work p reason) _ x.list _ _ reason reason' r x.report x.reason-is
 

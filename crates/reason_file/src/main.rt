@@ -2,7 +2,9 @@
 // repair, and full repair's counts. MAP is the map before any repair. It writes no file.
 #![tactic(auto)]
 
-ghost use Rattle.std.specs.Prelude.{◌≡◌};
+ghost use Rattle.std.specs.Prelude.{true, [], ◌∷◌, ◌≡◌};
+ghost use Rattle.lists.specs.Lists.{has};
+ghost use Rattle.refusals.specs.Refusals.{number_of};
 ghost use Rattle.explain.specs.Telling.{length_of};
 
 use explain::Told;
@@ -14,7 +16,9 @@ use std::rt::Runtime;
 const MOST_BLOCK: usize = 32768;
 
 // Says on standard error why no reason is told.
-fn refuse<P: Print>(err: &P, refusal: Refusal) -> std::io::Result<()> {
+fn refuse<P: Print>(err: &P, refusal: Refusal) -> std::io::Result<()>
+    requires { has (number_of refusal) (1 ∷ 2 ∷ 3 ∷ 4 ∷ 5 ∷ 7 ∷ 14 ∷ 8 ∷ []) ≡ true }
+{
     match refusal {
         Refusal::Buffer => Print::write_all(
             err,
@@ -32,10 +36,7 @@ fn refuse<P: Print>(err: &P, refusal: Refusal) -> std::io::Result<()> {
             err,
             b"refused 8: no codeword agrees with the received packets\n",
         ),
-        Refusal::ShortTable | Refusal::Limits | Refusal::Lengths | Refusal::Places => {
-            text::say_table_refused(err, refusal)
-        }
-        _ => text::say_refused(err, refusal),
+        _ => text::say_table_refused(err, refusal),
     }
 }
 

@@ -50,7 +50,7 @@ pub fn repair(t: &[u16], block: &mut [u8], map: &mut [u8]) -> Result<Repaired, R
     ensures { Answers t.now block.old map.old result block.new map.new }
 {
     let table = Table::new(t)?;
-    if marks::wrong_lengths(&table, block, map) {
+    if marks::wrong_lengths(block, map, table.places, table.size) {
         return Err(Refusal::Buffer);
     }
     if marks::over(map, 1) {

@@ -38,7 +38,7 @@ fn look<'a>(
     ensures words { IfOk result (λ table. table.words ≡ t.entry) }
 {
     let table = Table::new(t)?;
-    if marks::wrong_lengths(&table, block, map)
+    if marks::wrong_lengths(block, map, table.places, table.size)
         || work.len() != WORK_WORDS
         || reason.len() != REASON_NUMBERS
     {

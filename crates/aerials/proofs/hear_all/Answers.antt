@@ -20,13 +20,13 @@ bounds-map2-p c = let e = c.requires.1.marks in omega arith
 pub overflow_mul-p : goal.overflow_mul-p
 overflow_mul-p c =
     let a = c.args in
-    omega (arith, place-fits c.loop-p.p a.table.now.places a.table.now.size c.loop-p-test.true, c.requires.0.bytes, c.well_formed)
+    omega (arith, place-fits c.loop-p.p a.n a.s c.loop-p-test.true, c.requires.0.bytes, c.well_formed)
 
 pub hear-requires : goal.hear-requires
 hear-requires c =
     let a = c.args in
     let f = c.requires in
-    let k = place-fits c.loop-p.p a.table.now.places a.table.now.size c.loop-p-test.true in
+    let k = place-fits c.loop-p.p a.n a.s c.loop-p-test.true in
     (omega (arith, k, f.0.bytes), omega (arith, k, f.1.bytes), omega (arith, k, c.loop-p.invariant.sized.bytes))
 
 pub bounds-map3-p : goal.bounds-map3-p
@@ -39,8 +39,8 @@ loop-p-preserved c =
     let l = c.loop-p in
     let more = c.loop-p-test.true in
     let h = c.hear.ensures in
-    let long = packet-sized (get_or a.map1.now l.p 0) (get_or a.map2.now l.p 0) (part_at a.table.now.size l.p a.block1.now) (part_at a.table.now.size l.p a.block2.now) a.table.now.size
-    (part-sized a.table.now.places a.table.now.size a.block1.now f.0.bytes l.p more) (part-sized a.table.now.places a.table.now.size a.block2.now f.1.bytes l.p more) in
+    let long = packet-sized (get_or a.map1.now l.p 0) (get_or a.map2.now l.p 0) (part_at a.s l.p a.block1.now) (part_at a.s l.p a.block2.now) a.s
+    (part-sized a.n a.s a.block1.now f.0.bytes l.p more) (part-sized a.n a.s a.block2.now f.1.bytes l.p more) in
     (one-filled _ _ _ _ _ _ l.p l.block3 l.map3 l.invariant more _ _ h.packet long h.kind)
 
 pub returns : goal.returns

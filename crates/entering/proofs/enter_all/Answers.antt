@@ -15,12 +15,12 @@ pub bounds-arrived-p : goal.bounds-arrived-p
 bounds-arrived-p c = omega (arith, c.requires.1.marks)
 
 pub overflow_mul-p : goal.overflow_mul-p
-overflow_mul-p c = let a = c.args in omega (arith, place-fits c.loop-p.p a.table.now.places a.table.now.size c.loop-p-test.true, c.requires.0.bytes, c.well_formed)
+overflow_mul-p c = let a = c.args in omega (arith, place-fits c.loop-p.p a.k a.s c.loop-p-test.true, c.requires.0.bytes, c.well_formed)
 
 pub enter-requires : goal.enter-requires
 enter-requires c =
     let a = c.args in
-    let f = place-fits c.loop-p.p a.table.now.places a.table.now.size c.loop-p-test.true in
+    let f = place-fits c.loop-p.p a.k a.s c.loop-p-test.true in
     (omega (arith, f, c.loop-p.invariant.sized.bytes), omega (arith, f, c.requires.1.bytes))
 
 pub bounds-map-p : goal.bounds-map-p
@@ -31,7 +31,7 @@ loop-p-preserved c =
     let a = c.args in
     let l = c.loop-p in
     let h = c.enter.ensures in
-    (entered-more a.n a.table.now.places a.table.now.size a.block.now a.map.now a.arrivals.now a.arrived.now l.p l.block l.map l.invariant c.loop-p-test.true _ c.carried-mark.ensures c.requires.0 c.requires.1 _ _ h.mark h.packet)
+    (entered-more a.n a.k a.s a.block.now a.map.now a.arrivals.now a.arrived.now l.p l.block l.map l.invariant c.loop-p-test.true _ c.carried-mark.ensures c.requires.0 c.requires.1 _ _ h.mark h.packet)
 
 pub returns : goal.returns
 returns c = let l = c.loop-p in

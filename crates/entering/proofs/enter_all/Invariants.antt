@@ -3,4 +3,4 @@ use Rattle.entering.proofs.Going.{Entered}
 use Rattle.entering.proofs.enter_all.Given as goal
 
 abbrev pub invariant-loop-p : goal.invariant-loop-p
-invariant-loop-p l = Entered l.n l.table.places l.table.size l.initial.block l.initial.map l.arrivals l.arrived l.p l.block l.map
+invariant-loop-p l = Entered l.n l.k l.s l.initial.block l.initial.map l.arrivals l.arrived l.p l.block l.map
