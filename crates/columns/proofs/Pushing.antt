@@ -6,13 +6,13 @@ use Prim.Native.Nat.{ℕ, suc, ◌+◌, ◌*◌, ◌^◌, ◌<◌}
 use native.Mathlib.Nat.{pow-suc}
 use native.Mathlib.Numerals.{add-one}
 use native.Mathlib.Omega.{arith}
-use lib.ListN.{length, get_or, take, drop, length-take}
-use lib.Seq.{get_or-drop, get_or-take, take-suc, length-take-le}
+use lib.ListN.{length, get_or, take}
+use lib.Seq.{take-suc, length-take-le}
 use lib.Bits.{bit_xor, xor_block, xor_zero_r}
 use lib.Dec.{eqb}
-use Rattle.lists.specs.Lists.{bxor, has, par}
+use Rattle.lists.specs.Lists.{bxor, has, par, Distinct, Distinct.dnew}
 use Rattle.rule.specs.Buffers.{solved}
-use Rattle.table.specs.Checks.{check, offset, Places}
+use Rattle.table.specs.Checks.{check}
 use Rattle.gf2.specs.Gf2.{bit, num, column, row_of}
 use Rattle.gf2.specs.Bit.{bit-adds}
 use Rattle.lists.specs.Tests.{eqb-true, by_bool}
@@ -21,33 +21,15 @@ use Rattle.gf2.specs.Places.{bit-row}
 use Rattle.live.specs.Live.{Upd}
 use Rattle.columns.specs.Cols.{Columns}
 
--- ---- places that rise lie in a check once
-Rising : List ℕ → Type 0
-Rising l = (i k : ℕ) → i < k → k < length l → get_or l i 0 < get_or l k 0
+-- ---- places that differ lie in a check once
+par-has : (p : ℕ) (l : List ℕ) → Distinct l → par p l ≡ has p l
+par-has p [] d = refl
+par-has p (q ∷ l) (dnew e d) = let ih = par-has p l d in by_bool (eqb p q)
+    (λ z. let n : has p l ≡ false = rw (eqb-true p q z) e in rw (z, ih, n))
+    (λ z. rw (z, ih))
 
-above : (q : ℕ) (l : List ℕ) → ((k : ℕ) → k < length l → q < get_or l k 0) → has q l ≡ false
-above q [] h = refl
-above q (a ∷ l) h = by_bool (eqb q a)
-    (λ e. let z : q ≡ a = eqb-true q a e in let y = h 0 (omega arith) in absurd (omega arith))
-    (λ e. rw e (above q l (λ k z. h (suc k) (omega arith))))
-
-par-has : (p : ℕ) (l : List ℕ) → Rising l → par p l ≡ has p l
-unfolding Rising
-par-has p [] h = refl
-par-has p (q ∷ l) h = let ih = par-has p l (λ i k a b. h (suc i) (suc k) (omega arith) (omega arith)) in by_bool (eqb p q)
-    (λ e. let z : p ≡ q = eqb-true p q e in
-    let n : has p l ≡ false = rw z (above q l (λ k y. h 0 (suc k) (omega arith) (omega arith))) in
-    rw (e, ih, n))
-    (λ e. rw (e, ih))
-
-pub once : (t : List ℕ) (at wt n : ℕ) → Places t at wt n → (p : ℕ) → bit p (row_of (take wt (drop at t))) ≡ has p (take wt (drop at t))
-unfolding Rising
-once t at wt n v p = bit-row p (take wt (drop at t)) ∙ par-has p (take wt (drop at t)) (λ i k a b.
-    let r = v.room in
-    let kw : k < wt = omega (arith, simp length-take at b) in
-    let x : get_or (take wt (drop at t)) i 0 ≡ get_or t (at + i) 0 = get_or-take wt (drop at t) i 0 (omega arith) ∙ get_or-drop at t i 0 in
-    let y : get_or (take wt (drop at t)) k 0 ≡ get_or t (at + k) 0 = get_or-take wt (drop at t) k 0 kw ∙ get_or-drop at t k 0 in
-    rw (x, y) (v.rising i k a kw))
+pub once : (c : List ℕ) → Distinct c → (p : ℕ) → bit p (row_of c) ≡ has p c
+once c d p = bit-row p c ∙ par-has p c d
 
 -- ---- columns
 push-digit : (a b : ℕ) (x y : Bool) → bit_xor (a * 2 + num x) (b * 2 + num y) ≡ bit_xor a b * 2 + num (bxor x y)
@@ -92,30 +74,28 @@ pub start : (g : ℕ → List ℕ) (order owns E col : List ℕ) → Columns E c
 unfolding solved
 start g order owns E col c = rw (map-none E) c
 
-pub turn : (t : List ℕ) (m n j o at wt : ℕ) (order owns E : List ℕ) (k : ℕ) {col d : List ℕ} → Places t (5 + m + offset t j) (get_or t (4 + j) 0) n
-    → j ≡ get_or order k 0 → o ≡ get_or owns k 0 → at ≡ 5 + m + offset t j → wt ≡ get_or t (4 + j) 0
-    → Columns (map (put_in_all (solved (check t m) order owns k)) E) col → Upd (λ a. bit_xor a (get_or col o 0)) col (take wt (drop at t)) d
+-- c is check j, the k-th, and o its own place
+pub turn : (t : List ℕ) (m j o : ℕ) (c order owns E : List ℕ) (k : ℕ) {col d : List ℕ} → Distinct c → c ≡ check t m j → j ≡ get_or order k 0 → o ≡ get_or owns k 0
+    → Columns (map (put_in_all (solved (check t m) order owns k)) E) col → Upd (λ a. bit_xor a (get_or col o 0)) col c d
     → Columns (map (put_in_all (solved (check t m) order owns (k + 1))) E) d
-unfolding solved check
-turn t m n j o at wt order owns E k {col} {d} v qj qo qa qw c u =
-    let T : Solved = record { own = o; check = take wt (drop at t) } in
+unfolding solved
+turn t m j o c order owns E k {col} {d} v qc qj qo h u =
+    let T : Solved = record { own = o; check = c } in
     let R = map (put_in_all (solved (check t m) order owns k)) E in
     let same : ◌≡◌ {A = Solved} (record { own = get_or owns k 0; check = check t m (get_or order k 0) }) T =
-    ap₂ (λ (x y : ℕ). record { own = x; check = check t m y }) (sym qo) (sym qj)
-    ∙ ap₂ (λ (x y : ℕ). record { own = o; check = take x (drop y t) }) (sym qw) (sym qa) in
+    ap₂ (λ (x : ℕ) (y : List ℕ). record { own = x; check = y }) (sym qo) (ap (check t m) (sym qj) ∙ sym qc) in
     let list : map (put_in_all (solved (check t m) order owns (k + 1))) E ≡ map (put_in T) R =
     ap (λ (i : ℕ). map (put_in_all (solved (check t m) order owns i)) E) (add-one k)
     ∙ ap (λ (x : Solved). map (put_in_all (solved (check t m) order owns k ++ (x ∷ []))) E) same
     ∙ map_snoc (solved (check t m) order owns k) T E in
-    let v' : Places t at wt n = rw (qa, qw) v in
     record {
-      each = λ p. by_bool (has p (take wt (drop at t)))
-          (λ h. let a : get_or d p 0 ≡ bit_xor (get_or col p 0) (get_or col o 0) = u.each p ∙ rw h in
-          let b : column (map (put_in T) R) p ≡ bit_xor (column R p) (column R o) = column-put T R p ∙ rw (once t at wt n v' p, h) in
-          a ∙ ap₂ bit_xor (c.each p) (c.each o) ∙ sym (ap (λ (l : List ℕ). column l p) list ∙ b))
-          (λ h. let a : get_or d p 0 ≡ get_or col p 0 = u.each p ∙ rw h in
-          let b : column (map (put_in T) R) p ≡ column R p = column-put T R p ∙ rw (once t at wt n v' p, h) (xor_zero_r _) in
-          a ∙ c.each p ∙ sym (ap (λ (l : List ℕ). column l p) list ∙ b));
+      each = λ p. by_bool (has p c)
+          (λ z. let a : get_or d p 0 ≡ bit_xor (get_or col p 0) (get_or col o 0) = u.each p ∙ rw z in
+          let b : column (map (put_in T) R) p ≡ bit_xor (column R p) (column R o) = column-put T R p ∙ rw (once c v p, z) in
+          a ∙ ap₂ bit_xor (h.each p) (h.each o) ∙ sym (ap (λ (l : List ℕ). column l p) list ∙ b))
+          (λ z. let a : get_or d p 0 ≡ get_or col p 0 = u.each p ∙ rw z in
+          let b : column (map (put_in T) R) p ≡ column R p = column-put T R p ∙ rw (once c v p, z) (xor_zero_r _) in
+          a ∙ h.each p ∙ sym (ap (λ (l : List ℕ). column l p) list ∙ b));
     }
 
 -- ---- the columns of the checks set aside, one check more
@@ -141,28 +121,25 @@ rows-length : (g : ℕ → List ℕ) (l : List ℕ) → length (map row_of (map 
 rows-length g [] = refl
 rows-length g (x ∷ l) = ap suc (rows-length g l)
 
-pub fill-turn : (t : List ℕ) (m n j at wt i c : ℕ) (aside : List ℕ) {col d : List ℕ} → Places t (5 + m + offset t j) (get_or t (4 + j) 0) n
-    → i < length aside → j ≡ get_or aside i 0 → at ≡ 5 + m + offset t j → wt ≡ get_or t (4 + j) 0 → c ≡ 2 ^ i
-    → Columns (map row_of (map (check t m) (take i aside))) col → Upd (λ a. bit_xor a c) col (take wt (drop at t)) d
+-- c is check j, the i-th
+pub fill-turn : (t : List ℕ) (m j i w : ℕ) (c aside : List ℕ) {col d : List ℕ} → Distinct c → c ≡ check t m j → i < length aside → j ≡ get_or aside i 0 → w ≡ 2 ^ i
+    → Columns (map row_of (map (check t m) (take i aside))) col → Upd (λ a. bit_xor a w) col c d
     → Columns (map row_of (map (check t m) (take (i + 1) aside))) d
-unfolding check
-fill-turn t m n j at wt i c aside {col} {d} v il qj qa qw qc k u =
+fill-turn t m j i w c aside {col} {d} v qc il qj qw k u =
     let E = map row_of (map (check t m) (take i aside)) in
-    let r = row_of (take wt (drop at t)) in
-    let same : check t m (get_or aside i 0) ≡ take wt (drop at t) = ap (check t m) (sym qj) ∙ ap₂ (λ (x y : ℕ). take x (drop y t)) (sym qw) (sym qa) in
+    let r = row_of c in
     let list : map row_of (map (check t m) (take (i + 1) aside)) ≡ E ++ (r ∷ []) =
     ap (λ (x : ℕ). map row_of (map (check t m) (take x aside))) (add-one i)
     ∙ ap (λ (l : List ℕ). map row_of (map (check t m) l)) (take-suc aside i 0 il)
     ∙ rows_snoc (check t m) (take i aside) (get_or aside i 0)
-    ∙ ap (λ (l : List ℕ). E ++ (row_of l ∷ [])) same in
+    ∙ ap (λ (l : List ℕ). E ++ (row_of l ∷ [])) (ap (check t m) (sym qj) ∙ sym qc) in
     let len : length E ≡ i = rows-length (check t m) (take i aside) ∙ length-take-le i aside (omega arith) in
-    let v' : Places t at wt n = rw (qa, qw) v in
     record {
-      each = λ p. by_bool (has p (take wt (drop at t)))
-          (λ h. let a : get_or d p 0 ≡ bit_xor (get_or col p 0) c = u.each p ∙ rw h in
-          let b : column (E ++ (r ∷ [])) p ≡ bit_xor (column E p) (2 ^ length E) = column-snoc E r p ∙ rw (once t at wt n v' p, h) in
-          a ∙ ap₂ bit_xor (k.each p) (qc ∙ ap (λ (x : ℕ). 2 ^ x) (sym len)) ∙ sym (ap (λ (l : List ℕ). column l p) list ∙ b))
+      each = λ p. by_bool (has p c)
+          (λ h. let a : get_or d p 0 ≡ bit_xor (get_or col p 0) w = u.each p ∙ rw h in
+          let b : column (E ++ (r ∷ [])) p ≡ bit_xor (column E p) (2 ^ length E) = column-snoc E r p ∙ rw (once c v p, h) in
+          a ∙ ap₂ bit_xor (k.each p) (qw ∙ ap (λ (x : ℕ). 2 ^ x) (sym len)) ∙ sym (ap (λ (l : List ℕ). column l p) list ∙ b))
           (λ h. let a : get_or d p 0 ≡ get_or col p 0 = u.each p ∙ rw h in
-          let b : column (E ++ (r ∷ [])) p ≡ column E p = column-snoc E r p ∙ rw (once t at wt n v' p, h) (xor_zero_r _) in
+          let b : column (E ++ (r ∷ [])) p ≡ column E p = column-snoc E r p ∙ rw (once c v p, h) (xor_zero_r _) in
           a ∙ k.each p ∙ sym (ap (λ (l : List ℕ). column l p) list ∙ b));
     }

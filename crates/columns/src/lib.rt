@@ -1,11 +1,12 @@
 // Step 5 of the rule: the columns of the set-aside checks, the fitted places and the rows of the inverse.
 #![tactic(auto)]
 
-ghost use Rattle.std.specs.Prelude.{List, [], map, ℕ, ◌≤◌, ◌<◌, length, get_or, take, drop};
+ghost use Rattle.std.specs.Prelude.{List, [], map, ℕ, ◌≤◌, ◌<◌, length, get_or, take};
 ghost use Rattle.std.specs.Int.Bits.{bit_xor};
+ghost use Rattle.lists.specs.Lists.{All, Distinct};
 ghost use Rattle.rule.specs.Rule.{put_in_all};
 ghost use Rattle.rule.specs.Buffers.{solved, Fitted};
-ghost use Rattle.table.specs.Checks.{check, Places};
+ghost use Rattle.table.specs.Checks.{check};
 ghost use Rattle.table.specs.Table.{places};
 ghost use Rattle.live.specs.Live.{Upd};
 ghost use Rattle.columns.specs.Cols.{Columns, Taken};
@@ -14,14 +15,14 @@ ghost use Rattle.gf2.specs.Gf2.{row_of};
 
 use table::{Located, MOST_PLACES};
 
-// c added into the columns of a check's places
-fn spread(col: &mut [u32], t: &[u16], at: usize, weight: usize, c: u32)
-    requires { Places t.now at weight (length col.old) }
-    ensures { Upd (λ a. bit_xor a c) col.old (take weight (drop at t.now)) col.new }
+// c added into the columns of these places
+fn spread(col: &mut [u32], places: &[u16], c: u32)
+    requires places { All (λ p. p < length col.old) places.now }
+    requires apart { Distinct places.now }
+    ensures { Upd (λ a. bit_xor a c) col.old places.now col.new }
 {
-    for i in 0..weight {
-        let p = usize::from(t[at + i]);
-        col[p] ^= c;
+    for p in places {
+        col[usize::from(*p)] ^= c;
     }
 }
 
@@ -32,27 +33,20 @@ pub fn fill_columns(col: &mut [u32], located: &Located, aside: &[u16], g: usize)
     requires empty { Columns [] col.old }
     ensures { Columns (map row_of (map (check located.now.table.words.now located.now.table.checks) (take g aside.now))) col.new }
 {
-    let t = located.table.words;
     for i in 0..g {
-        let j = usize::from(aside[i]);
-        spread(
-            col,
-            t,
-            usize::from(located.starts[j]),
-            usize::from(t[4 + j]),
-            1 << i,
-        );
+        spread(col, located.check(usize::from(aside[i])), 1 << i);
     }
 }
 
 // one solved check put in
-fn push(col: &mut [u32], t: &[u16], at: usize, weight: usize, own: usize)
-    requires { Places t.now at weight (length col.old)
-        × (own < length col.old) }
-    ensures { Upd (λ a. bit_xor a (get_or col.old own 0)) col.old (take weight (drop at t.now)) col.new }
+fn push(col: &mut [u32], places: &[u16], own: usize)
+    requires places { All (λ p. p < length col.old) places.now }
+    requires apart { Distinct places.now }
+    requires own { own < length col.old }
+    ensures { Upd (λ a. bit_xor a (get_or col.old own 0)) col.old places.now col.new }
 {
     let c = col[own];
-    spread(col, t, at, weight, c);
+    spread(col, places, c);
 }
 
 // all of them, in the order of taking
@@ -63,16 +57,9 @@ pub fn push_all(col: &mut [u32], located: &Located, order: &[u16], owns: &[u16],
     ensures { (E : List ℕ) → Columns E col.old
         → Columns (map (put_in_all (solved (check located.now.table.words.now located.now.table.checks) order.now owns.now taken)) E) col.new }
 {
-    let t = located.table.words;
     for k in 0..taken {
-        let j = usize::from(order[k]);
-        push(
-            col,
-            t,
-            usize::from(located.starts[j]),
-            usize::from(t[4 + j]),
-            usize::from(owns[k]),
-        );
+        let places = located.check(usize::from(order[k]));
+        push(col, places, usize::from(owns[k]));
     }
 }
 

@@ -6,47 +6,32 @@ use native.Mathlib.Numerals.{add-one}
 use native.Mathlib.Omega.{arith}
 use lib.ListN.{length, get_or, take, drop, drop_of_length-le, replicate}
 use lib.Seq.{drop-cons, get_or-take, length-take-le}
-use Rattle.lists.specs.Lists.{rev, has, minus}
+use Rattle.lists.specs.Lists.{rev, has, minus, All, All.nil, All.cons}
+use Rattle.lists.specs.ListLaws.{all_map}
 use Rattle.lists.specs.Tests.{eqb-lt, by_bool}
-use Rattle.table.specs.Accepted.{Accepted, few-places, each-places, places-wide}
-use Rattle.table.specs.Checks.{check, offset, Places}
+use Rattle.table.specs.Accepted.{Accepted, each-places}
+use Rattle.table.specs.Checks.{check}
+use Rattle.table.specs.SumLaws.{places-low}
 use Rattle.table.specs.Table.{most_places, places, size, number}
 use Rattle.plan.specs.Step.{pack}
 use Rattle.rule.specs.Buffers.{solved, mask_bits}
 use Rattle.rule.specs.Rule.{Solved, clear_and_add, solving_steps, scratch_steps, slots_named}
-use Rattle.emit.specs.Emit.{marked, solved_in, aside_in, fitting_rows, Readable}
+use Rattle.emit.specs.Emit.{marked, solved_in, aside_in, fitting_rows}
 use Rattle.emit.specs.MarkLaws.{solving-same, none-marked}
 use Rattle.emit.specs.PackedLaws.{packed-append}
-use Rattle.emit.proofs.Sums.{part_length, part_at}
 
--- ---- a check as code reads it
-check-is : (t : List ℕ) (m j start weight : ℕ) → start ≡ 5 + m + offset t j → weight ≡ get_or t (4 + j) 0 → take weight (drop start t) ≡ check t m j
-unfolding check
-check-is t m j start weight a b = ap₂ (λ s w. take w (drop s t)) a b
-
-pub check-read : {t starts marks : List ℕ} (start weight j : ℕ) → Readable t starts marks → j < number t → start ≡ get_or starts j 0 → weight ≡ get_or t (4 + j) 0
-    → (take weight (drop start t) ≡ check t (number t) j) × Places t start weight most_places
-check-read {t} start weight j r h a b =
-    let s : start ≡ 5 + number t + offset t j = a ∙ r.located.starts-at.each j h in
-    let k = r.located.table in
-    (check-is t (number t) j start weight s b, places-wide _ _ _ _ k j h start weight s b most_places (few-places _ _ _ _ k))
-
+-- ---- a check
 -- its places are below n
-check-low : (t : List ℕ) (n j : ℕ) → Accepted t (number t) n (size t) → j < number t → (i : ℕ) → i < length (check t (number t) j) → get_or (check t (number t) j) i 0 < n
+pub check-low : {t : List ℕ} {m n s : ℕ} → Accepted t m n s → (j : ℕ) → j < m → All (λ p. p < n) (check t m j)
 unfolding check
-check-low t n j c h i l =
-    let p = each-places _ _ _ _ c j h in
-    let at = 5 + number t + offset t j in
-    let e = part_length t at (get_or t (4 + j) 0) p.room in
-    let b = p.below i (omega arith) in
-    rw (← part_at t at (get_or t (4 + j) 0) i (omega arith)) b
+check-low a j h = places-low (each-places _ _ _ _ a j h)
 
 -- a slot above its places is none of them
-minus-above : (to : ℕ) (c X : List ℕ) → ((i : ℕ) → i < length c → get_or c i 0 < to) → minus c (to ∷ X) ≡ minus c X
-minus-above to [] X h = refl
-minus-above to (p ∷ c) X h =
-    let ih = minus-above to c X (λ i l. h (suc i) (omega arith)) in
-    rw (eqb-lt p to (h 0 (omega arith))) (by_bool (has p X) (λ e. rw e ih) (λ e. rw e (ap (λ l. p ∷ l) ih)))
+minus-above : (to : ℕ) {c : List ℕ} (X : List ℕ) → All (λ p. p < to) c → minus c (to ∷ X) ≡ minus c X
+minus-above to X nil = refl
+minus-above to X (cons {x = p} h a) =
+    let ih = minus-above to X a in
+    rw (eqb-lt p to h) (by_bool (has p X) (λ e. rw e ih) (λ e. rw e (ap (λ l. p ∷ l) ih)))
 
 -- ---- the solved checks, the last taken first
 rev-snoc : (l : List Solved) (x : Solved) → rev (l ++ (x ∷ [])) ≡ x ∷ rev l
@@ -92,7 +77,7 @@ scratches-next skip t aside g i c r h k =
     let d : drop i (take g aside) ≡ j ∷ drop (i + 1) (take g aside) =
     drop-cons (take g aside) i 0 (omega arith) ∙ ap₂ (λ x k. x ∷ drop k (take g aside)) (get_or-take g aside i 0 h) (sym (add-one i)) in
     let m : minus (check t (number t) j) X ≡ minus (check t (number t) j) (to ∷ X) =
-    sym (minus-above to (check t (number t) j) X (λ p l. let b = check-low t (places t) j c k p l in omega arith)) in
+    sym (minus-above to X (all_map (λ p l. omega arith) (check-low c j k))) in
     let s : suc to ≡ places t + (i + 1) = omega arith in
     let rest = map (check t (number t)) (drop (i + 1) (take g aside)) in
     ap (λ x. map pack (scratch_steps to X (map (check t (number t)) x))) d

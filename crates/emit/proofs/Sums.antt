@@ -1,12 +1,11 @@
 -- The places that a check gives to a slot, one after the other.
 use mathlib.Core.Path.{◌≡◌, sym, ap, ap₂, ◌∙◌}
 use mathlib.Core.List.{List, ◌∷◌, map}
-use Prim.Native.Nat.{ℕ, ◌+◌, ◌<◌, ◌≤◌}
+use Prim.Native.Nat.{ℕ, ◌+◌, ◌<◌}
 use native.Mathlib.Numerals.{add-one}
-use native.Mathlib.Omega.{arith}
 use borrow.Author.Tests.{eq-eqb, ne_eqb}
-use lib.ListN.{length, get_or, take, drop, length-drop, length-map}
-use lib.Seq.{drop-cons, get_or-take, get_or-drop, length-take-le}
+use lib.ListN.{length, get_or, drop, length-map}
+use lib.Seq.{drop-cons}
 use Rattle.lists.specs.Lists.{minus}
 use Rattle.plan.specs.declared.Step.TheVariants.{Add}
 use Rattle.plan.specs.Step.{pack}
@@ -37,10 +36,3 @@ module _ (to : ℕ) (skip c : List ℕ) (i p : ℕ) (h : i < length c) (q : p �
   pub adds-next : (p ≡ to → ⊥) → (get_or skip p 0 ≡ 1 → ⊥) → adds to skip (drop i c) ≡ pack (Add to p) ∷ adds to skip (drop (i + 1) c)
   adds-next n e = ap (adds to skip) next ∙ ap (λ l. map pack (map (Add to) l))
       (minus-in p (drop (i + 1) c) (to ∷ marked skip) (rw (ne_eqb p to n) (has-marked skip p ∙ ne_eqb (get_or skip p 0) 1 e)))
-
--- a part of a list, place by place
-pub part_length : (l : List ℕ) (start weight : ℕ) → start + weight ≤ length l → length (take weight (drop start l)) ≡ weight
-part_length l start weight h = length-take-le weight (drop start l) (simp length-drop (omega arith))
-
-pub part_at : (l : List ℕ) (start weight i : ℕ) → i < weight → get_or l (start + i) 0 ≡ get_or (take weight (drop start l)) i 0
-part_at l start weight i h = sym (get_or-take weight (drop start l) i 0 h ∙ get_or-drop start l i 0)

@@ -1,8 +1,8 @@
 // The sections of a plan's steps as numbers: one check, a pass over the solved checks, the checks set aside, the fitted places.
 #![tactic(auto)]
 
-ghost use Rattle.std.specs.Prelude.{◌≡◌, ◌≤◌, ◌<◌, length, take, drop};
-ghost use Rattle.table.specs.Checks.{Places};
+ghost use Rattle.std.specs.Prelude.{◌≡◌, ◌≤◌, ◌<◌, length, take};
+ghost use Rattle.lists.specs.Lists.{All};
 ghost use Rattle.table.specs.Table.{most_places, number, places};
 ghost use Rattle.rule.specs.Buffers.{mask_width};
 ghost use Rattle.emit.specs.Emit.{Room, WroteSteps, marking, Readable, Numbers, Below};
@@ -28,27 +28,17 @@ pub fn mark(marks: &mut [u8], places: &[u16], count: usize)
 // ---- the steps, from plan[at] on; the place behind them is returned
 
 // slot to is cleared, and given a check's places, without itself and without the marked ones
-fn sum_check(
-    plan: &mut [u32],
-    at: usize,
-    t: &[u16],
-    start: usize,
-    weight: usize,
-    to: usize,
-    skip: &[u8],
-) -> usize
-    requires room { Room plan.old at (sum_steps (take weight (drop start t.now)) to skip.now) }
-    requires check { Places t.now start weight most_places }
+fn sum_check(plan: &mut [u32], at: usize, places: &[u16], to: usize, skip: &[u8]) -> usize
+    requires room { Room plan.old at (sum_steps places.now to skip.now) }
+    requires check { All (λ p. p < most_places) places.now }
     requires marks { most_places ≤ length skip.now }
     requires slot { to < 4096 }
-    ensures { WroteSteps plan.old at
-        (sum_steps (take weight (drop start t.now)) to skip.now)
-        plan.new result }
+    ensures { WroteSteps plan.old at (sum_steps places.now to skip.now) plan.new result }
 {
     plan[at] = Step::Clear(to).pack();
     let mut k = at + 1;
-    for i in 0..weight {
-        let p = usize::from(t[start + i]);
+    for p in places {
+        let p = usize::from(*p);
         if p != to {
             if skip[p] != 1 {
                 plan[k] = Step::Add(to, p).pack();
@@ -76,16 +66,7 @@ fn check_into(
         (check_steps located.now.table.words.now j to skip.now)
         plan.new result }
 {
-    let t = located.table.words;
-    sum_check(
-        plan,
-        at,
-        t,
-        usize::from(located.starts[j]),
-        usize::from(t[4 + j]),
-        to,
-        skip,
-    )
+    sum_check(plan, at, located.check(j), to, skip)
 }
 
 // the solved checks, the last taken first, without the marked places

@@ -1,2 +1,1 @@
-pub mod Freed
 pub mod Most

@@ -1,36 +1,35 @@
 // Live checks: how many hold each place, and the place in exactly one of them.
 #![tactic(auto)]
 
-ghost use Rattle.std.specs.Prelude.{◌≡◌, ℕ, ◌+◌, ◌≤◌, ◌<◌, eqb, length, get_or, take, drop};
-ghost use Rattle.lists.specs.Lists.{highest};
-ghost use Rattle.table.specs.Checks.{Places};
+ghost use Rattle.std.specs.Prelude.{◌≡◌, ◌≤◌, ◌<◌, eqb, length, get_or};
+ghost use Rattle.lists.specs.Lists.{highest, All, Distinct};
 ghost use Rattle.live.specs.Live.{Noted, Forgot, Raised, found};
 
-// check j, the weight places of t from at, becomes live
-pub fn note(count: &mut [u16], names: &mut [u16], t: &[u16], at: usize, weight: usize, j: u16)
-    requires places { Places t.now at weight (length count.old) }
+// check j, with these places, becomes live
+pub fn note(count: &mut [u16], names: &mut [u16], places: &[u16], j: u16)
+    requires places { All (λ p. p < length count.old) places.now }
+    requires apart { Distinct places.now }
     requires names { length count.old ≤ length names.old }
-    requires room { (i : ℕ) → i < weight → get_or count.old (get_or t.now (at + i) 0) 0 < 65535 }
-    ensures { Noted count.old names.old (take weight (drop at t.now)) j
-        count.new names.new }
+    requires room { All (λ p. get_or count.old p 0 < 65535) places.now }
+    ensures { Noted count.old names.old places.now j count.new names.new }
 {
-    for i in 0..weight {
-        let p = usize::from(t[at + i]);
+    for p in places {
+        let p = usize::from(*p);
         count[p] += 1;
         names[p] ^= j;
     }
 }
 
 // check j is no longer live; one function for this and note would take a closure, and clauses on it longer than these lines
-pub fn forget(count: &mut [u16], names: &mut [u16], t: &[u16], at: usize, weight: usize, j: u16)
-    requires places { Places t.now at weight (length count.old) }
+pub fn forget(count: &mut [u16], names: &mut [u16], places: &[u16], j: u16)
+    requires places { All (λ p. p < length count.old) places.now }
+    requires apart { Distinct places.now }
     requires names { length count.old ≤ length names.old }
-    requires live { (i : ℕ) → i < weight → 0 < get_or count.old (get_or t.now (at + i) 0) 0 }
-    ensures { Forgot count.old names.old (take weight (drop at t.now)) j
-        count.new names.new }
+    requires live { All (λ p. 0 < get_or count.old p 0) places.now }
+    ensures { Forgot count.old names.old places.now j count.new names.new }
 {
-    for i in 0..weight {
-        let p = usize::from(t[at + i]);
+    for p in places {
+        let p = usize::from(*p);
         count[p] -= 1;
         names[p] ^= j;
     }
@@ -49,15 +48,15 @@ pub fn single(count: &[u16], n: usize) -> Option<usize>
     None
 }
 
-// top, raised above each of the weight places of t from at that lies in exactly one live check
-pub fn raise(count: &[u16], t: &[u16], at: usize, weight: usize, top: usize) -> usize
-    requires places { Places t.now at weight (length count.now) }
+// top, raised above each of the places that lies in exactly one live check
+pub fn raise(count: &[u16], places: &[u16], top: usize) -> usize
+    requires places { All (λ p. p < length count.now) places.now }
     requires top { top ≤ length count.now }
-    ensures { Raised count.now t.now at weight top result }
+    ensures { Raised count.now places.now top result }
 {
     let mut r = top;
-    for i in 0..weight {
-        let p = usize::from(t[at + i]);
+    for p in places {
+        let p = usize::from(*p);
         if count[p] == 1 {
             r = r.max(p + 1);
         }

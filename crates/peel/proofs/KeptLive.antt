@@ -13,10 +13,10 @@ use Rattle.gf2.specs.Gf2.{is_zero, choose, xor_group, row_of, is_sum}
 use Rattle.lists.specs.ListLaws.{all-at, get_d-zeros, all_map}
 use Rattle.lists.specs.Lists.{has, All, All.nil, All.cons, count, from}
 use Rattle.lists.specs.Numbers.{from_all}
-use Rattle.table.specs.Checks.{check, offset}
+use Rattle.table.specs.Checks.{check}
 use Rattle.table.specs.Table.{total}
 use Rattle.keep.specs.Kept.{kept_of}
-use Rattle.live.specs.Live.{Tally, Noted}
+use Rattle.live.specs.Live.{Tally}
 use Rattle.live.specs.TallyLaws.{tally-more}
 use Rattle.freed.specs.Most.{lives}
 use Rattle.peel.specs.Choice.{weight}
@@ -128,10 +128,6 @@ pub noting-stop : {t : List ℕ} {m n : ℕ} {live c x : List ℕ} → Noting t 
 noting-stop {t} {m} {n} {live} {c} {x} s fl cn nm =
     let e = lives-kept t m live s.flags in
     record { ready = record { flags = fl; counts = cn; named = nm; tally = rw e s.tally }; list = e }
-
-pub noted-check : (t : List ℕ) (m j : ℕ) {at wt : ℕ} {c x d y : List ℕ} → at ≡ 5 + m + offset t j → wt ≡ get_or t (4 + j) 0 → Noted c x (take wt (drop at t)) j d y → Noted c x (check t m j) j d y
-unfolding check
-noted-check t m j {at} {wt} {c} {x} {d} {y} a b u = subst (λ (ps : List ℕ). Noted c x ps j d y) (ap₂ (λ (k i : ℕ). take k (drop i t)) b a) u
 
 -- ---- the ones
 pub ones-start : {t : List ℕ} {m k : ℕ} {ids : List ℕ} → Numbers t m ids k → 0 ≡ total (map (weight t) (drop k (kept_of t m)))

@@ -5,8 +5,7 @@ use mathlib.Core.List.{List, [], ◌∷◌, map}
 use mathlib.Core.Option.{none, some}
 use Prim.Native.Nat.{ℕ, suc, ◌+◌, ◌<◌}
 use native.Mathlib.Omega.{arith}
-use lib.ListN.{length, get_or, take, drop, length-take, get_or-eq_default}
-use lib.Seq.{get_or-take, get_or-drop}
+use lib.ListN.{length, get_or, get_or-eq_default}
 use lib.Dec.{eqb, ltb}
 use borrow.Author.Tests.{eq-eqb, ltb-true, ltb-false}
 use Rattle.lists.specs.Tests.{eqb-true, by_bool}
@@ -53,17 +52,12 @@ has-find p (q ∷ l) h f = by_bool (eqb p q)
     (λ e. f 0 (omega arith) (sym (eqb-true p q e)))
     (λ e. has-find p l (rw e at h) (λ k z o. f (suc k) (omega arith) o))
 
-pub calm-less : {c x d y t : List ℕ} {at wt j top r : ℕ} → Calm c top → Forgot c x (take wt (drop at t)) j d y → Raised d t at wt top r → Calm d r
-calm-less {c} {x} {d} {y} {t} {at} {wt} {j} {top} {r} s u v =
-    let ps = take wt (drop at t) in
+pub calm-less : {c x d y ps : List ℕ} {j top r : ℕ} → Calm c top → Forgot c x ps j d y → Raised d ps top r → Calm d r
+calm-less {c} {x} {d} {y} {ps} {j} {top} {r} s u v =
     let low = v.low in
     record {
       most = v.most;
       above = λ p a o. by_bool (has p ps)
-          (λ h. has-find p ps h (λ k z e.
-          let l : k < wt = omega (arith, simp length-take at z) in
-          let q : get_or t (at + k) 0 ≡ p = sym (get_or-take wt (drop at t) k 0 l ∙ get_or-drop at t k 0) ∙ e in
-          let b = v.above k l (rw q o) in
-          omega arith))
+          (λ h. has-find p ps h (λ k z e. let b = v.above k z (rw e o) in omega arith))
           (λ h. s.above p (omega arith) (sym (u.counts.each p ∙ rw h) ∙ o));
     }

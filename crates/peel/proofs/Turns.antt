@@ -1,23 +1,21 @@
 -- Laws of one turn.
-use mathlib.Core.Path.{◌≡◌, refl, sym, ap, ap₂, ◌∙◌, subst, fun_ext}
+use mathlib.Core.Path.{◌≡◌, refl, sym, ap, ◌∙◌, subst, fun_ext}
 use mathlib.Core.Bool.{Bool, true, false, cond, true≢false}
 use mathlib.Core.List.{List, [], ◌∷◌, ◌++◌, map}
 use mathlib.Core.Option.{Option, none, some}
 use Prim.Native.Nat.{ℕ, zero, suc, ◌+◌, ◌<◌, ◌≤◌}
 use native.Mathlib.Nat.{suc_inj}
 use native.Mathlib.Omega.{arith}
-use lib.ListN.{length, get_or, set, take, drop, length-set, length-drop, length-take}
-use lib.Seq.{get_or-drop, get_or-take, get_or-set_same, get_or-set_other}
+use lib.ListN.{length, get_or, set, length-set}
+use lib.Seq.{get_or-set_same, get_or-set_other}
 use lib.Bits.{bit_xor, xor_zero_r, xor_zero_l}
 use lib.Dec.{eqb, leb}
 use borrow.Author.Tests.{leb-true, leb-false, eq-eqb, ne_eqb}
 use Rattle.gf2.specs.Gf2.{xor_group, sum_over}
-use Rattle.table.specs.Accepted.{Accepted, each-places}
-use Rattle.table.specs.Checks.{check, offset}
-use Rattle.table.specs.Table.{size}
+use Rattle.table.specs.Checks.{check}
 use Rattle.lists.specs.Tests.{eqb-true, eqb-false, eqb-self, by_bool}
 use Rattle.lists.specs.Lists.{highest, has, All, All.nil, All.cons, count}
-use Rattle.lists.specs.ListLaws.{highest-is, all_map, map-all}
+use Rattle.lists.specs.ListLaws.{highest-is, all_map, all-self, map-all}
 use Rattle.rule.specs.Choices.{FirstMost, most-passes, most-first, most-rest}
 use Rattle.rule.specs.Rule.{first, without, freed, worth_most}
 use Rattle.live.specs.Live.{Tally, Forgot, found}
@@ -206,41 +204,24 @@ count-in : (g : ℕ → List ℕ) (p j : ℕ) {JS : List ℕ} → In j JS → ha
 count-in g p j here e = rw (e, count) (omega arith)
 count-in g p j (there {i = i} h) e = by_bool (has p (g i)) (λ k. rw (k, count) (omega arith)) (λ k. rw (k, count) (count-in g p j h e))
 
-has-at : (l : List ℕ) (i : ℕ) → i < length l → has (get_or l i 0) l ≡ true
-has-at [] i h = absurd (omega arith)
-has-at (a ∷ l) zero h = rw (eqb-self a)
-has-at (a ∷ l) (suc i) h = by_bool (eqb (get_or l i 0) a) (λ e. rw e) (λ e. rw e (has-at l i (omega arith)))
+pub counted : (g : ℕ → List ℕ) (j : ℕ) {JS c x : List ℕ} → Tally g JS c x → In j JS → All (λ p. 0 < get_or c p 0) (g j)
+counted g j s h = all_map (λ p e. rw (s.counts p) (count-in g p j h e)) (all-self (g j))
 
-pub counted : (t : List ℕ) (m n j i : ℕ) {JS c x : List ℕ} → Accepted t m n (size t) → Tally (check t m) JS c x → In j JS → j < m → i < get_or t (4 + j) 0
-    → 0 < get_or c (get_or t (5 + m + offset t j + i) 0) 0
-unfolding check
-counted t m n j i {JS} {c} v s h k l =
-    let at = 5 + m + offset t j in
-    let wt = get_or t (4 + j) 0 in
-    let r = (each-places _ _ _ _ v j k).room in
-    let len : i < length (take wt (drop at t)) = simp (length-take, length-drop) (omega arith) in
-    let e : get_or (take wt (drop at t)) i 0 ≡ get_or t (at + i) 0 = get_or-take wt (drop at t) i 0 l ∙ get_or-drop at t i 0 in
-    let y : has (get_or t (at + i) 0) (take wt (drop at t)) ≡ true = rw e at (has-at (take wt (drop at t)) i len) in
-    rw (s.counts (get_or t (at + i) 0)) (count-in (check t m) (get_or t (at + i) 0) j h y)
-
-pub removed : (t : List ℕ) (m j : ℕ) {n at wt : ℕ} {live c x d y : List ℕ} → Ready t m n live c x → In j (lives live 0 m) → at ≡ 5 + m + offset t j → wt ≡ get_or t (4 + j) 0
-    → Forgot c x (take wt (drop at t)) j d y → Removed t m n j live (set live j 0) d y
-unfolding check
-removed t m j {n} {at} {wt} {live} {c} {x} {d} {y} r h a b u =
+pub removed : (t : List ℕ) (m j : ℕ) {n : ℕ} {live c x d y : List ℕ} → Ready t m n live c x → In j (lives live 0 m) → Forgot c x (check t m j) j d y
+    → Removed t m n j live (set live j 0) d y
+removed t m j {n} {live} {c} {x} {d} {y} r h u =
     let l = lives-set live m j r.flags h in
-    let q : take wt (drop at t) ≡ check t m j = ap₂ (λ (k i : ℕ). take k (drop i t)) b a in
     let fl = r.flags in
     let cn = r.counts in
     let nm = r.named in
     let ul = u.counts.len in
     let un = u.names.len in
-    let u' : Forgot c x (check t m j) j d y = subst (λ (ps : List ℕ). Forgot c x ps j d y) q u in
     record {
       ready = record {
         flags = simp length-set (omega arith);
         counts = omega arith;
         named = omega arith;
-        tally = rw l (tally-less (check t m) j (in-out j h) r.tally u');
+        tally = rw l (tally-less (check t m) j (in-out j h) r.tally u);
       };
       list = l;
     }

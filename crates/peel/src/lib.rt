@@ -49,12 +49,10 @@ fn remove(
         live.new count.new names.new }
     ensures calm { Calm count.new result }
 {
-    let t = located.table.words;
-    let at = usize::from(located.starts[j]);
-    let weight = usize::from(t[4 + j]);
+    let places = located.check(j);
     live[j] = 0;
-    live::forget(count, names, t, at, weight, j as u16);
-    live::raise(count, t, at, weight, top)
+    live::forget(count, names, places, j as u16);
+    live::raise(count, places, top)
 }
 
 #[derive(Drop)]
@@ -115,15 +113,7 @@ fn enter(live: &mut [u8], count: &mut [u16], names: &mut [u16], located: &Locate
         live.new count.new names.new }
 {
     live[j] = 1;
-    let t = located.table.words;
-    live::note(
-        count,
-        names,
-        t,
-        usize::from(located.starts[j]),
-        usize::from(t[4 + j]),
-        j as u16,
-    );
+    live::note(count, names, located.check(j), j as u16);
 }
 
 // the kept checks become live

@@ -1,156 +1,42 @@
 -- `columns::fill_columns` meets its contract: the columns are those of the first i set-aside checks.
-use Rattle.table.specs.Accepted.{has-weights, each-places, places-wide}
-use Rattle.table.specs.Checks.{offset}
+use Rattle.lists.specs.ListLaws.{all_map}
+use Rattle.live.specs.MarkLaws.{check-apart, check-low}
 use Rattle.masks.specs.DotLaws.{unit-word}
 use Rattle.columns.proofs.Pushing.{fill-turn}
-use Prim.Native.Nat.{◌+◌, ◌<◌}
-use mathlib.Core.Path.{◌≡◌, ◌∙◌}
+use Prim.Native.Nat.{◌<◌}
+use mathlib.Core.Path.{◌≡◌}
 use native.Mathlib.Omega.{arith}
-use lib.ListN.{length, get_or}
 use Rattle.columns.proofs.fill_columns.Goals as goal
 
-pub offset_bounds-aside-i : goal.offset_bounds-aside-i
-offset_bounds-aside-i c =
-    let s = c.loop-i in
-    let less = c.loop-i-test.true in
-    let v = c.requires.aside in
-    let jm = v.numbers s.i less in
-    let few = v.few in
-    let room = v.room in
-    let wts = has-weights _ _ _ _ v.located.table in
-    let sr = v.located.starts-at.room in
-    omega arith
-
 pub bounds-aside-i : goal.bounds-aside-i
-bounds-aside-i c =
-    let s = c.loop-i in
-    let less = c.loop-i-test.true in
-    let v = c.requires.aside in
-    let jm = v.numbers s.i less in
-    let few = v.few in
-    let room = v.room in
-    let wts = has-weights _ _ _ _ v.located.table in
-    let sr = v.located.starts-at.room in
-    omega arith
+bounds-aside-i c = omega (arith, c.requires.aside.room)
 
-pub offset_bounds-located-j : goal.offset_bounds-located-j
-offset_bounds-located-j c =
-    let s = c.loop-i in
-    let less = c.loop-i-test.true in
-    let v = c.requires.aside in
-    let jm = v.numbers s.i less in
-    let few = v.few in
-    let room = v.room in
-    let wts = has-weights _ _ _ _ v.located.table in
-    let sr = v.located.starts-at.room in
-    omega arith
-
-pub bounds-located-j : goal.bounds-located-j
-bounds-located-j c =
-    let s = c.loop-i in
-    let less = c.loop-i-test.true in
-    let v = c.requires.aside in
-    let jm = v.numbers s.i less in
-    let few = v.few in
-    let room = v.room in
-    let wts = has-weights _ _ _ _ v.located.table in
-    let sr = v.located.starts-at.room in
-    omega arith
-
-pub overflow_add-j : goal.overflow_add-j
-overflow_add-j c =
-    let s = c.loop-i in
-    let less = c.loop-i-test.true in
-    let v = c.requires.aside in
-    let jm = v.numbers s.i less in
-    let few = v.few in
-    let room = v.room in
-    let wts = has-weights _ _ _ _ v.located.table in
-    let sr = v.located.starts-at.room in
-    omega arith
-
-pub offset_bounds-t-j : goal.offset_bounds-t-j
-offset_bounds-t-j c =
-    let s = c.loop-i in
-    let less = c.loop-i-test.true in
-    let v = c.requires.aside in
-    let jm = v.numbers s.i less in
-    let few = v.few in
-    let room = v.room in
-    let wts = has-weights _ _ _ _ v.located.table in
-    let sr = v.located.starts-at.room in
-    omega arith
-
-pub bounds-t-j : goal.bounds-t-j
-bounds-t-j c =
-    let s = c.loop-i in
-    let less = c.loop-i-test.true in
-    let v = c.requires.aside in
-    let jm = v.numbers s.i less in
-    let few = v.few in
-    let room = v.room in
-    let wts = has-weights _ _ _ _ v.located.table in
-    let sr = v.located.starts-at.room in
-    omega arith
+pub check-requires : goal.check-requires
+check-requires c = rw c.from.ensures (c.requires.aside.numbers c.loop-i.i c.loop-i-test.true)
 
 pub overflow_cast-i : goal.overflow_cast-i
-overflow_cast-i c =
-    let s = c.loop-i in
-    let less = c.loop-i-test.true in
-    let v = c.requires.aside in
-    let jm = v.numbers s.i less in
-    let few = v.few in
-    let room = v.room in
-    let wts = has-weights _ _ _ _ v.located.table in
-    let sr = v.located.starts-at.room in
-    omega arith
+overflow_cast-i c = omega (arith, c.requires.aside.few)
 
 pub overflow_shl-i : goal.overflow_shl-i
-overflow_shl-i c =
-    let s = c.loop-i in
-    let less = c.loop-i-test.true in
-    let v = c.requires.aside in
-    let jm = v.numbers s.i less in
-    let few = v.few in
-    let room = v.room in
-    let wts = has-weights _ _ _ _ v.located.table in
-    let sr = v.located.starts-at.room in
-    omega arith
+overflow_shl-i c = omega (arith, c.requires.aside.few)
 
 pub spread-requires : goal.spread-requires
 spread-requires c =
     let s = c.loop-i in
-    let less = c.loop-i-test.true in
     let v = c.requires.aside in
-    let jm = v.numbers s.i less in
-    let few = v.few in
-    let room = v.room in
-    let wts = has-weights _ _ _ _ v.located.table in
-    let sr = v.located.starts-at.room in
-    let a = c.args in
-    let j = c.from-j.result in
-    let jl : j < a.located.now.table.checks = omega (arith, c.from-j.ensures) in
-    let e1 : c.from.result ≡ 5 + a.located.now.table.checks + offset a.located.now.table.words.now j = c.from.ensures ∙ v.located.starts-at.each j jl in
-    let e2 : c.from-in-loop-i.result ≡ get_or a.located.now.table.words.now (4 + j) 0 = c.from-in-loop-i.ensures in
-    let from = c.requires.room in
-    places-wide _ _ _ _ v.located.table j jl _ _ e1 e2 (length s.col) (omega (arith, s.auto.col))
+    let a = v.located.table in
+    let j : c.from.result < c.args.located.now.table.checks = rw c.from.ensures (v.numbers s.i c.loop-i-test.true) in
+    let room = c.requires.room in
+    rw c.check.ensures (record { places = all_map (λ p h. omega (arith, s.auto.col)) (check-low a _ j); apart = check-apart a _ j })
 
 pub loop-i-preserved : goal.loop-i-preserved
 loop-i-preserved c =
     let s = c.loop-i in
-    let less = c.loop-i-test.true in
     let v = c.requires.aside in
-    let jm = v.numbers s.i less in
+    let less = c.loop-i-test.true in
     let few = v.few in
-    let room = v.room in
-    let wts = has-weights _ _ _ _ v.located.table in
-    let sr = v.located.starts-at.room in
-    let a = c.args in
-    let j = c.from-j.result in
-    let jl : j < a.located.now.table.checks = omega (arith, c.from-j.ensures) in
-    let e1 : c.from.result ≡ 5 + a.located.now.table.checks + offset a.located.now.table.words.now j = c.from.ensures ∙ v.located.starts-at.each j jl in
-    let e2 : c.from-in-loop-i.result ≡ get_or a.located.now.table.words.now (4 + j) 0 = c.from-in-loop-i.ensures in
-    (fill-turn _ _ _ j _ _ s.i _ _ (each-places _ _ _ _ v.located.table j jl) (omega arith) c.from-j.ensures e1 e2 (unit-word s.i (omega arith)) s.invariant c.spread.ensures)
+    let j : c.from.result < c.args.located.now.table.checks = rw c.from.ensures (v.numbers s.i less) in
+    fill-turn _ _ _ s.i _ _ _ (rw c.check.ensures (check-apart v.located.table _ j)) c.check.ensures (omega (arith, v.room)) c.from.ensures (unit-word s.i (omega arith)) s.invariant c.spread.ensures
 
 pub returns : goal.returns
 returns c =

@@ -6,4 +6,4 @@ use Rattle.columns.specs.Cols.{Columns}
 use Rattle.columns.proofs.fill_columns.Given as goal
 
 abbrev pub invariant-loop-i : goal.invariant-loop-i
-invariant-loop-i l = Columns (map row_of (map (check l.t l.located.table.checks) (take l.i l.aside))) l.col
+invariant-loop-i l = Columns (map row_of (map (check l.located.table.words.now l.located.table.checks) (take l.i l.aside))) l.col

@@ -7,4 +7,4 @@ use Rattle.columns.specs.Cols.{Columns}
 use Rattle.columns.proofs.push_all.Given as goal
 
 abbrev pub invariant-loop-k : goal.invariant-loop-k
-invariant-loop-k l = (E : List ℕ) → Columns E l.initial.col → Columns (map (put_in_all (solved (check l.t l.located.table.checks) l.order l.owns l.k)) E) l.col
+invariant-loop-k l = (E : List ℕ) → Columns E l.initial.col → Columns (map (put_in_all (solved (check l.located.table.words.now l.located.table.checks) l.order l.owns l.k)) E) l.col
