@@ -2,30 +2,29 @@
 use mathlib.Core.Path.{◌≡◌, refl, sym, ap, ap₂, ◌∙◌, subst}
 use mathlib.Core.Bool.{Bool, true, false, not, false≢true, true≢false}
 use mathlib.Core.List.{List, [], ◌∷◌, ◌++◌, append_assoc, append-nil}
-use Prim.Native.Nat.{ℕ, zero, suc, ◌+◌, ◌-◌, ◌*◌, ◌<◌, ◌≤◌}
+use Prim.Native.Nat.{ℕ, suc, ◌+◌, ◌-◌, ◌*◌, ◌<◌, ◌≤◌}
 use native.Mathlib.Omega.{arith}
 use lib.ListN.{length, get_or, set, take, drop, replicate, length-append, length-replicate}
-use lib.Bits.{bit_xor}
 use lib.Seq.{take_at}
 use Rattle.std.specs.declared.option.Option.{Option}
 use Rattle.std.specs.declared.option.Option.TheVariants.{None, Some}
 use Rattle.std.specs.declared.result.Result.TheVariants.{Ok, Err}
 use Rattle.eliminate.specs.declared.Clash.{Clash}
-use Rattle.lists.specs.Buffers.{part_length}
 use Rattle.lists.specs.ListLaws.{all_append, all_filter, all_map, get_d-zeros}
 use Rattle.lists.specs.Lists.{minus, All}
 use Rattle.lists.specs.Tests.{by_bool}
 use Rattle.gf2.specs.Bit.{bit-zero}
 use Rattle.gf2.specs.EchelonLaws.{path-low, passed-skip, short-lt}
-use Rattle.gf2.specs.Gf2.{bit, is_zero, Short, Bits, xor_group, sum_over, down, path, row_of}
+use Rattle.gf2.specs.Gf2.{Short, Bits, xor_group, sum_over, down, path, row_of}
 use Rattle.gf2.specs.RowValue.{row_lt}
-use Rattle.table.specs.Checks.{Places, check_sum, others_sum}
+use Rattle.table.specs.Checks.{check_sum, others_sum}
 use Rattle.table.specs.PacketLaws.{packets-length, packets-sized, view, sum_view}
 use Rattle.std.specs.Option.{is_some}
 use Rattle.sums.specs.Lowest.{LowestByte}
 use Rattle.sums.specs.LowestLaws.{some-lowest, none-lowest}
 use Rattle.table.specs.Packets.{packets, joined, packet_sum, lowest_nonzero}
-use Rattle.table.specs.SumLaws.{places-low, lowest-zeros, lowest-is}
+use Rattle.table.specs.SumLaws.{lowest-zeros, lowest-is}
+use Rattle.packets.specs.Given.{Given}
 use Rattle.erasure.specs.Restoring.{is_lost, lost_places}
 use Rattle.bits.specs.Front.{Front, front-is}
 use Rattle.bits.specs.Row.{RowPut}
@@ -117,16 +116,8 @@ zero-sum x s l e = lowest-zeros x (e ∙ sym l) ∙ ap (λ k. replicate k 0) l
 pub sum-zero : (x : List ℕ) (s : ℕ) → x ≡ replicate s 0 → lowest_nonzero x ≡ s
 sum-zero x s e = ap lowest_nonzero e ∙ lowest-is (replicate s 0) s (omega (arith, length-replicate {A = ℕ} s 0)) (λ k h. get_d-zeros s k) (λ h. absurd (omega (arith, length-replicate {A = ℕ} s 0)))
 
--- as many received ones as places: nothing is lost
-pub whole : (t : List ℕ) (at weight n : ℕ) (lost : List ℕ) → Places t at weight n → {k : ℕ} → k ≡ length (received_places lost (take weight (drop at t))) → k ≡ weight
-    → lost_places lost (take weight (drop at t)) ≡ []
-whole t at weight n lost p e h = none-lost lost (take weight (drop at t)) (sym e ∙ h ∙ sym (part_length t at weight p.room))
-
 -- ---- what a check comes to
-module _ (t : List ℕ) (at weight n s : ℕ) (lost : List ℕ) (f : ℕ → ℕ) (b : List ℕ) (places : Places t at weight n) (bytes : length b ≡ n * s) where
-  abbrev c : List ℕ
-  c = take weight (drop at t)
-
+module _ (n s : ℕ) (lost c : List ℕ) (f : ℕ → ℕ) (b : List ℕ) (given : Given c b n s) where
   -- nothing is left of the row, and its sum is zero
   calm_sum : row_sum s n lost c f b ≡ replicate s 0 → Summed s n lost c f b (Ok None) b
   calm_sum z = record { stored = λ h. absurd (omega arith); kept = λ h. refl; calm = λ u v. z; clashed = λ h. absurd (false≢true h) }
@@ -141,10 +132,10 @@ module _ (t : List ℕ) (at weight n s : ℕ) (lost : List ℕ) (f : ℕ → ℕ
     low-is e = e ∙ ap (λ l. lowest_nonzero (packet_sum s (packets s n b) l)) nd.list
 
     long : length (check_sum x 0 all b n s) ≡ s
-    long = ap (λ l. length (packet_sum s (packets s n b) l)) nd.list ∙ (row-view n lost f (places-low places) s b bytes).0
+    long = ap (λ l. length (packet_sum s (packets s n b) l)) nd.list ∙ (row-view n lost f given.below s b given.bytes).0
 
     calmed : {low : ℕ} → low ≡ lowest_nonzero (check_sum x 0 all b n s) → low ≡ s → Summed s n lost c f b (Ok None) b
-    calmed e h = calm_sum (zero-sum (row_sum s n lost c f b) s (row-view n lost f (places-low places) s b bytes).0 (sym (low-is e) ∙ h))
+    calmed e h = calm_sum (zero-sum (row_sum s n lost c f b) s (row-view n lost f given.below s b given.bytes).0 (sym (low-is e) ∙ h))
 
     clashed : {low : ℕ} {clash : Clash} → low ≡ lowest_nonzero (check_sum x 0 all b n s) → (low ≡ s → ⊥) → Summed s n lost c f b (Err clash) b
     clashed e h = record {
@@ -166,7 +157,7 @@ module _ (t : List ℕ) (at weight n s : ℕ) (lost : List ℕ) (f : ℕ → ℕ
     kept-sum {p} {b'} e =
         let i : p + 1 - 1 ≡ p = omega arith in
         record {
-          stored = λ u. e ∙ ap₂ (λ q v. joined (set (packets s n b) q (packet_sum s (packets s n b) v))) (sym i) (ap (λ v. minus v (n ∷ [])) nd.list ∙ minus-none n (summed-low n lost f (places-low places)));
+          stored = λ u. e ∙ ap₂ (λ q v. joined (set (packets s n b) q (packet_sum s (packets s n b) v))) (sym i) (ap (λ v. minus v (n ∷ [])) nd.list ∙ minus-none n (summed-low n lost f given.below));
           kept = λ u. absurd (omega arith);
           calm = λ u v. absurd (omega arith);
           clashed = λ u. absurd (false≢true u);
@@ -174,25 +165,12 @@ module _ (t : List ℕ) (at weight n s : ℕ) (lost : List ℕ) (f : ℕ → ℕ
 
 -- ---- reducing its row
 -- the received ones are not more than all
-pub received-few : (lost t : List ℕ) (at weight n : ℕ) → Places t at weight n → {k : ℕ} → k ≡ length (received_places lost (take weight (drop at t))) → k ≤ weight
-received-few lost t at weight n p e = let h = parts lost (take weight (drop at t)) in let l = part_length t at weight p.room in omega arith
+pub received-few : (lost c : List ℕ) {k : ℕ} → k ≡ length (received_places lost c) → k ≤ length c
+received-few lost c e = let h = parts lost c in omega arith
 
-path-few : (f : ℕ → ℕ) (n x : ℕ) → length (path f n x) ≤ n
-unfolding path
-path-few f zero x = omega arith
-path-few f (suc p) x = by_bool (bit p x)
-    (λ b. by_bool (is_zero (f p))
-    (λ z. rw (b, path, z) (omega arith))
-    (λ z. rw (b, path, z) (let h = path-few f p (bit_xor (f p) x) in omega arith)))
-    (λ b. rw (b, path) (let h = path-few f p x in omega arith))
-
-pub noted-few : (f : ℕ → ℕ) (n x : ℕ) {old e : List ℕ} {k : ℕ} → Front (path f n x) old e k → k ≤ n
-noted-few f n x g = let h = path-few f n x in let c = g.count in omega arith
-
-module _ {w owner e : List ℕ} {k : ℕ} (o : Owners w owner k) (t : List ℕ) (at weight n : ℕ) (lost : List ℕ) (places : Places t at weight n)
-    (d : RowPut w k (lost_row lost (take weight (drop at t))) e) where
+module _ {w owner e : List ℕ} {k : ℕ} (o : Owners w owner k) (n : ℕ) (lost c : List ℕ) (low : All (λ q. q < n) c) (d : RowPut w k (lost_row lost c) e) where
   pub reducible : k * 16 + 16 ≤ length w → n ≤ 1024 → n ≤ length owner → Reducible e owner k n
-  reducible room few long = put-reducible o d n (short-lt n (lost_row lost (take weight (drop at t))) (row_lt n (all_filter (is_lost lost) (places-low places)))) room few long
+  reducible room few long = put-reducible o d n (short-lt n (lost_row lost c) (row_lt n (all_filter (is_lost lost) low))) room few long
 
-  pub path-as : {old x : List ℕ} {c : ℕ} → Front (path_of e owner k n) old x c → Front (path (leads w owner) n (lost_row lost (take weight (drop at t)))) old x c
+  pub path-as : {old x : List ℕ} {j : ℕ} → Front (path_of e owner k n) old x j → Front (path (leads w owner) n (lost_row lost c)) old x j
   path-as g = front-is g (put-path o d n)

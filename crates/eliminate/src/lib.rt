@@ -2,10 +2,11 @@
 // packets. A row's sum stands in the block at the row's highest place, which is lost.
 #![tactic(auto)]
 
-ghost use Rattle.std.specs.Prelude.{◌≡◌, [], ℕ, ◌+◌, ◌*◌, ◌≤◌, length, get_or, take, drop, replicate};
+ghost use Rattle.std.specs.Prelude.{◌≡◌, [], ℕ, ◌+◌, ◌*◌, ◌≤◌, ◌<◌, length, get_or, replicate};
 ghost use Rattle.std.specs.Result.{is_ok};
-ghost use Rattle.table.specs.Checks.{Places};
+ghost use Rattle.lists.specs.Lists.{All};
 ghost use Rattle.table.specs.Packets.{packets, packet_sum};
+ghost use Rattle.packets.specs.Given.{Given};
 ghost use Rattle.erasure.specs.Restoring.{lost_places};
 ghost use Rattle.bits.specs.Front.{Front};
 ghost use Rattle.bits.specs.Row.{RowPut};
@@ -19,25 +20,17 @@ use table::{MOST_PLACES, MOST_WEIGHT, Table};
 pub const MOST_NOTED: usize = MOST_PLACES + MOST_WEIGHT;
 
 // the lost places of a check become row r; its received places are noted, and their number returned
-fn part_check(
-    w: &mut [u64],
-    r: usize,
-    t: &[u16],
-    at: usize,
-    weight: usize,
-    map: &[u8],
-    noted: &mut [u16],
-) -> usize
+fn part_check(w: &mut [u64], r: usize, places: &[u16], map: &[u8], noted: &mut [u16]) -> usize
     requires { (r * 16 + 16 ≤ length w.old)
-        × Places t.now at weight (length map.now)
+        × All (λ p. p < length map.now) places.now
         × (length map.now ≤ 1024)
-        × (weight ≤ length noted.old) }
-    ensures row { RowPut w.old r (lost_row map.now (take weight (drop at t.now))) w.new }
-    ensures noted { Front (received_places map.now (take weight (drop at t.now))) noted.old noted.new result }
+        × (length places.now ≤ length noted.old) }
+    ensures row { RowPut w.old r (lost_row map.now places.now) w.new }
+    ensures noted { Front (received_places map.now places.now) noted.old noted.new result }
 {
     bits::clear(w, r);
     let mut k = 0;
-    for p in &t[at..at + weight] {
+    for p in places {
         let q = usize::from(*p);
         if map[q] == 1 {
             bits::flip(w, r, q);
@@ -56,8 +49,7 @@ pub struct Clash;
 // the row of a check's lost places, reduced; if something is left of it, its sum is stored at its highest place
 fn take_check(
     table: &Table,
-    at: usize,
-    weight: usize,
+    places: &[u16],
     block: &mut [u8],
     map: &[u8],
     w: &mut [u64],
@@ -65,26 +57,22 @@ fn take_check(
     k: usize,
     noted: &mut [u16],
 ) -> Result<Option<usize>, Clash>
-    requires check { Places table.now.words.now at weight table.now.places
-        × (length block.old ≡ table.now.places * table.now.size)
-        × (length map.now ≡ table.now.places) }
+    requires given { Given places.now block.old table.now.places table.now.size }
+    requires map { length map.now ≡ table.now.places }
     requires rows { (k * 16 + 16 ≤ length w.old)
         × (table.now.places ≤ 1024)
         × (table.now.places ≤ length owner.now)
-        × (weight + table.now.places ≤ length noted.old)
+        × (length places.now + table.now.places ≤ length noted.old)
         × Owners w.old owner.now k }
-    requires known { lost_places map.now (take weight (drop at table.now.words.now)) ≡ []
-        → packet_sum table.now.size (packets table.now.size table.now.places block.old) (take weight (drop at table.now.words.now))
-        ≡ replicate table.now.size 0 }
-    ensures row { Lowered w.old owner.now k table.now.places (lost_row map.now (take weight (drop at table.now.words.now)))
-        w.new (lead_of result) }
-    ensures sum { Summed table.now.size table.now.places map.now (take weight (drop at table.now.words.now)) (leads w.old owner.now)
-        block.old result block.new }
+    requires known { lost_places map.now places.now ≡ []
+        → packet_sum table.now.size (packets table.now.size table.now.places block.old) places.now ≡ replicate table.now.size 0 }
+    ensures row { Lowered w.old owner.now k table.now.places (lost_row map.now places.now) w.new (lead_of result) }
+    ensures sum { Summed table.now.size table.now.places map.now places.now (leads w.old owner.now) block.old result block.new }
 {
     let n = table.places;
     let s = table.size;
-    let have = part_check(w, k, table.words, at, weight, map, noted);
-    if have == weight {
+    let have = part_check(w, k, places, map, noted);
+    if have == places.len() {
         return Ok(None);
     }
     let r = rows::reduce(w, owner, k, n, &mut noted[have..]);
@@ -117,13 +105,13 @@ pub fn take_all(
     ensures { Eliminated table.now.words.now table.now.places table.now.size block.old map.now (is_ok result)
         w.new owner.new block.new }
 {
-    let t = table.words;
     let mut noted = [0u16; MOST_NOTED];
     let mut k = 0;
     let mut at = 5 + table.checks;
     for i in 0..table.checks {
-        let weight = usize::from(t[4 + i]);
-        if let Some(p) = take_check(table, at, weight, block, map, w, owner, k, &mut noted)? {
+        let weight = usize::from(table.words[4 + i]);
+        let places = table::run(table.words, at, weight);
+        if let Some(p) = take_check(table, places, block, map, w, owner, k, &mut noted)? {
             owner[p] = (k + 1) as u16;
             k += 1;
         }

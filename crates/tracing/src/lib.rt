@@ -1,9 +1,9 @@
 // The used checks of a block, with the rows that fed each, and the walk back from a place to the checks that restore it.
 #![tactic(auto)]
 
-ghost use Rattle.std.specs.Prelude.{◌≡◌, map, ℕ, ◌+◌, ◌-◌, ◌*◌, ◌≤◌, ◌<◌, length, get_or, take, drop};
+ghost use Rattle.std.specs.Prelude.{◌≡◌, map, ℕ, ◌+◌, ◌-◌, ◌*◌, ◌≤◌, ◌<◌, length, get_or};
+ghost use Rattle.lists.specs.Lists.{All};
 ghost use Rattle.gf2.specs.Gf2.{row_of};
-ghost use Rattle.table.specs.Checks.{Places};
 ghost use Rattle.bits.specs.Front.{Front};
 ghost use Rattle.bits.specs.Row.{row, above, RowPut};
 ghost use Rattle.rows.specs.Leads.{Owners, Lowered};
@@ -26,15 +26,15 @@ pub fn bit_of(p: usize, n: usize) -> usize
 // ---- a check
 
 // the lost places of a check become row k, each at its bit
-fn load_lost(w: &mut [u64], k: usize, t: &[u16], at: usize, weight: usize, lost: &[u8], n: usize)
+fn load_lost(w: &mut [u64], k: usize, places: &[u16], lost: &[u8], n: usize)
     requires { (k * 16 + 16 ≤ length w.old)
-        × Places t.now at weight n
+        × All (λ p. p < n) places.now
         × (n ≤ length lost.now)
         × (n ≤ 1024) }
-    ensures { RowPut w.old k (mirror_row n lost.now (take weight (drop at t.now))) w.new }
+    ensures { RowPut w.old k (mirror_row n lost.now places.now) w.new }
 {
     bits::clear(w, k);
-    for q in &t[at..at + weight] {
+    for q in places {
         let p = usize::from(*q);
         if lost[p] == 1 {
             bits::flip(w, k, bit_of(p, n));
@@ -58,8 +58,7 @@ fn note_feeders(feed: &mut [u64], k: usize, owner: &[u16], noted: &[u16])
 // the row of a check's lost places, reduced as row k, with the rows that fed it; its highest bit, if it didn't vanish
 fn take_check(
     table: &Table,
-    at: usize,
-    weight: usize,
+    places: &[u16],
     lost: &[u8],
     w: &mut [u64],
     owner: &[u16],
@@ -67,8 +66,8 @@ fn take_check(
     feed: &mut [u64],
     noted: &mut [u16],
 ) -> Option<usize>
-    requires check { Places table.now.words.now at weight table.now.places
-        × (table.now.places ≤ length lost.now) }
+    requires check { All (λ p. p < table.now.places) places.now }
+    requires lost { table.now.places ≤ length lost.now }
     requires rows { (k * 16 + 16 ≤ length w.old)
         × (k * 16 + 16 ≤ length feed.old)
         × (table.now.places ≤ 1024)
@@ -77,13 +76,10 @@ fn take_check(
         × (k ≤ 1024)
         × ((p : ℕ) → get_or owner.now p 0 ≤ k)
         × Owners w.old owner.now k }
-    ensures row { Lowered w.old owner.now k table.now.places
-        (mirror_row table.now.places lost.now (take weight (drop at table.now.words.now))) w.new (above result) }
-    ensures feeders { RowPut feed.old k
-        (row_of (feeders w.old owner.now table.now.places (mirror_row table.now.places lost.now (take weight (drop at table.now.words.now)))))
-        feed.new }
+    ensures row { Lowered w.old owner.now k table.now.places (mirror_row table.now.places lost.now places.now) w.new (above result) }
+    ensures feeders { RowPut feed.old k (row_of (feeders w.old owner.now table.now.places (mirror_row table.now.places lost.now places.now))) feed.new }
 {
-    load_lost(w, k, table.words, at, weight, lost, table.places);
+    load_lost(w, k, places, lost, table.places);
     let r = rows::reduce(w, owner, k, table.places, noted);
     note_feeders(feed, k, owner, &noted[..r.count]);
     r.lead
@@ -111,7 +107,8 @@ pub fn take_checks(
     let mut at = 5 + table.checks;
     for i in 0..table.checks {
         let weight = usize::from(table.words[4 + i]);
-        if let Some(p) = take_check(table, at, weight, lost, w, owner, k, feed, &mut noted) {
+        let places = table::run(table.words, at, weight);
+        if let Some(p) = take_check(table, places, lost, w, owner, k, feed, &mut noted) {
             owner[p] = (k + 1) as u16;
             ids[k] = i as u16;
             k += 1;

@@ -10,6 +10,6 @@ use Rattle.eliminate.proofs.part_check.Given as goal
 abbrev pub invariant-loop-p : goal.invariant-loop-p
 invariant-loop-p l = record {
   few : l.k ≤ l.p-index;
-  row : RowPut l.initial.w l.r (lost_row l.map (take l.p-index l.p-items)) l.w;
-  noted : Front (received_places l.map (take l.p-index l.p-items)) l.initial.noted l.noted l.k;
+  row : RowPut l.initial.w l.r (lost_row l.map (take l.p-index l.places)) l.w;
+  noted : Front (received_places l.map (take l.p-index l.places)) l.initial.noted l.noted l.k;
 }

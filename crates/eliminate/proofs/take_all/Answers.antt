@@ -1,12 +1,14 @@
 -- `eliminate::take_all` meets its contract: `Takes` holds at each turn.
 use Prim.Native.Nat.{◌+◌, ◌-◌, ◌*◌, ◌<◌, ◌≤◌}
-use mathlib.Core.Path.{◌≡◌, refl, sym, subst, ◌∙◌}
+use mathlib.Core.Path.{◌≡◌, refl, sym, ap, subst, ◌∙◌}
 use mathlib.Core.Bool.{true, false, false≢true}
 use native.Mathlib.Omega.{arith}
 use lib.ListN.{length}
 use Rattle.std.specs.Result.{is_ok}
 use Rattle.std.proofs.Common.{rules}
+use Rattle.lists.specs.Buffers.{part_length}
 use Rattle.table.specs.Accepted.{few-places, light, check-count, places-at, check-is, check-fits, offset-more}
+use Rattle.table.specs.SumLaws.{places-low}
 use Rattle.table.specs.Table.{checks}
 use Rattle.eliminate.specs.Eliminating.{Eliminated}
 use Rattle.eliminate.specs.EliminatingLaws.{checks-low}
@@ -17,6 +19,11 @@ use Rattle.eliminate.proofs.take_all.Goals.{in-Some, in_default}
 pub loop-i-init : goal.loop-i-init
 loop-i-init c = start _ _ _ _ _ _ _ _ c.requires.room.0 c.requires.unowned
 
+pub run-places-requires : goal.run-places-requires
+run-places-requires c =
+    let l = c.loop-i in
+    check-fits _ _ _ _ c.args.table.now.accepted l.i c.loop-i-test.true _ _ l.invariant.here c.from-weight.ensures
+
 pub take_check-requires : goal.take_check-requires
 take_check-requires c =
     let l = c.loop-i in
@@ -26,6 +33,7 @@ take_check-requires c =
     let wd = c.from-weight.ensures in
     let v = places-at _ _ _ _ table l.i less _ _ l.invariant.here wd _ refl in
     let is = check-is _ _ _ _ table l.i less _ _ l.invariant.here wd in
+    let long = ap length c.run-places.ensures ∙ part_length c.args.table.now.words.now l.at c.from-weight.result v.room in
     let f = l.invariant.few in
     let few = few-places _ _ _ _ table in
     let lw = light _ _ _ _ table l.i less in
@@ -33,9 +41,10 @@ take_check-requires c =
     let room = p.room.2 in
     let own = p.room.3 in
     record {
-      check = (v, l.invariant.bytes, p.room.1);
+      given = record { below = rw c.run-places.ensures (places-low v); bytes = l.invariant.bytes };
+      map = p.room.1;
       rows = (omega arith, few, omega arith, omega arith, owners l.invariant (omega arith));
-      known = rw is (still-known l.invariant (omega arith) p.room.0 (checks-low _ _ _ _ table) (omega arith) p.known.zero);
+      known = rw (c.run-places.ensures, is) (still-known l.invariant (omega arith) p.room.0 (checks-low _ _ _ _ table) (omega arith) p.known.zero);
     }
 
 pub returns-in_err-p : goal.returns-in_err-p
@@ -52,8 +61,8 @@ returns-in_err-p c =
     let few = l.invariant.few in
     let room = p.room.2 in
     let rows : l.k * 16 ≤ length l.w = omega arith in
-    let d = rw is at c.in_err-p.ensures.row in
-    let sm = rw is at c.in_err-p.ensures.sum in
+    let d = rw (c.run-places.ensures, is) at c.in_err-p.ensures.row in
+    let sm = rw (c.run-places.ensures, is) at c.in_err-p.ensures.sum in
     let hit = sm.clashed refl in
     let own = p.room.3 in
     let long = d.put.len in
@@ -82,8 +91,8 @@ loop-i-preserved c =
     let few = l.invariant.few in
     let room = p.room.2 in
     let rows : l.k * 16 ≤ length l.w = omega arith in
-    let d = rw is at c.in_ok-p.ensures.row in
-    let sm = rw is at c.in_ok-p.ensures.sum in
+    let d = rw (c.run-places.ensures, is) at c.in_ok-p.ensures.row in
+    let sm = rw (c.run-places.ensures, is) at c.in_ok-p.ensures.sum in
     let own = p.room.3 in
     let next = offset-more _ _ l.i _ _ l.invariant.here wd in
     elim c.match-branch-2.branch [

@@ -5,4 +5,4 @@ use Rattle.reasons.specs.Mirror.{mirror_row}
 use Rattle.tracing.proofs.load_lost.Given as goal
 
 abbrev pub invariant-loop-q : goal.invariant-loop-q
-invariant-loop-q l = RowPut l.initial.w l.k (mirror_row l.n l.lost (take l.q-index l.q-items)) l.w
+invariant-loop-q l = RowPut l.initial.w l.k (mirror_row l.n l.lost (take l.q-index l.places)) l.w

@@ -1,31 +1,26 @@
 -- `tracing::take_check` meets its contract.
 use mathlib.Core.Path.{sym, ap, ◌∙◌, subst}
 use mathlib.Core.List.{map}
-use lib.ListN.{take, drop}
 use Rattle.bits.specs.Front.{front-taken}
 use Rattle.bits.specs.RowLaws.{put_is}
 use Rattle.gf2.specs.Gf2.{row_of}
 use Rattle.rows.specs.LeadsLaws.{lowered-as, put-reducible, put-path}
 use Rattle.reasons.specs.Mirror.{mirror_row, mirror-short}
-use Rattle.table.specs.SumLaws.{places-low}
 use Rattle.tracing.specs.Tracing.{number_in, Led}
 use Rattle.tracing.specs.TracingLaws.{path-led}
 use Rattle.tracing.proofs.take_check.Goals as goal
-
-pub load_lost-requires : goal.load_lost-requires
-load_lost-requires c = let p = c.requires in (p.rows.0, p.check.0, p.check.1, p.rows.2)
 
 pub reduce-r-requires : goal.reduce-r-requires
 reduce-r-requires c =
     let a = c.args in
     let p = c.requires in
-    record { rows = put-reducible p.rows.7 c.load_lost.ensures a.table.now.places (mirror-short a.table.now.places a.lost.now (places-low p.check.0)) p.rows.0 p.rows.2 p.rows.3; room = p.rows.4 }
+    record { rows = put-reducible p.rows.7 c.load_lost.ensures a.table.now.places (mirror-short a.table.now.places a.lost.now p.check) p.rows.0 p.rows.2 p.rows.3; room = p.rows.4 }
 
 pub note_feeders-requires : goal.note_feeders-requires
 note_feeders-requires c =
     let a = c.args in
     let p = c.requires in
-    let x = mirror_row a.table.now.places a.lost.now (take a.weight (drop a.at a.table.now.words.now)) in
+    let x = mirror_row a.table.now.places a.lost.now a.places.now in
     let f = c.reduce-r.ensures.path in
     let is = front-taken f ∙ put-path p.rows.7 c.load_lost.ensures a.table.now.places in
     record { room = p.rows.1; led = subst (Led a.owner.now) (sym is) (path-led a.w.now a.owner.now p.rows.6 a.table.now.places x p.rows.3 p.rows.5) }

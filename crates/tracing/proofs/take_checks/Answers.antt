@@ -3,6 +3,7 @@ use Prim.Native.Nat.{◌+◌, ◌-◌}
 use mathlib.Core.Path.{◌≡◌, refl}
 use native.Mathlib.Omega.{arith}
 use Rattle.table.specs.Accepted.{few-places, few-checks, places-at, check-fits}
+use Rattle.table.specs.SumLaws.{places-low}
 use Rattle.rows.specs.Choosing.{choosing-owners}
 use Rattle.tracing.proofs.Taking.{start, turn-hit, turn-miss, stop, told-row, told-feed}
 use Rattle.tracing.proofs.take_checks.Goals as goal
@@ -10,6 +11,11 @@ use Rattle.tracing.proofs.take_checks.Goals.{in-Some, in_default}
 
 pub loop-i-init : goal.loop-i-init
 loop-i-init c = start _ _ _ _ _ _ _ _ c.requires.unowned
+
+pub run-places-requires : goal.run-places-requires
+run-places-requires c =
+    let s = c.loop-i in
+    check-fits _ _ _ _ c.args.table.now.accepted s.i c.loop-i-test.true _ _ s.invariant.here c.from-weight.ensures
 
 pub take_check-requires : goal.take_check-requires
 take_check-requires c =
@@ -22,7 +28,11 @@ take_check-requires c =
     let most = few-checks _ _ _ _ table in
     let room = p.room in
     let less = c.loop-i-test.true in
-    record { check = (v, p.lost); rows = (omega arith, omega arith, nar, omega arith, omega arith, omega arith, s.invariant.rows.owned, choosing-owners s.invariant.rows (omega arith)) }
+    record {
+      check = rw c.run-places.ensures (places-low v);
+      lost = p.lost;
+      rows = (omega arith, omega arith, nar, omega arith, omega arith, omega arith, s.invariant.rows.owned, choosing-owners s.invariant.rows (omega arith));
+    }
 
 pub overflow_add-at-in-loop-i : goal.overflow_add-at-in-loop-i
 overflow_add-at-in-loop-i c =
@@ -38,8 +48,8 @@ loop-i-preserved c =
     let table = a.table.now.accepted in
     let wd = c.from-weight.ensures in
     let less = c.loop-i-test.true in
-    let d = told-row table a.lost.now s.i less s.invariant.here wd c.take_check.ensures.row in
-    let g = told-feed table a.lost.now s.i less s.invariant.here wd s.w s.owner c.take_check.ensures.feeders in
+    let d = told-row table a.lost.now s.i less s.invariant.here wd (rw c.run-places.ensures at c.take_check.ensures.row) in
+    let g = told-feed table a.lost.now s.i less s.invariant.here wd s.w s.owner (rw c.run-places.ensures at c.take_check.ensures.feeders) in
     let few = s.invariant.rows.few in
     let room = p.room in
     elim c.match-take_check.branch [
