@@ -1,36 +1,11 @@
 -- `aerials::hear_all` meets its contract.
 use native.Mathlib.Omega.{arith}
 use lib.ListN.{get_or}
-use Rattle.table.specs.BufferLaws.{place-fits}
 use Rattle.table.specs.PacketCall.{part_at}
 use Rattle.aerials.specs.HeardLaws.{packet-sized}
 use Rattle.erasure.proofs.PlaceByPlace.{part-sized}
-use Rattle.packets.specs.Filling.{none_filled, one-filled, block-filled, map-filled}
+use Rattle.packets.specs.Filling.{one-filled, block-filled, map-filled}
 use Rattle.aerials.proofs.hear_all.Goals as goal
-
-pub loop-p-init : goal.loop-p-init
-loop-p-init c = (none_filled _ _ _ _ _ _ c.requires.2)
-
-pub bounds-map1-p : goal.bounds-map1-p
-bounds-map1-p c = let e = c.requires.0.marks in omega arith
-
-pub bounds-map2-p : goal.bounds-map2-p
-bounds-map2-p c = let e = c.requires.1.marks in omega arith
-
-pub overflow_mul-p : goal.overflow_mul-p
-overflow_mul-p c =
-    let a = c.args in
-    omega (arith, place-fits c.loop-p.p a.table.now.places a.table.now.size c.loop-p-test.true, c.requires.0.bytes, c.well_formed)
-
-pub hear-requires : goal.hear-requires
-hear-requires c =
-    let a = c.args in
-    let f = c.requires in
-    let k = place-fits c.loop-p.p a.table.now.places a.table.now.size c.loop-p-test.true in
-    (omega (arith, k, f.0.bytes), omega (arith, k, f.1.bytes), omega (arith, k, c.loop-p.invariant.sized.bytes))
-
-pub bounds-map3-p : goal.bounds-map3-p
-bounds-map3-p c = let e = c.loop-p.invariant.sized.marks in omega arith
 
 pub loop-p-preserved : goal.loop-p-preserved
 loop-p-preserved c =

@@ -1,25 +1,10 @@
 -- `chains::count_all` meets its contract.
 use Rattle.chains.proofs.Counting.{counted-turn, counted-small}
-use Rattle.table.specs.Accepted.{has-weights, places-at}
-use mathlib.Core.Path.{refl, ◌∙◌}
+use Rattle.table.specs.Accepted.{places-at}
+use mathlib.Core.Path.{◌∙◌}
 use native.Mathlib.Omega.{arith}
 use lib.ListN.{length-set}
 use Rattle.chains.proofs.count_all.Goals as goal
-
-pub loop-j-init : goal.loop-j-init
-loop-j-init c = (refl, λ k h. absurd (omega arith))
-
-pub offset_bounds-located-j : goal.offset_bounds-located-j
-offset_bounds-located-j c = omega (arith, has-weights c.args.located.now.table.words.now _ _ _ c.args.located.now.table.accepted, c.args.located.now.starts_at.room)
-
-pub bounds-located-j : goal.bounds-located-j
-bounds-located-j c = omega (arith, has-weights c.args.located.now.table.words.now _ _ _ c.args.located.now.table.accepted, c.args.located.now.starts_at.room)
-
-pub offset_bounds-table-j : goal.offset_bounds-table-j
-offset_bounds-table-j c = omega (arith, has-weights c.args.located.now.table.words.now _ _ _ c.args.located.now.table.accepted, c.args.located.now.starts_at.room)
-
-pub bounds-table-j : goal.bounds-table-j
-bounds-table-j c = omega (arith, has-weights c.args.located.now.table.words.now _ _ _ c.args.located.now.table.accepted, c.args.located.now.starts_at.room)
 
 pub lost_in-requires : goal.lost_in-requires
 lost_in-requires c = places-at c.args.located.now.table.words.now _ _ _ c.args.located.now.table.accepted c.loop-j.j c.loop-j-test.true _ _ (c.from.ensures ∙ c.args.located.now.starts_at.each _ c.loop-j-test.true) c.from-in-loop-j.ensures _ c.requires.0
@@ -29,12 +14,6 @@ overflow_cast-count c =
     let h = counted-small c.args.located.now.table.words.now _ _ _ c.args.located.now.table.accepted c.loop-j.j c.loop-j-test.true _ _ (c.from.ensures ∙ c.args.located.now.starts_at.each _ c.loop-j-test.true) c.from-in-loop-j.ensures c.args.map.now in
     omega (arith, h, c.lost_in.ensures)
 
-pub offset_bounds-count-j : goal.offset_bounds-count-j
-offset_bounds-count-j c = omega (arith, c.loop-j.invariant.0, c.requires.1)
-
-pub bounds-count-j : goal.bounds-count-j
-bounds-count-j c = omega (arith, c.loop-j.invariant.0, c.requires.1)
-
 pub loop-j-preserved : goal.loop-j-preserved
 loop-j-preserved c =
     let s = c.loop-j in
@@ -43,8 +22,3 @@ loop-j-preserved c =
       simp length-set s.invariant.0,
       counted-turn a.located.now.table.words.now _ _ _ c.args.located.now.table.accepted c.loop-j.j c.loop-j-test.true _ _ (c.from.ensures ∙ c.args.located.now.starts_at.each _ c.loop-j-test.true) c.from-in-loop-j.ensures a.map.now s.count _ (omega (arith, s.invariant.0, p.1)) c.lost_in.ensures s.invariant.1,
     )
-
-pub returns : goal.returns
-returns c =
-    let s = c.loop-j in
-    record { room = omega (arith, s.invariant.0, c.requires.1); each = λ j h. s.invariant.1 j (omega arith) }

@@ -1,30 +1,8 @@
 -- `entering::enter_all` meets its contract.
 use native.Mathlib.Omega.{arith}
-use Rattle.packets.specs.Filling.{none_filled, block-filled, map-filled}
-use Rattle.table.specs.BufferLaws.{place-fits}
+use Rattle.packets.specs.Filling.{block-filled, map-filled}
 use Rattle.entering.proofs.Going.{entered-more}
 use Rattle.entering.proofs.enter_all.Goals as goal
-
-pub loop-p-init : goal.loop-p-init
-loop-p-init c = (none_filled _ _ _ _ _ _ c.requires.0)
-
-pub carried-mark-requires : goal.carried-mark-requires
-carried-mark-requires c = omega (arith, c.loop-p.invariant.sized.marks)
-
-pub bounds-arrived-p : goal.bounds-arrived-p
-bounds-arrived-p c = omega (arith, c.requires.1.marks)
-
-pub overflow_mul-p : goal.overflow_mul-p
-overflow_mul-p c = let a = c.args in omega (arith, place-fits c.loop-p.p a.table.now.places a.table.now.size c.loop-p-test.true, c.requires.0.bytes, c.well_formed)
-
-pub enter-requires : goal.enter-requires
-enter-requires c =
-    let a = c.args in
-    let f = place-fits c.loop-p.p a.table.now.places a.table.now.size c.loop-p-test.true in
-    (omega (arith, f, c.loop-p.invariant.sized.bytes), omega (arith, f, c.requires.1.bytes))
-
-pub bounds-map-p : goal.bounds-map-p
-bounds-map-p c = omega (arith, c.loop-p.invariant.sized.marks)
 
 pub loop-p-preserved : goal.loop-p-preserved
 loop-p-preserved c =

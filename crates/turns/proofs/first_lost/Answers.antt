@@ -1,16 +1,10 @@
 -- `turns::first_lost` meets its contract.
-use Rattle.erasure.specs.LostLaws.{place-below, lost-hit, lost-miss, lost-end}
-use Prim.Native.Nat.{◌+◌, ◌-◌, ◌≤◌}
-use mathlib.Core.Path.{◌≡◌, sym, ap, ◌∙◌}
+use Rattle.erasure.specs.LostLaws.{place-below, lost-hit, lost-miss}
+use Prim.Native.Nat.{◌+◌, ◌≤◌}
+use mathlib.Core.Path.{sym, ap, ◌∙◌}
 use native.Mathlib.Omega.{arith}
 use lib.ListN.{length, get_or}
 use Rattle.turns.proofs.first_lost.Goals as goal
-
-pub loop-i-init : goal.loop-i-init
-loop-i-init c =
-    let a = c.args in
-    let z : a.at + a.weight - a.at ≡ a.weight = omega arith in
-    rw z
 
 pub bounds-map-p : goal.bounds-map-p
 bounds-map-p c =
@@ -34,9 +28,3 @@ loop-i-preserved c =
     let r : a.at + a.weight ≤ length a.t.now = c.requires.room in
     let p = c.from-p.ensures in
     s.invariant ∙ ap (λ l. get_or l 0 0) (lost-miss a.map.now a.t.now s.i (a.at + a.weight) c.loop-i-test.true r (rw p at c.if-map-p-eq1.false))
-
-pub returns : goal.returns
-returns c =
-    let s = c.loop-i in
-    let a = c.args in
-    sym (s.invariant ∙ ap (λ l. get_or l 0 0) (lost-end a.map.now a.t.now s.i (a.at + a.weight) c.loop-i-test.false))

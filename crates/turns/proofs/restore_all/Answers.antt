@@ -2,19 +2,13 @@
 use Rattle.table.specs.Table.{checks}
 use Rattle.turns.proofs.Spending.{spent-turn}
 use Rattle.turns.specs.TurnLaws.{at-check}
-use Rattle.turns.proofs.Ordering.{tracked-start, lowest-ready, walk-ready, tracked-turn}
-use Rattle.table.specs.Accepted.{few-places, has-weights, check-is}
-use Rattle.turns.proofs.Turning.{lost-place-in, lost-place, going_start, going_end, going-small, none-next, next-places, next_one, next-some, next-light, next-turn, next-fewer, next-packets, next-long}
+use Rattle.turns.proofs.Ordering.{lowest-ready, walk-ready, tracked-turn}
+use Rattle.table.specs.Accepted.{few-places, check-is}
+use Rattle.turns.proofs.Turning.{lost-place-in, lost-place, going_end, going-small, none-next, next-places, next_one, next-some, next-light, next-turn, next-fewer, next-packets, next-long}
 use mathlib.Core.Path.{refl, sym, ap, ◌∙◌}
 use native.Mathlib.Omega.{arith}
 use lib.ListN.{set, take, drop}
 use Rattle.turns.proofs.restore_all.Goals as goal
-
-pub loop-j-init : goal.loop-j-init
-loop-j-init c = let p = c.requires in (going_start _ _ _ _ _ p.2 p.3, tracked-start _ _ _ _ p.1, p.4)
-
-pub lowest_one-requires : goal.lowest_one-requires
-lowest_one-requires c = let s = c.loop-j in (s.invariant.1.low-in, s.invariant.1.counted.room)
 
 pub returns : goal.returns
 returns c =
@@ -23,66 +17,6 @@ returns c =
     let s = c.loop-j in
     let number = lowest-ready _ _ _ _ k s.map s.count s.low s.invariant.1 _ c.in_default.ensures in
     (going_end _ _ _ _ _ _ _ _ c.requires.3 (few-places _ _ _ _ k) s.invariant.0 (none-next _ _ _ _ k s.map _ number refl), s.invariant.1.counted, s.invariant.2)
-
-pub overflow_add-j : goal.overflow_add-j
-overflow_add-j c =
-    let a = c.args in
-    let k = a.located.now.table.accepted in
-    let p = c.requires in
-    let s = c.loop-j in
-    let found = c.in-Some.ensures.1 in
-    let number = lowest-ready _ _ _ _ k s.map s.count s.low s.invariant.1 _ found in
-    let more = c.in-Some.ensures.0 in
-    let z = more in
-    omega (arith, z, has-weights _ _ _ _ k, a.located.now.starts_at.room)
-
-pub offset_bounds-table-j : goal.offset_bounds-table-j
-offset_bounds-table-j c =
-    let a = c.args in
-    let k = a.located.now.table.accepted in
-    let p = c.requires in
-    let s = c.loop-j in
-    let found = c.in-Some.ensures.1 in
-    let number = lowest-ready _ _ _ _ k s.map s.count s.low s.invariant.1 _ found in
-    let more = c.in-Some.ensures.0 in
-    let z = more in
-    omega (arith, z, has-weights _ _ _ _ k, a.located.now.starts_at.room)
-
-pub bounds-table-j : goal.bounds-table-j
-bounds-table-j c =
-    let a = c.args in
-    let k = a.located.now.table.accepted in
-    let p = c.requires in
-    let s = c.loop-j in
-    let found = c.in-Some.ensures.1 in
-    let number = lowest-ready _ _ _ _ k s.map s.count s.low s.invariant.1 _ found in
-    let more = c.in-Some.ensures.0 in
-    let z = more in
-    omega (arith, z, has-weights _ _ _ _ k, a.located.now.starts_at.room)
-
-pub offset_bounds-located-j : goal.offset_bounds-located-j
-offset_bounds-located-j c =
-    let a = c.args in
-    let k = a.located.now.table.accepted in
-    let p = c.requires in
-    let s = c.loop-j in
-    let found = c.in-Some.ensures.1 in
-    let number = lowest-ready _ _ _ _ k s.map s.count s.low s.invariant.1 _ found in
-    let more = c.in-Some.ensures.0 in
-    let z = more in
-    omega (arith, z, has-weights _ _ _ _ k, a.located.now.starts_at.room)
-
-pub bounds-located-j : goal.bounds-located-j
-bounds-located-j c =
-    let a = c.args in
-    let k = a.located.now.table.accepted in
-    let p = c.requires in
-    let s = c.loop-j in
-    let found = c.in-Some.ensures.1 in
-    let number = lowest-ready _ _ _ _ k s.map s.count s.low s.invariant.1 _ found in
-    let more = c.in-Some.ensures.0 in
-    let z = more in
-    omega (arith, z, has-weights _ _ _ _ k, a.located.now.starts_at.room)
 
 pub restore_one-p-requires : goal.restore_one-p-requires
 restore_one-p-requires c =
@@ -148,20 +82,6 @@ walk-low-requires c =
     let run = take c.from-w.result (drop c.from.result a.located.now.table.words.now) in
     let in-n = lost-place-in s.map run _ _ s.invariant.0.places one r.0 in
     walk-ready _ _ _ _ k s.map s.count s.low s.invariant.1 _ found a.head.now a.next.now a.owner.now p.0 _ in-n (lost-place s.map run _ one r.0) _ c.from-in-Some.ensures
-
-pub bounds-used-j : goal.bounds-used-j
-bounds-used-j c =
-    let a = c.args in
-    let k = a.located.now.table.accepted in
-    let p = c.requires in
-    let s = c.loop-j in
-    let found = c.in-Some.ensures.1 in
-    let number = lowest-ready _ _ _ _ k s.map s.count s.low s.invariant.1 _ found in
-    let more = c.in-Some.ensures.0 in
-    let at = c.from.ensures in
-    let weight = c.from-w.ensures in
-    let one = next_one _ _ _ _ k s.map _ number more a.located.now.starts.now a.located.now.starts_at _ _ at weight in
-    omega (arith, more, s.invariant.2.room)
 
 pub overflow_sub-adds : goal.overflow_sub-adds
 overflow_sub-adds c =

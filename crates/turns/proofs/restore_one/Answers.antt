@@ -1,14 +1,9 @@
 -- `turns::restore_one` meets its contract.
-use Rattle.table.specs.Checks.{Places}
 use Rattle.table.specs.SumLaws.{places-in}
 use Rattle.turns.proofs.Turning.{lost-place-in}
-use mathlib.Core.Path.{sym, ◌∙◌, subst}
 use native.Mathlib.Omega.{arith}
 use lib.ListN.{take, drop}
 use Rattle.turns.proofs.restore_one.Goals as goal
-
-pub first_lost-p-requires : goal.first_lost-p-requires
-first_lost-p-requires c = let p = c.requires in subst (λ k. Places c.args.table.now.words.now c.args.at c.args.weight k) (sym p.2) p.0
 
 pub restore-requires : goal.restore-requires
 restore-requires c =
@@ -22,6 +17,3 @@ bounds-map-p c =
     let a = c.args in
     let h = lost-place-in a.map.now (take a.weight (drop a.at a.table.now.words.now)) _ _ p.2 p.3 c.first_lost-p.ensures in
     omega arith
-
-pub returns : goal.returns
-returns c = let e = c.first_lost-p.ensures in (e, record { block-is = c.restore.ensures ∙ rw e; map_is = rw e })

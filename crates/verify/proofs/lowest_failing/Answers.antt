@@ -2,7 +2,7 @@
 use Rattle.table.specs.Packets.{packets}
 use Rattle.table.specs.Table.{checks}
 use Rattle.faults.proofs.FaultLaws.{fault-hit, fault-zero, fault-end}
-use Rattle.table.specs.Accepted.{has-weights, few_bytes, check-count, check-is, check-fits, check-in, offset-more}
+use Rattle.table.specs.Accepted.{few_bytes, check-count, check-is, check-fits, check-in, offset-more}
 use Rattle.table.specs.Checks.{check_sum}
 use Rattle.table.specs.ChecksLaws.{offset-none}
 use Rattle.table.specs.CodewordLaws.{sum-byte, sum-zero, sum-nonzero}
@@ -16,17 +16,8 @@ use Rattle.verify.proofs.Sparing.{fault-spared}
 use Rattle.verify.proofs.lowest_failing.Goals as goal
 use Rattle.verify.proofs.lowest_failing.Goals.{then-judged+else-low-table, else-judged}
 
-pub overflow_add-at : goal.overflow_add-at
-overflow_add-at g c = omega (arith, has-weights _ _ _ _ c.args.table.now.accepted)
-
 pub loop-j-init : goal.loop-j-init
 loop-j-init g c = (omega (arith, offset-none c.args.table.now.words.now c.args.table.now.checks), λ counts h. refl)
-
-pub offset_bounds-table-j : goal.offset_bounds-table-j
-offset_bounds-table-j g c = omega (arith, has-weights _ _ _ _ c.args.table.now.accepted)
-
-pub bounds-table-j : goal.bounds-table-j
-bounds-table-j g c = omega (arith, has-weights _ _ _ _ c.args.table.now.accepted)
 
 pub sum_of_check-low-requires : goal.sum_of_check-low-requires
 sum_of_check-low-requires g c =
