@@ -4,7 +4,6 @@ use Rattle.chains.specs.LinkedLaws.{linked_of}
 use Rattle.restore.proofs.Passing.{spent-start, judges}
 use Rattle.table.specs.Accepted.{few-places, few-checks, few_words}
 use native.Mathlib.Omega.{arith}
-use Prim.Native.Nat.{◌<◌}
 use mathlib.Core.Path.{◌≡◌}
 use mathlib.Core.Bool.{true, false}
 use lib.ListN.{get_or}

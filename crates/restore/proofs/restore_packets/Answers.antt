@@ -2,9 +2,9 @@
 use Prim.Native.Nat.{◌-◌}
 use mathlib.Core.Path.{refl, ap₂}
 use native.Mathlib.Omega.{arith}
-use Rattle.table.specs.Accepted.{few-places, few-checks}
+use Rattle.table.specs.Accepted.{few-places}
 use Rattle.restore.proofs.Settling.{fewer, settled, unsettled}
-use Rattle.restore.specs.SavedLaws.{saved-room, put_back}
+use Rattle.restore.specs.SavedLaws.{put_back}
 use Rattle.restore.proofs.restore_packets.Goals as goal
 
 pub overflow_sub-result : goal.overflow_sub-result
