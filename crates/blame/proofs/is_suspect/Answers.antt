@@ -1,9 +1,7 @@
 -- `blame::is_suspect` meets its contract: one byte position is enough to say no.
-use mathlib.Core.Path.{refl, sym, ap, ◌∙◌}
+use mathlib.Core.Path.{refl, sym, ◌∙◌}
 use native.Mathlib.Omega.{arith}
-use Rattle.suspects.specs.Blame.{suspect}
 use Rattle.blame.proofs.Narrowing.{places-same, narrow-cleared, none-narrow}
-use Rattle.blame.proofs.Searching.{cleared-same}
 use Rattle.blame.proofs.is_suspect.Goals as goal
 
 pub try_place-requires : goal.try_place-requires
@@ -14,19 +12,6 @@ try_place-requires c =
       block = narrow-cleared _ _ _ _ k a.block.now _ _ p.narrow _ _ _ a.small.now.accepted a.map.now p.block;
       place = omega (arith, places-same _ _ _ _ k a.block.now _ _ p.narrow _ _ _ a.small.now.accepted, p.place);
     }
-
-pub try_place-requires-then-try_place : goal.try_place-requires-then-try_place
-try_place-requires-then-try_place c =
-    let a = c.args in
-    let p = c.requires in
-    record { block = cleared-same a.table.now.words.now a.table.now.places a.table.now.size _ _ _ _ refl c.try_place.ensures.map p.block; place = p.place }
-
-pub returns-then-try_place : goal.returns-then-try_place
-returns-then-try_place c =
-    let a = c.args in
-    let e = c.try_place.ensures in
-    let f = c.try_place-then-try_place.ensures in
-    record { suspect = f.suspect ∙ ap (λ l. suspect a.table.now.words.now a.block.now l a.p) e.map; block = f.block; map = f.map ∙ e.map; column = e.block }
 
 pub returns : goal.returns
 returns c =

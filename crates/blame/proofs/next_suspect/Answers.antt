@@ -1,17 +1,9 @@
 -- `blame::next_suspect` meets its contract: the rest decides.
-use mathlib.Core.Path.{refl, ◌∙◌}
+use mathlib.Core.Path.{◌∙◌}
 use native.Mathlib.Omega.{arith}
-use Rattle.blame.proofs.Searching.{cleared-same, narrow-same, tried_same, step-over, stop-at, stop-at-end}
+use Rattle.blame.proofs.Searching.{tried_same, step-over, stop-at, stop-at-end}
 use Rattle.suspects.specs.Blame.{suspect}
 use Rattle.blame.proofs.next_suspect.Goals as goal
-
-pub loop-p-init : goal.loop-p-init
-loop-p-init c = (refl, refl, refl, refl)
-
-pub is_suspect-requires : goal.is_suspect-requires
-is_suspect-requires c =
-    let l = c.loop-p in
-    let a = c.args in record { block = cleared-same a.table.now.words.now a.table.now.places a.table.now.size _ _ _ _ l.invariant.0 l.invariant.1 c.requires.block; narrow = narrow-same a.table.now.words.now a.table.now.places a.table.now.size _ _ _ _ l.invariant.0 l.invariant.1 a.small.now.words.now _ _ l.invariant.2 c.requires.narrow; place = c.loop-p-test.true }
 
 pub returns-then-is_suspect : goal.returns-then-is_suspect
 returns-then-is_suspect c =

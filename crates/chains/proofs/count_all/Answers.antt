@@ -22,12 +22,6 @@ overflow_cast-count c =
     let e = rw c.check.ensures at c.lost_in.ensures in
     omega (arith, h, e)
 
-pub offset_bounds-count-j : goal.offset_bounds-count-j
-offset_bounds-count-j c = omega (arith, c.loop-j.invariant.0, c.requires.1)
-
-pub bounds-count-j : goal.bounds-count-j
-bounds-count-j c = omega (arith, c.loop-j.invariant.0, c.requires.1)
-
 pub loop-j-preserved : goal.loop-j-preserved
 unfolding check
 loop-j-preserved c =
@@ -37,8 +31,3 @@ loop-j-preserved c =
       simp length-set s.invariant.0,
       counted-turn a.located.now.table.words.now _ _ _ c.args.located.now.table.accepted c.loop-j.j c.loop-j-test.true _ _ refl refl a.map.now s.count _ (omega (arith, s.invariant.0, p.1)) (rw c.check.ensures at c.lost_in.ensures) s.invariant.1,
     )
-
-pub returns : goal.returns
-returns c =
-    let s = c.loop-j in
-    record { room = omega (arith, s.invariant.0, c.requires.1); each = λ j h. s.invariant.1 j (omega arith) }

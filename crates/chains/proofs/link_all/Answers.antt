@@ -2,28 +2,13 @@
 use Rattle.table.specs.Checks.{check}
 use Rattle.chains.specs.Linked.{holders}
 use Rattle.chains.proofs.Linking.{links-none, links-more, links-all}
-use Rattle.table.specs.Accepted.{has-weights, few-checks, places-wide, check-fits}
+use Rattle.table.specs.Accepted.{places-wide, check-fits}
 use mathlib.Core.Path.{refl, ◌∙◌}
 use native.Mathlib.Omega.{arith}
 use Rattle.chains.proofs.link_all.Goals as goal
 
 pub loop-j-init : goal.loop-j-init
 loop-j-init c = (refl, refl, refl, links-none _ _ _ _ _ c.requires.4)
-
-pub offset_bounds-located-j : goal.offset_bounds-located-j
-offset_bounds-located-j c = omega (arith, has-weights c.args.located.now.table.words.now _ _ _ c.args.located.now.table.accepted, c.args.located.now.starts_at.room)
-
-pub bounds-located-j : goal.bounds-located-j
-bounds-located-j c = omega (arith, has-weights c.args.located.now.table.words.now _ _ _ c.args.located.now.table.accepted, c.args.located.now.starts_at.room)
-
-pub offset_bounds-table-j : goal.offset_bounds-table-j
-offset_bounds-table-j c = omega (arith, has-weights c.args.located.now.table.words.now _ _ _ c.args.located.now.table.accepted, c.args.located.now.starts_at.room)
-
-pub bounds-table-j : goal.bounds-table-j
-bounds-table-j c = omega (arith, has-weights c.args.located.now.table.words.now _ _ _ c.args.located.now.table.accepted, c.args.located.now.starts_at.room)
-
-pub overflow_cast-j : goal.overflow_cast-j
-overflow_cast-j c = omega (arith, few-checks c.args.located.now.table.words.now _ _ _ c.args.located.now.table.accepted)
 
 pub link_check-requires : goal.link_check-requires
 link_check-requires c =

@@ -1,5 +1,5 @@
 -- `chains::walk` meets its contract.
-use Rattle.chains.proofs.Walking.{walk_start, walk_end, walk-in, walk-in-owner, walk-falls, walk-check, walk-some, walk_turn}
+use Rattle.chains.proofs.Walking.{walk_start, walk_end, walk-check, walk_turn}
 use Prim.Native.Nat.{◌-◌, ◌≤◌}
 use mathlib.Core.Path.{◌≡◌, refl}
 use native.Mathlib.Omega.{arith}
@@ -10,35 +10,8 @@ use Rattle.chains.proofs.walk.Goals.{then-left-eq1, else-left-eq1}
 pub loop-i-init : goal.loop-i-init
 loop-i-init c = walk_start _ _ _ _ _ c.requires
 
-pub offset_bounds-owner-i : goal.offset_bounds-owner-i
-offset_bounds-owner-i c = let h = walk-in-owner _ _ _ _ _ _ _ _ c.loop-i.invariant c.loop-i-test.true in omega (arith, h)
-
-pub bounds-owner-i : goal.bounds-owner-i
-bounds-owner-i c = let h = walk-in-owner _ _ _ _ _ _ _ _ c.loop-i.invariant c.loop-i-test.true in omega (arith, h)
-
-pub offset_bounds-count-j : goal.offset_bounds-count-j
-offset_bounds-count-j c = let h = walk-check _ _ _ _ _ _ _ _ c.loop-i.invariant c.loop-i-test.true _ c.from-j.ensures in omega (arith, h)
-
 pub bounds-count-j : goal.bounds-count-j
 bounds-count-j c = walk-check _ _ _ _ _ _ _ _ c.loop-i.invariant c.loop-i-test.true _ c.from-j.ensures
-
-pub overflow_sub-left : goal.overflow_sub-left
-overflow_sub-left c = walk-some _ _ _ _ _ _ _ _ c.loop-i.invariant c.loop-i-test.true _ c.from-j.ensures
-
-pub offset_bounds-count-j-in-loop-i : goal.offset_bounds-count-j-in-loop-i
-offset_bounds-count-j-in-loop-i c = let h = walk-check _ _ _ _ _ _ _ _ c.loop-i.invariant c.loop-i-test.true _ c.from-j.ensures in omega (arith, h)
-
-pub bounds-count-j-in-loop-i : goal.bounds-count-j-in-loop-i
-bounds-count-j-in-loop-i c = walk-check _ _ _ _ _ _ _ _ c.loop-i.invariant c.loop-i-test.true _ c.from-j.ensures
-
-pub offset_bounds-next-i : goal.offset_bounds-next-i
-offset_bounds-next-i c = let h = walk-in _ _ _ _ _ _ _ _ c.loop-i.invariant c.loop-i-test.true in omega (arith, h)
-
-pub bounds-next-i : goal.bounds-next-i
-bounds-next-i c = let h = walk-in _ _ _ _ _ _ _ _ c.loop-i.invariant c.loop-i-test.true in omega (arith, h)
-
-pub loop-i-smaller : goal.loop-i-smaller
-loop-i-smaller c = let h = walk-falls _ _ _ _ _ _ _ _ c.loop-i.invariant c.loop-i-test.true in omega (arith, h, c.from-i.ensures)
 
 pub loop-i-preserved : goal.loop-i-preserved
 loop-i-preserved c =

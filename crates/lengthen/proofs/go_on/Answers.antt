@@ -1,24 +1,9 @@
 -- `lengthen::go_on` meets its contract.
 use mathlib.Core.Path.{refl, ap, ◌∙◌}
-use native.Mathlib.Omega.{arith}
 use Rattle.std.proofs.lemmas.Result.{err_from_is_err_and}
 use Rattle.erasure.specs.Offered.{Held, held}
-use Rattle.lengthen.proofs.Answering.{answer-accepted, answer-contradicted, started, lent}
+use Rattle.lengthen.proofs.Answering.{answer-accepted, answer-contradicted, started}
 use Rattle.lengthen.proofs.go_on.Goals as goal
-
-pub enter_all-requires : goal.enter_all-requires
-enter_all-requires c =
-    let a = c.args.old.now.accepted in
-    let z = c.args.new.now.accepted in
-    let lends = lent c.args.old.now.words.now c.args.new.now.words.now _ _ _ a.places-are z.places-are z.size_is in
-    (lends _ _ c.requires.block-length c.requires.map-length, lends _ _ c.requires.arrivals-length c.requires.arrived-length)
-
-pub restore_packets-requires : goal.restore_packets-requires
-restore_packets-requires c =
-    let a = c.args.old.now.accepted in
-    let z = c.args.new.now.accepted in
-    let l = lent c.args.old.now.words.now c.args.new.now.words.now _ _ _ a.places-are z.places-are z.size_is c.args.block.now c.args.map.now c.requires.block-length c.requires.map-length in
-    (omega (arith, l.bytes), omega (arith, l.marks))
 
 pub returns-in_err-restore_packets : goal.returns-in_err-restore_packets
 returns-in_err-restore_packets c =

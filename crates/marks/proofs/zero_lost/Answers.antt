@@ -1,29 +1,11 @@
 -- `marks::zero_lost` meets its contract.
-use Rattle.table.specs.Accepted.{block-small}
-use Rattle.table.specs.BufferLaws.{place-fits}
 use Rattle.table.specs.Packets.{joined}
 use Rattle.marks.proofs.BlockLaws.{cleared-hit, cleared-miss, cleared-end}
-use mathlib.Core.Path.{refl, sym, ap, ◌∙◌}
+use mathlib.Core.Path.{sym, ap, ◌∙◌}
 use native.Mathlib.Omega.{arith}
 use Prim.Native.Nat.{◌<◌}
 use Rattle.marks.proofs.zero_lost.Goals as goal
 use Rattle.marks.proofs.zero_lost.Goals.{then-mark-eq1, else-mark-eq1}
-
-pub loop-p-init : goal.loop-p-init
-loop-p-init c = (c.requires.0, refl)
-
-pub overflow_mul-p : goal.overflow_mul-p
-overflow_mul-p c =
-    let a = c.args in
-    let s = c.loop-p in
-    omega (arith, place-fits s.p a.table.now.places a.table.now.size (omega (arith, c.requires.1)), block-small _ _ _ _ a.table.now.accepted)
-
-pub clear-requires : goal.clear-requires
-clear-requires c =
-    let a = c.args in
-    let s = c.loop-p in
-    let f = place-fits s.p a.table.now.places a.table.now.size (omega (arith, c.requires.1)) in
-    omega (arith, f, s.invariant.0)
 
 pub loop-p-preserved : goal.loop-p-preserved
 loop-p-preserved c =

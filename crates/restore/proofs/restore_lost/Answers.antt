@@ -4,16 +4,12 @@ use Rattle.chains.specs.LinkedLaws.{linked_of}
 use Rattle.restore.proofs.Passing.{spent-start, judges}
 use Rattle.table.specs.Accepted.{few-places, few-checks, few_words}
 use native.Mathlib.Omega.{arith}
-use Prim.Native.Nat.{◌<◌}
 use mathlib.Core.Path.{◌≡◌}
 use mathlib.Core.Bool.{true, false}
 use lib.ListN.{get_or}
 use Rattle.std.proofs.Common.{rules}
 use Rattle.erasure.specs.Restoring.{none_lost}
 use Rattle.restore.proofs.restore_lost.Goals as goal
-
-pub count_all-requires : goal.count_all-requires
-count_all-requires c = let p = c.requires in let a = c.args in (p.1, few-checks a.located.now.table.words.now a.located.now.table.checks a.located.now.table.places a.located.now.table.size a.located.now.table.accepted)
 
 pub link_all-requires : goal.link_all-requires
 link_all-requires c =
@@ -32,9 +28,6 @@ restore_all-adds-requires c =
       p.1,
       spent-start _ _ _ _ _ _ (few-checks a.located.now.table.words.now a.located.now.table.checks a.located.now.table.places a.located.now.table.size a.located.now.table.accepted),
     )
-
-pub lowest_failing-fault-requires-clause-asked : goal.lowest_failing-fault-requires-clause-asked
-lowest_failing-fault-requires-clause-asked c = λ j h. let few : j < 512 = omega (arith, few-checks _ _ _ _ c.args.located.now.table.accepted) in search rules
 
 pub returns : goal.returns
 returns c =

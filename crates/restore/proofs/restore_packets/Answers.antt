@@ -2,40 +2,16 @@
 use Prim.Native.Nat.{◌-◌}
 use mathlib.Core.Path.{refl, ap₂}
 use native.Mathlib.Omega.{arith}
-use Rattle.table.specs.Accepted.{few-places, few-checks}
+use Rattle.table.specs.Accepted.{few-places}
 use Rattle.restore.proofs.Settling.{fewer, settled, unsettled}
-use Rattle.restore.specs.SavedLaws.{saved-room, put_back}
+use Rattle.restore.specs.SavedLaws.{put_back}
 use Rattle.restore.proofs.restore_packets.Goals as goal
-
-pub fill_starts-requires : goal.fill_starts-requires
-fill_starts-requires c = few-checks _ _ _ _ c.args.table.now.accepted
-
-pub copy-requires : goal.copy-requires
-copy-requires c = (omega (arith, few-places _ _ _ _ c.args.table.now.accepted), omega (arith, c.requires.1))
-
-pub tally_of-before-requires : goal.tally_of-before-requires
-tally_of-before-requires c = omega (arith, c.requires.1, few-places _ _ _ _ c.args.table.now.accepted)
-
-pub tally_of-lost-requires : goal.tally_of-lost-requires
-tally_of-lost-requires c = omega (arith, c.requires.1, few-places _ _ _ _ c.args.table.now.accepted)
 
 pub overflow_sub-result : goal.overflow_sub-result
 overflow_sub-result c =
     let a = c.args in
     let p = c.requires in
     omega (arith, c.tally_of-before.ensures, c.tally_of-lost.ensures, fewer _ _ _ _ a.table.now.accepted a.block.now a.map.now p.0 p.1 _ c.zero_lost.ensures _ _ _ c.restore_lost-done.ensures.0)
-
-pub overflow_cast-result : goal.overflow_cast-result
-overflow_cast-result c = omega (arith, c.restore_lost-done.ensures.0.few)
-
-pub copy-requires-in-Some : goal.copy-requires-in-Some
-copy-requires-in-Some c =
-    let p = c.requires in
-    let a = c.args in
-    (omega (arith, p.1), omega (arith, saved-room _ a.map.now _ a.table.now.places (few-places _ _ _ _ a.table.now.accepted) p.1 c.copy.ensures))
-
-pub zero_lost-requires-in-Some : goal.zero_lost-requires-in-Some
-zero_lost-requires-in-Some c = (omega (arith, c.requires.0), omega (arith, c.requires.1))
 
 pub returns-in-Some : goal.returns-in-Some
 returns-in-Some c =

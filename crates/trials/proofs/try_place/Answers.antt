@@ -1,69 +1,22 @@
 -- `trials::try_place` meets its contract.
 use Prim.Native.Nat.{◌+◌, ◌*◌, ◌≤◌}
-use mathlib.Core.Path.{◌≡◌, refl, sym, ◌∙◌}
+use mathlib.Core.Path.{◌≡◌, sym, ◌∙◌}
 use mathlib.Core.Bool.{not, ◌&&◌}
 use lib.Dec.{eqb}
 use Rattle.lists.specs.Tests.{and-false}
 use native.Mathlib.Omega.{arith}
-use borrow.Author.Tests.{eq-eqb, ne_eqb}
+use borrow.Author.Tests.{eq-eqb}
 use lib.ListN.{length, get_or, length-set}
-use Rattle.table.specs.Accepted.{few-places, few_bytes, block-small}
+use Rattle.table.specs.Accepted.{few-places, few_bytes}
 use Rattle.table.specs.BufferLaws.{place-fits}
-use Rattle.restore.specs.SavedLaws.{part_room, part-saved, saved-room, put_back}
+use Rattle.restore.specs.SavedLaws.{part-saved, put_back}
 use Rattle.erasure.specs.Restoring.{agreeing}
 use Rattle.restore.specs.Mending.{counts_of}
 use Rattle.restore.specs.MendsLaws.{agrees-told}
 use Rattle.suspects.specs.Blame.{lost_too}
-use Rattle.trials.proofs.Undoing.{told, both, not-received, received-says, block_back}
+use Rattle.trials.proofs.Undoing.{told, both, received-says, block_back}
 use Rattle.trials.proofs.try_place.Goals as goal
 use Rattle.trials.proofs.try_place.Goals.{then-agrees, else-agrees}
-
-pub returns-then-map-p-ne0 : goal.returns-then-map-p-ne0
-returns-then-map-p-ne0 c = record { suspect = not-received c.args.table.now.words.now c.args.block.now c.args.map.now c.args.p (ne_eqb _ _ c.if-map-p-ne0.true); block = refl; map = refl }
-
-pub copy-requires : goal.copy-requires
-copy-requires c =
-    let a = c.args in
-    (omega (arith, few-places a.table.now.words.now a.table.now.checks a.table.now.places a.table.now.size c.args.table.now.accepted), omega (arith, c.requires.block.marks))
-
-pub overflow_mul-p : goal.overflow_mul-p
-overflow_mul-p c =
-    let a = c.args in
-    omega (arith, place-fits a.p a.table.now.places a.table.now.size c.requires.place, block-small a.table.now.words.now a.table.now.checks a.table.now.places a.table.now.size c.args.table.now.accepted)
-
-pub copy-requires-2 : goal.copy-requires-2
-copy-requires-2 c =
-    let a = c.args in
-    (omega (arith, few_bytes a.table.now.words.now a.table.now.checks a.table.now.places a.table.now.size c.args.table.now.accepted), omega (arith, place-fits a.p a.table.now.places a.table.now.size c.requires.place, c.requires.block.bytes))
-
-pub restore_packets-requires : goal.restore_packets-requires
-restore_packets-requires c = (c.requires.block.bytes, length-set c.args.map.now c.args.p 1 ∙ c.requires.block.marks)
-
-pub bounds-map-p-then-agrees : goal.bounds-map-p-then-agrees
-bounds-map-p-then-agrees c = omega (arith, length-set c.args.map.now c.args.p 1, c.requires.block.marks, c.requires.place)
-
-pub copy-requires-3 : goal.copy-requires-3
-copy-requires-3 c =
-    let a = c.args in (
-      omega (arith, length-set a.map.now a.p 1, c.requires.block.marks),
-      omega (arith, saved-room _ a.map.now _ a.table.now.places (few-places a.table.now.words.now a.table.now.checks a.table.now.places a.table.now.size c.args.table.now.accepted) c.requires.block.marks c.copy.ensures),
-    )
-
-pub zero_lost-requires : goal.zero_lost-requires
-zero_lost-requires c = (omega (arith, c.requires.block.bytes), omega (arith, length-set c.args.map.now c.args.p 1, c.requires.block.marks))
-
-pub overflow_mul-p-2 : goal.overflow_mul-p-2
-overflow_mul-p-2 c =
-    let a = c.args in
-    omega (arith, place-fits a.p a.table.now.places a.table.now.size c.requires.place, block-small a.table.now.words.now a.table.now.checks a.table.now.places a.table.now.size c.args.table.now.accepted)
-
-pub copy-requires-4 : goal.copy-requires-4
-copy-requires-4 c =
-    let a = c.args in
-    let f = place-fits a.p a.table.now.places a.table.now.size c.requires.place in
-    let few = few_bytes a.table.now.words.now a.table.now.checks a.table.now.places a.table.now.size c.args.table.now.accepted in
-    let room : a.p * a.table.now.size + a.table.now.size ≤ length a.block.now = omega (arith, f, c.requires.block.bytes) in
-    (omega (arith, f, c.requires.block.bytes), omega (arith, part_room _ a.block.now _ (a.p * a.table.now.size) a.table.now.size few room c.copy-2.ensures))
 
 pub returns : goal.returns
 returns c =

@@ -9,12 +9,6 @@ use native.Mathlib.Omega.{arith}
 use lib.ListN.{set}
 use Rattle.turns.proofs.restore_all.Goals as goal
 
-pub loop-j-init : goal.loop-j-init
-loop-j-init c = let p = c.requires in (going_start _ _ _ _ _ p.2 p.3, tracked-start _ _ _ _ p.1, p.4)
-
-pub lowest_one-requires : goal.lowest_one-requires
-lowest_one-requires c = let s = c.loop-j in (s.invariant.1.low-in, s.invariant.1.counted.room)
-
 pub returns : goal.returns
 returns c =
     let a = c.args in

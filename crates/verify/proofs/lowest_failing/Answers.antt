@@ -16,9 +16,6 @@ use Rattle.verify.proofs.Sparing.{fault-spared}
 use Rattle.verify.proofs.lowest_failing.Goals as goal
 use Rattle.verify.proofs.lowest_failing.Goals.{then-judged+in_default, else-judged}
 
-pub overflow_add-at : goal.overflow_add-at
-overflow_add-at g c = omega (arith, has-weights _ _ _ _ c.args.table.now.accepted)
-
 pub loop-j-init : goal.loop-j-init
 loop-j-init g c = (omega (arith, offset-none c.args.table.now.words.now c.args.table.now.checks), λ counts h. refl)
 
