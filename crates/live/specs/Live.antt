@@ -39,8 +39,14 @@ pub record Calm (c : List ℕ) (top : ℕ) : Type 0 where
   pub most : top ≤ length c
   pub above : (p : ℕ) → top ≤ p → get_or c p 0 ≡ 1 → ⊥
 
--- r is top, raised above each of the places ps that lies in exactly one live check
-pub record Raised (c ps : List ℕ) (top r : ℕ) : Type 0 where
+-- r is top, raised above each of weight places of t from at that lies in exactly one live check
+pub record Raised (c t : List ℕ) (at weight top r : ℕ) : Type 0 where
+  pub low : top ≤ r
+  pub most : r ≤ length c
+  pub above : (i : ℕ) → i < weight → get_or c (get_or t (at + i) 0) 0 ≡ 1 → get_or t (at + i) 0 < r
+
+-- the same of places as a list
+pub record RaisedOver (c ps : List ℕ) (top r : ℕ) : Type 0 where
   pub low : top ≤ r
   pub most : r ≤ length c
   pub above : (i : ℕ) → i < length ps → get_or c (get_or ps i 0) 0 ≡ 1 → get_or ps i 0 < r

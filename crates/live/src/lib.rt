@@ -3,7 +3,7 @@
 
 ghost use Rattle.std.specs.Prelude.{◌≡◌, ◌≤◌, ◌<◌, eqb, length, get_or};
 ghost use Rattle.lists.specs.Lists.{highest, All, Distinct};
-ghost use Rattle.live.specs.Live.{Noted, Forgot, Raised, found};
+ghost use Rattle.live.specs.Live.{Noted, Forgot, RaisedOver, found};
 
 // check j, with these places, becomes live
 pub fn note(count: &mut [u16], names: &mut [u16], places: &[u16], j: u16)
@@ -52,7 +52,7 @@ pub fn single(count: &[u16], n: usize) -> Option<usize>
 pub fn raise(count: &[u16], places: &[u16], top: usize) -> usize
     requires places { All (λ p. p < length count.now) places.now }
     requires top { top ≤ length count.now }
-    ensures { Raised count.now places.now top result }
+    ensures { RaisedOver count.now places.now top result }
 {
     let mut r = top;
     for p in places {

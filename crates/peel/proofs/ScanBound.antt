@@ -12,7 +12,7 @@ use Rattle.lists.specs.Tests.{eqb-true, by_bool}
 use Rattle.lists.specs.Lists.{highest, has}
 use Rattle.lists.specs.ListLaws.{highest-none, highest-upto, highest-over}
 use Rattle.rule.specs.Rule.{in_one_only}
-use Rattle.live.specs.Live.{Tally, Forgot, Calm, Raised}
+use Rattle.live.specs.Live.{Tally, Forgot, Calm, RaisedOver}
 use Rattle.live.specs.TallyLaws.{single-is}
 
 -- a place in exactly one live check
@@ -52,7 +52,7 @@ has-find p (q ∷ l) h f = by_bool (eqb p q)
     (λ e. f 0 (omega arith) (sym (eqb-true p q e)))
     (λ e. has-find p l (rw e at h) (λ k z o. f (suc k) (omega arith) o))
 
-pub calm-less : {c x d y ps : List ℕ} {j top r : ℕ} → Calm c top → Forgot c x ps j d y → Raised d ps top r → Calm d r
+pub calm-less : {c x d y ps : List ℕ} {j top r : ℕ} → Calm c top → Forgot c x ps j d y → RaisedOver d ps top r → Calm d r
 calm-less {c} {x} {d} {y} {ps} {j} {top} {r} s u v =
     let low = v.low in
     record {

@@ -1,6 +1,6 @@
 -- `columns::fill_columns` meets its contract: the columns are those of the first i set-aside checks.
 use Rattle.lists.specs.ListLaws.{all_map}
-use Rattle.live.specs.MarkLaws.{check-apart, check-low}
+use Rattle.live.specs.TurnLaws.{check-apart, check-low}
 use Rattle.masks.specs.DotLaws.{unit-word}
 use Rattle.columns.proofs.Pushing.{fill-turn}
 use Prim.Native.Nat.{◌<◌}

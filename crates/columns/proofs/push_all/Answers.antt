@@ -1,6 +1,6 @@
 -- `columns::push_all` meets its contract: k solved checks are put in.
 use Rattle.lists.specs.ListLaws.{all_map}
-use Rattle.live.specs.MarkLaws.{check-apart, check-low}
+use Rattle.live.specs.TurnLaws.{check-apart, check-low}
 use Rattle.columns.proofs.Pushing.{start, turn}
 use Prim.Native.Nat.{◌<◌}
 use mathlib.Core.Path.{◌≡◌}

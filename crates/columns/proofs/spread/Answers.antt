@@ -2,7 +2,7 @@
 use mathlib.Core.Path.{refl}
 use native.Mathlib.Omega.{arith}
 use Rattle.lists.specs.ListLaws.{all-at}
-use Rattle.live.specs.MarkLaws.{upd-turn}
+use Rattle.live.specs.TurnLaws.{upd-turn}
 use Rattle.columns.proofs.spread.Goals as goal
 
 pub bounds-col-from : goal.bounds-col-from

@@ -1,7 +1,7 @@
 -- `live::note` meets its contract: so many places are marked.
 use Rattle.std.proofs.Common.{refl, arith}
 use Rattle.lists.specs.ListLaws.{all-at}
-use Rattle.live.specs.MarkLaws.{marked_turn, not_yet}
+use Rattle.live.specs.TurnLaws.{marked_turn, not_yet}
 use Rattle.live.proofs.note.Goals as goal
 
 pub bounds-count-p : goal.bounds-count-p

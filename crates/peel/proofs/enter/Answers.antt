@@ -1,7 +1,7 @@
 -- `peel::enter` meets its contract.
 use Rattle.table.specs.Accepted.{few-checks}
 use Rattle.lists.specs.ListLaws.{all_of}
-use Rattle.live.specs.MarkLaws.{check-apart, check-low}
+use Rattle.live.specs.TurnLaws.{check-apart, check-low}
 use mathlib.Core.Path.{refl}
 use native.Mathlib.Omega.{arith}
 use Rattle.peel.proofs.enter.Goals as goal

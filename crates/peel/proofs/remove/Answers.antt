@@ -1,6 +1,6 @@
 -- `peel::remove` meets its contract.
 use Rattle.table.specs.Accepted.{few-checks}
-use Rattle.live.specs.MarkLaws.{check-apart, check-low}
+use Rattle.live.specs.TurnLaws.{check-apart, check-low}
 use Rattle.peel.proofs.Turns.{in-flag, counted, removed}
 use Rattle.peel.proofs.ScanBound.{calm-less}
 use native.Mathlib.Omega.{arith}
