@@ -1,10 +1,11 @@
 -- `aerials::hear_all` meets its contract.
 use native.Mathlib.Omega.{arith}
 use lib.ListN.{get_or}
+use Rattle.table.specs.BufferLaws.{place-fits}
 use Rattle.table.specs.PacketCall.{part_at}
 use Rattle.aerials.specs.HeardLaws.{packet-sized}
 use Rattle.erasure.proofs.PlaceByPlace.{part-sized}
-use Rattle.packets.specs.Filling.{one-filled, block-filled, map-filled}
+use Rattle.packets.specs.Filling.{none_filled, one-filled, block-filled, map-filled}
 use Rattle.aerials.proofs.hear_all.Goals as goal
 
 pub loop-p-init : goal.loop-p-init

@@ -1,6 +1,7 @@
 -- `entering::enter_all` meets its contract.
 use native.Mathlib.Omega.{arith}
-use Rattle.packets.specs.Filling.{block-filled, map-filled}
+use Rattle.packets.specs.Filling.{none_filled, block-filled, map-filled}
+use Rattle.table.specs.BufferLaws.{place-fits}
 use Rattle.entering.proofs.Going.{entered-more}
 use Rattle.entering.proofs.enter_all.Goals as goal
 
