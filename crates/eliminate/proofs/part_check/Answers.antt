@@ -2,29 +2,14 @@
 use mathlib.Core.Path.{refl, sym, ap, ◌∙◌}
 use native.Mathlib.Omega.{arith}
 use borrow.Author.Tests.{eq-eqb, ne_eqb}
-use Rattle.std.proofs.lemmas.List.{take_all}
 use Rattle.lists.specs.ListLaws.{all-at}
-use Rattle.bits.specs.Front.{front-none}
-use Rattle.bits.specs.RowLaws.{put-put, put_is, put_self}
 use Rattle.erasure.specs.Restoring.{is_lost}
 use Rattle.eliminate.proofs.Parting.{flipped, not_noted, noted as noted_more, not-flipped}
 use Rattle.eliminate.proofs.part_check.Goals as goal
 use Rattle.eliminate.proofs.part_check.Goals.{then-map-q-eq1, else-map-q-eq1}
 
-pub loop-p-init : goal.loop-p-init
-loop-p-init c = record { few = omega arith; row = put_is (put_self _ _) c.clear.ensures.here; noted = front-none _ }
-
 pub bounds-map-q : goal.bounds-map-q
 bounds-map-q c = rw c.from-q.ensures (all-at 0 c.requires.1 c.loop-p.p-index c.loop-p-test.true)
-
-pub flip-requires : goal.flip-requires
-flip-requires c =
-    let h = all-at 0 c.requires.1 c.loop-p.p-index c.loop-p-test.true in
-    let few = c.requires.2 in
-    let l = c.loop-p.invariant.row.len in
-    let r = c.clear.ensures.len in
-    let room = c.requires.0 in
-    (omega arith, omega (arith, c.from-q.ensures, h))
 
 pub loop-p-preserved : goal.loop-p-preserved
 loop-p-preserved c =
@@ -48,9 +33,3 @@ loop-p-preserved c =
             noted = rw (u.noted-is, u.k-is) (noted_more a.map.now _ l.p-index _ h refl known l.invariant.noted (omega arith));
           }
     ]
-
-pub returns : goal.returns
-returns c =
-    let l = c.loop-p in
-    let e = take_all l.p-index c.args.places.now c.loop-p-test.false in
-    record { row = put-put c.clear.ensures (rw e at l.invariant.row); noted = rw e at l.invariant.noted }

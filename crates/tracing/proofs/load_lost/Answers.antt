@@ -1,31 +1,16 @@
 -- `tracing::load_lost` meets its contract: the places so far are loaded.
 use native.Mathlib.Omega.{arith}
 use borrow.Author.Tests.{eq-eqb, ne_eqb}
-use Rattle.std.proofs.lemmas.List.{take_all}
 use Rattle.lists.specs.ListLaws.{all-at}
-use Rattle.bits.specs.RowLaws.{put-put, put_is, put_self}
 use Rattle.tracing.proofs.Loading.{flipped, passed}
 use Rattle.tracing.proofs.load_lost.Goals as goal
 use Rattle.tracing.proofs.load_lost.Goals.{then-lost-p-eq1, else-lost-p-eq1}
-
-pub loop-q-init : goal.loop-q-init
-loop-q-init c = put_is (put_self _ _) c.clear.ensures.here
 
 pub bounds-lost-p : goal.bounds-lost-p
 bounds-lost-p c = let h = all-at 0 c.requires.1 c.loop-q.q-index c.loop-q-test.true in omega (arith, c.from-p.ensures, h)
 
 pub bit_of-requires : goal.bit_of-requires
 bit_of-requires c = rw c.from-p.ensures (all-at 0 c.requires.1 c.loop-q.q-index c.loop-q-test.true)
-
-pub flip-requires : goal.flip-requires
-flip-requires c =
-    let h = all-at 0 c.requires.1 c.loop-q.q-index c.loop-q-test.true in
-    let b = c.bit_of.ensures in
-    let few = c.requires.3 in
-    let l = c.loop-q.invariant.len in
-    let r = c.clear.ensures.len in
-    let room = c.requires.0 in
-    (omega arith, omega (arith, c.from-p.ensures, h))
 
 pub loop-q-preserved : goal.loop-q-preserved
 loop-q-preserved c =
@@ -37,6 +22,3 @@ loop-q-preserved c =
       | then-lost-p-eq1 u ↦ rw u.w-is (flipped a.n a.lost.now _ l.q-index q.result h q.ensures (eq-eqb _ 1 u.if-lost-p-eq1.true) u.bit_of.result u.bit_of.ensures l.invariant u.flip.ensures)
       | else-lost-p-eq1 u ↦ rw u.w-is (passed a.n a.lost.now _ l.q-index q.result h q.ensures (ne_eqb _ 1 u.if-lost-p-eq1.false) l.invariant)
     ]
-
-pub returns : goal.returns
-returns c = let l = c.loop-q in put-put c.clear.ensures (rw (take_all l.q-index c.args.places.now c.loop-q-test.false) at l.invariant)

@@ -1,15 +1,10 @@
 -- `tracing::note_feeders` meets its contract: the places so far are noted.
-use mathlib.Core.Path.{◌≡◌, ap, ◌∙◌}
+use mathlib.Core.Path.{ap, ◌∙◌}
 use native.Mathlib.Omega.{arith}
-use lib.ListN.{get_or, take}
-use Rattle.std.proofs.lemmas.List.{take_all}
-use Rattle.bits.specs.RowLaws.{put-put, put_is, put_self}
+use lib.ListN.{get_or}
 use Rattle.lists.specs.ListLaws.{all-at}
 use Rattle.tracing.proofs.Feeding.{fed}
 use Rattle.tracing.proofs.note_feeders.Goals as goal
-
-pub loop-q-init : goal.loop-q-init
-loop-q-init c = put_is (put_self _ _) c.clear.ensures.here
 
 pub bounds-owner-from : goal.bounds-owner-from
 bounds-owner-from c = let b = all-at 0 c.requires.led.each c.loop-q.q-index c.loop-q-test.true in let e = c.from.ensures in omega arith
@@ -34,8 +29,3 @@ loop-q-preserved c =
     let a = c.args in
     let e = c.from-o.ensures ∙ ap (λ q. get_or a.owner.now q 0) c.from.ensures in
     fed a.owner.now a.noted.now c.loop-q.q-index c.from-o.result c.loop-q-test.true e c.loop-q.invariant c.flip.ensures
-
-pub returns : goal.returns
-returns c =
-    let e : take c.loop-q.q-index c.args.noted.now ≡ c.args.noted.now = take_all c.loop-q.q-index c.args.noted.now c.loop-q-test.false in
-    put-put c.clear.ensures (rw e at c.loop-q.invariant)

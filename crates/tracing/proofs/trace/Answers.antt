@@ -1,14 +1,11 @@
 -- `tracing::trace` meets its contract: what is left of the walk gives what the whole gives.
-use mathlib.Core.Path.{◌≡◌, refl, sym, ap, ◌∙◌}
+use mathlib.Core.Path.{◌≡◌, sym, ap, ◌∙◌}
 use native.Mathlib.Omega.{arith}
 use Rattle.bits.specs.Row.{row}
-use Rattle.bits.specs.RowLaws.{put-put, put_is, put_self}
+use Rattle.bits.specs.RowLaws.{put-put, put_is}
 use Rattle.reasons.specs.Trace.{trace}
 use Rattle.tracing.proofs.Walking.{walked-flip, walked-pass, walked}
 use Rattle.tracing.proofs.trace.Goals as goal
-
-pub loop-last-init : goal.loop-last-init
-loop-last-init c = record { put = put_self _ _; left = refl }
 
 pub loop-last-preserved-then-has_place : goal.loop-last-preserved-then-has_place
 loop-last-preserved-then-has_place c =
