@@ -6,12 +6,6 @@ use Rattle.peel.proofs.first_tally.Goals as goal
 pub loop-i-init : goal.loop-i-init
 loop-i-init c = let p = c.requires in let fresh = p.fresh in noting-start p.kept fresh.none-live fresh.none-counted fresh.none_named
 
-pub offset_bounds-ids-i : goal.offset_bounds-ids-i
-offset_bounds-ids-i c = let r = (numbers-room c.requires.kept).0 in omega arith
-
-pub bounds-ids-i : goal.bounds-ids-i
-bounds-ids-i c = let r = (numbers-room c.requires.kept).0 in omega arith
-
 pub enter-requires : goal.enter-requires
 enter-requires c =
     let p = c.requires in
