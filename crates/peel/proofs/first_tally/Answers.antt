@@ -1,6 +1,6 @@
 -- `peel::first_tally` meets its contract: the kept checks from i on are live.
 use Rattle.std.proofs.Common.{◌≡◌, ◌-◌, sym, ◌∙◌, arith}
-use Rattle.peel.proofs.KeptLive.{noting-start, noting-turn, noting-stop, number_at, number-low, numbers-room, counts-few}
+use Rattle.peel.proofs.KeptLive.{noting-start, noting-turn, noting-stop, number_at, number-low, counts-few}
 use Rattle.peel.proofs.first_tally.Goals as goal
 
 pub loop-i-init : goal.loop-i-init
