@@ -1,1 +1,2 @@
+pub mod Freed
 pub mod Most

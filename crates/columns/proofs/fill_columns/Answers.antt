@@ -8,17 +8,8 @@ use mathlib.Core.Path.{◌≡◌}
 use native.Mathlib.Omega.{arith}
 use Rattle.columns.proofs.fill_columns.Goals as goal
 
-pub bounds-aside-i : goal.bounds-aside-i
-bounds-aside-i c = omega (arith, c.requires.aside.room)
-
 pub check-requires : goal.check-requires
 check-requires c = rw c.from.ensures (c.requires.aside.numbers c.loop-i.i c.loop-i-test.true)
-
-pub overflow_cast-i : goal.overflow_cast-i
-overflow_cast-i c = omega (arith, c.requires.aside.few)
-
-pub overflow_shl-i : goal.overflow_shl-i
-overflow_shl-i c = omega (arith, c.requires.aside.few)
 
 pub spread-requires : goal.spread-requires
 spread-requires c =

@@ -10,14 +10,8 @@ use Rattle.columns.proofs.push_all.Goals as goal
 pub loop-k-init : goal.loop-k-init
 loop-k-init c = λ E h. start _ _ _ E _ h
 
-pub bounds-order-k : goal.bounds-order-k
-bounds-order-k c = omega (arith, c.requires.taken.enough.0)
-
 pub check-places-requires : goal.check-places-requires
 check-places-requires c = rw c.from.ensures (c.requires.taken.checks c.loop-k.k c.loop-k-test.true)
-
-pub bounds-owns-k : goal.bounds-owns-k
-bounds-owns-k c = omega (arith, c.requires.taken.enough.1)
 
 pub push-requires : goal.push-requires
 push-requires c =

@@ -10,15 +10,6 @@ use Rattle.lists.specs.WroteLaws.{wrote_count, wrote-is}
 use Rattle.emit.specs.PackedLaws.{packed-length}
 use Rattle.compose.proofs.step_section.Goals as goal
 
-pub overflow_cast-plan : goal.overflow_cast-plan
-overflow_cast-plan c =
-    let a = c.args in
-    let steps = plan_steps (places a.located.now.table.words.now) (solved_in a.located.now.table.words.now a.order.now a.owns.now a.taken) (aside_in a.located.now.table.words.now a.aside.now a.g) in
-    let l = packed-length steps in
-    let w = c.write_steps-e.ensures.next in
-    let q = c.requires.few in
-    omega arith
-
 pub returns : goal.returns
 returns c =
     let a = c.args in

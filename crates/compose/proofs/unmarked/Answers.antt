@@ -12,33 +12,15 @@ use Rattle.compose.proofs.unmarked.Goals as goal
 use Rattle.compose.proofs.unmarked.Goals.{then-used-p-ne1, else-used-p-ne1}
 
 pub loop-p-init : goal.loop-p-init
-loop-p-init c = (omega arith, left_is _ (left-all _ _ _) (frees_all _ _))
+loop-p-init c = left_is _ (left-all _ _ _) (frees_all _ _)
 
 pub bounds-plan-k : goal.bounds-plan-k
 bounds-plan-k c =
     let a = c.args in
     let s = c.loop-p in
     let room : a.at + length (minus (rev (below a.n)) (marked a.used.now)) ≤ length a.plan.now = c.requires.room in
-    let r = left-room room (left_is _ s.invariant.1 (frees-next a.n a.used.now s.p c.loop-p-test.true c.if-used-p-ne1.true)) in
-    let l = left-length room s.invariant.1 in
-    omega arith
-
-pub offset_bounds-plan-k : goal.offset_bounds-plan-k
-offset_bounds-plan-k c =
-    let a = c.args in
-    let s = c.loop-p in
-    let room : a.at + length (minus (rev (below a.n)) (marked a.used.now)) ≤ length a.plan.now = c.requires.room in
-    let r = left-room room (left_is _ s.invariant.1 (frees-next a.n a.used.now s.p c.loop-p-test.true c.if-used-p-ne1.true)) in
-    let l = left-length room s.invariant.1 in
-    omega arith
-
-pub overflow_add-k : goal.overflow_add-k
-overflow_add-k c =
-    let a = c.args in
-    let s = c.loop-p in
-    let room : a.at + length (minus (rev (below a.n)) (marked a.used.now)) ≤ length a.plan.now = c.requires.room in
-    let r = left-room room (left_is _ s.invariant.1 (frees-next a.n a.used.now s.p c.loop-p-test.true c.if-used-p-ne1.true)) in
-    let l = left-length room s.invariant.1 in
+    let r = left-room room (left_is _ s.invariant (frees-next a.n a.used.now s.p c.loop-p-test.true c.if-used-p-ne1.true)) in
+    let l = left-length room s.invariant in
     omega arith
 
 pub loop-p-preserved : goal.loop-p-preserved
@@ -46,21 +28,12 @@ loop-p-preserved c =
     let a = c.args in
     let s = c.loop-p in
     let room : a.at + length (minus (rev (below a.n)) (marked a.used.now)) ≤ length a.plan.now = c.requires.room in
-    let l = s.invariant.1 in
-    let h = c.loop-p-test.true in (
-      omega arith,
-      elim c.if-used-p-ne1.branch [
-        | then-used-p-ne1 u ↦ (rw (u.plan-is, u.k-is) (left_one room (left_is _ l (frees-next a.n a.used.now s.p h u.if-used-p-ne1.true))))
-        | else-used-p-ne1 u ↦ (rw (u.plan-is, u.k-is) (left_is _ l (frees-marked a.n a.used.now s.p h u.if-used-p-ne1.false)))
-      ],
-    )
-
-pub shape_of-plan : goal.shape_of-plan
-shape_of-plan c =
-    let a = c.args in
-    let s = c.loop-p in
-    let room : a.at + length (minus (rev (below a.n)) (marked a.used.now)) ≤ length a.plan.now = c.requires.room in
-    left-length room s.invariant.1
+    let l = s.invariant in
+    let h = c.loop-p-test.true in
+    elim c.if-used-p-ne1.branch [
+      | then-used-p-ne1 u ↦ (rw (u.plan-is, u.k-is) (left_one room (left_is _ l (frees-next a.n a.used.now s.p h u.if-used-p-ne1.true))))
+      | else-used-p-ne1 u ↦ (rw (u.plan-is, u.k-is) (left_is _ l (frees-marked a.n a.used.now s.p h u.if-used-p-ne1.false)))
+    ]
 
 pub returns : goal.returns
 returns c =
@@ -68,4 +41,4 @@ returns c =
     let s = c.loop-p in
     let room : a.at + length (minus (rev (below a.n)) (marked a.used.now)) ≤ length a.plan.now = c.requires.room in
     let e : s.p ≡ a.n = omega arith in
-    left-done (left_is [] s.invariant.1 (ap (frees a.n a.used.now) e ∙ frees-none a.n a.used.now))
+    left-done (left_is [] s.invariant (ap (frees a.n a.used.now) e ∙ frees-none a.n a.used.now))

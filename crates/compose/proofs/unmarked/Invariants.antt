@@ -1,5 +1,4 @@
 -- `compose::unmarked` meets its contract: the places that are left, one after the other.
-use Prim.Native.Nat.{◌-◌, ◌≤◌}
 use Rattle.lists.specs.Lists.{below, rev, minus}
 use Rattle.emit.specs.Emit.{marked}
 use Rattle.lists.specs.WroteLaws.{Left}
@@ -7,7 +6,4 @@ use Rattle.compose.proofs.FreePlaces.{frees}
 use Rattle.compose.proofs.unmarked.Given as goal
 
 abbrev pub invariant-loop-p : goal.invariant-loop-p
-invariant-loop-p l = (l.p ≤ l.n) × Left l.initial.plan l.at (minus (rev (below l.n)) (marked l.used)) (frees l.n l.used l.p) l.plan l.k
-
-abbrev pub decreases-loop-p : goal.decreases-loop-p
-decreases-loop-p l = l.n - l.p
+invariant-loop-p l = Left l.initial.plan l.at (minus (rev (below l.n)) (marked l.used)) (frees l.n l.used l.p) l.plan l.k

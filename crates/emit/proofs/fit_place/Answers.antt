@@ -14,7 +14,7 @@ use Rattle.emit.proofs.fit_place.Goals as goal
 use Rattle.emit.proofs.fit_place.Goals.{then-row-i-eq1, else-row-i-eq1}
 
 pub loop-i-init : goal.loop-i-init
-loop-i-init c = (omega arith, left-all _ _ _)
+loop-i-init c = left-all _ _ _
 
 pub bounds-plan-k : goal.bounds-plan-k
 bounds-plan-k c =
@@ -23,30 +23,8 @@ bounds-plan-k c =
     let all = ap length (named-all a.to a.n a.g a.row) in
     let long = length-map (map (Add a.to) (slots_named a.n (mask_bits a.g a.row))) pack in
     let room : a.at + 1 + length (named a.to a.n a.g a.row 0) ≤ length (set a.plan.now a.at c.pack.result) = simp length-set (omega arith) in
-    let r = left-room room (left_is _ s.invariant.1 (named_in a.to a.n a.g a.row s.i c.loop-i-test.true c.if-row-i-eq1.true)) in
-    let l = left-length room s.invariant.1 in
-    omega arith
-
-pub offset_bounds-plan-k : goal.offset_bounds-plan-k
-offset_bounds-plan-k c =
-    let a = c.args in
-    let s = c.loop-i in
-    let all = ap length (named-all a.to a.n a.g a.row) in
-    let long = length-map (map (Add a.to) (slots_named a.n (mask_bits a.g a.row))) pack in
-    let room : a.at + 1 + length (named a.to a.n a.g a.row 0) ≤ length (set a.plan.now a.at c.pack.result) = simp length-set (omega arith) in
-    let r = left-room room (left_is _ s.invariant.1 (named_in a.to a.n a.g a.row s.i c.loop-i-test.true c.if-row-i-eq1.true)) in
-    let l : length s.plan ≡ length a.plan.now = left-length room s.invariant.1 ∙ simp length-set in
-    omega arith
-
-pub overflow_add-k-then-row-i-eq1 : goal.overflow_add-k-then-row-i-eq1
-overflow_add-k-then-row-i-eq1 c =
-    let a = c.args in
-    let s = c.loop-i in
-    let all = ap length (named-all a.to a.n a.g a.row) in
-    let long = length-map (map (Add a.to) (slots_named a.n (mask_bits a.g a.row))) pack in
-    let room : a.at + 1 + length (named a.to a.n a.g a.row 0) ≤ length (set a.plan.now a.at c.pack.result) = simp length-set (omega arith) in
-    let r = left-room room (left_is _ s.invariant.1 (named_in a.to a.n a.g a.row s.i c.loop-i-test.true c.if-row-i-eq1.true)) in
-    let l : length s.plan ≡ length a.plan.now = left-length room s.invariant.1 ∙ simp length-set in
+    let r = left-room room (left_is _ s.invariant (named_in a.to a.n a.g a.row s.i c.loop-i-test.true c.if-row-i-eq1.true)) in
+    let l = left-length room s.invariant in
     omega arith
 
 pub loop-i-preserved : goal.loop-i-preserved
@@ -56,23 +34,12 @@ loop-i-preserved c =
     let all = ap length (named-all a.to a.n a.g a.row) in
     let long = length-map (map (Add a.to) (slots_named a.n (mask_bits a.g a.row))) pack in
     let room : a.at + 1 + length (named a.to a.n a.g a.row 0) ≤ length (set a.plan.now a.at c.pack.result) = simp length-set (omega arith) in
-    let l = s.invariant.1 in
-    let h = c.loop-i-test.true in (
-      omega arith,
-      elim c.if-row-i-eq1.branch [
-        | then-row-i-eq1 u ↦ (rw (u.plan-is, u.k-is, u.pack-then-row-i-eq1.ensures) (left_one room (left_is _ l (named_in a.to a.n a.g a.row s.i h u.if-row-i-eq1.true))))
-        | else-row-i-eq1 u ↦ (rw (u.plan-is, u.k-is) (left_is _ l (named-out a.to a.n a.g a.row s.i h u.if-row-i-eq1.false)))
-      ],
-    )
-
-pub shape_of-plan : goal.shape_of-plan
-shape_of-plan c =
-    let a = c.args in
-    let s = c.loop-i in
-    let all = ap length (named-all a.to a.n a.g a.row) in
-    let long = length-map (map (Add a.to) (slots_named a.n (mask_bits a.g a.row))) pack in
-    let room : a.at + 1 + length (named a.to a.n a.g a.row 0) ≤ length (set a.plan.now a.at c.pack.result) = simp length-set (omega arith) in
-    left-length room s.invariant.1 ∙ simp length-set
+    let l = s.invariant in
+    let h = c.loop-i-test.true in
+    elim c.if-row-i-eq1.branch [
+      | then-row-i-eq1 u ↦ (rw (u.plan-is, u.k-is, u.pack-then-row-i-eq1.ensures) (left_one room (left_is _ l (named_in a.to a.n a.g a.row s.i h u.if-row-i-eq1.true))))
+      | else-row-i-eq1 u ↦ (rw (u.plan-is, u.k-is) (left_is _ l (named-out a.to a.n a.g a.row s.i h u.if-row-i-eq1.false)))
+    ]
 
 pub returns : goal.returns
 returns c =
@@ -83,6 +50,6 @@ returns c =
     let room : a.at + 1 + length (named a.to a.n a.g a.row 0) ≤ length (set a.plan.now a.at c.pack.result) = simp length-set (omega arith) in
     let e : s.i ≡ a.g = omega arith in
     let one = wrote_one a.plan.now a.at c.pack.result (omega arith) in
-    let w = left-done (left_is [] s.invariant.1 (ap (named a.to a.n a.g a.row) e ∙ named_none a.to a.n a.g a.row)) in
+    let w = left-done (left_is [] s.invariant (ap (named a.to a.n a.g a.row) e ∙ named_none a.to a.n a.g a.row)) in
     let is : pack (Clear a.to) ∷ named a.to a.n a.g a.row 0 ≡ pack (Clear a.to) ∷ map pack (map (Add a.to) (slots_named a.n (mask_bits a.g a.row))) = ap (λ l. pack (Clear a.to) ∷ l) (sym (named-all a.to a.n a.g a.row)) in
     wrote-is (rw c.pack.ensures at (wrote-append (omega arith) one w)) is

@@ -18,15 +18,6 @@ use Rattle.emit.proofs.set_aside.Goals as goal
 pub loop-i-init : goal.loop-i-init
 loop-i-init c = left-all _ _ _
 
-pub offset_bounds-aside-i : goal.offset_bounds-aside-i
-offset_bounds-aside-i c = let r = c.requires.checks.room in omega arith
-
-pub bounds-aside-i : goal.bounds-aside-i
-bounds-aside-i c = let r = c.requires.checks.room in omega arith
-
-pub overflow_add-n : goal.overflow_add-n
-overflow_add-n c = let n = few-places _ _ _ _ c.requires.table.located.table in let e = c.args.located.now.table.accepted.places-are in omega arith
-
 pub check_into-k-requires : goal.check_into-k-requires
 check_into-k-requires c =
     let a = c.args in

@@ -18,18 +18,6 @@ use Rattle.emit.proofs.solve_all.Goals as goal
 pub loop-i-init : goal.loop-i-init
 loop-i-init c = left-all _ _ _
 
-pub offset_bounds-order-i : goal.offset_bounds-order-i
-offset_bounds-order-i c = let r = c.requires.checks.room in omega arith
-
-pub bounds-order-i : goal.bounds-order-i
-bounds-order-i c = let r = c.requires.checks.room in omega arith
-
-pub offset_bounds-owns-i : goal.offset_bounds-owns-i
-offset_bounds-owns-i c = let r = c.requires.own.room in omega arith
-
-pub bounds-owns-i : goal.bounds-owns-i
-bounds-owns-i c = let r = c.requires.own.room in omega arith
-
 pub check_into-k-requires : goal.check_into-k-requires
 check_into-k-requires c =
     let a = c.args in

@@ -1,5 +1,5 @@
 -- `emit::sum_check` meets its contract: the places that are left, one after the other.
-use mathlib.Core.Path.{◌≡◌, ap, ◌∙◌}
+use mathlib.Core.Path.{◌≡◌, ap}
 use mathlib.Core.List.{[]}
 use Prim.Native.Nat.{◌+◌, ◌≤◌, ◌<◌}
 use native.Mathlib.Omega.{arith}
@@ -55,36 +55,6 @@ bounds-plan-k c =
     let r = left-room room (left_is _ s.invariant next) in
     let l = left-length room s.invariant in
     omega arith
-
-pub offset_bounds-plan-k : goal.offset_bounds-plan-k
-offset_bounds-plan-k c =
-    let a = c.args in
-    let s = c.loop-p in
-    let C = a.places.now in
-    let room : a.at + 1 + length (adds a.to a.skip.now C) ≤ length (set a.plan.now a.at c.pack.result) = simp length-set (omega (arith, adds-length a.to a.skip.now C)) in
-    let next = adds-next a.to a.skip.now C s.p-index c.from-p.result c.loop-p-test.true c.from-p.ensures c.if-p-to.true c.if-skip-p-ne1.true in
-    let r = left-room room (left_is _ s.invariant next) in
-    let l : length s.plan ≡ length a.plan.now = left-length room s.invariant ∙ simp length-set in
-    omega arith
-
-pub overflow_add-k-then-skip-p-ne1 : goal.overflow_add-k-then-skip-p-ne1
-overflow_add-k-then-skip-p-ne1 c =
-    let a = c.args in
-    let s = c.loop-p in
-    let C = a.places.now in
-    let room : a.at + 1 + length (adds a.to a.skip.now C) ≤ length (set a.plan.now a.at c.pack.result) = simp length-set (omega (arith, adds-length a.to a.skip.now C)) in
-    let next = adds-next a.to a.skip.now C s.p-index c.from-p.result c.loop-p-test.true c.from-p.ensures c.if-p-to.true c.if-skip-p-ne1.true in
-    let r = left-room room (left_is _ s.invariant next) in
-    let l : length s.plan ≡ length a.plan.now = left-length room s.invariant ∙ simp length-set in
-    omega arith
-
-pub shape_of-plan : goal.shape_of-plan
-shape_of-plan c =
-    let a = c.args in
-    let s = c.loop-p in
-    let C = a.places.now in
-    let room : a.at + 1 + length (adds a.to a.skip.now C) ≤ length (set a.plan.now a.at c.pack.result) = simp length-set (omega (arith, adds-length a.to a.skip.now C)) in
-    left-length room s.invariant ∙ simp length-set
 
 pub returns : goal.returns
 returns c =

@@ -1,6 +1,6 @@
 -- `freed::most_freed_of` meets its contract: the rest of the scan decides.
 use Rattle.std.proofs.Common.{◌≡◌, ◌-◌, sym, ap, ◌∙◌, arith}
-use Rattle.table.specs.Accepted.{light, each-places}
+use Rattle.table.specs.Accepted.{each-places}
 use Rattle.table.specs.Checks.{check}
 use Rattle.table.specs.SumLaws.{places-low}
 use Rattle.freed.specs.Most.{most_from}
@@ -16,11 +16,6 @@ unfolding check
 freed_in-k-requires c =
     let l = c.args.located.now in
     rw (c.check.ensures, c.requires.places) (places-low (each-places l.table.words.now _ _ _ l.table.accepted _ c.loop-i-test.true))
-
-pub overflow_add-w : goal.overflow_add-w
-overflow_add-w c =
-    let w = light _ _ _ _ c.args.located.now.table.accepted _ c.loop-i-test.true in
-    omega (arith, c.freed_in-k.ensures.most, rw c.check.ensures at c.freed_in-k.ensures.most)
 
 pub loop-i-preserved : goal.loop-i-preserved
 loop-i-preserved c =

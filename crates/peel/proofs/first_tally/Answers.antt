@@ -1,16 +1,10 @@
 -- `peel::first_tally` meets its contract: the kept checks from i on are live.
 use Rattle.std.proofs.Common.{◌≡◌, ◌-◌, sym, ◌∙◌, arith}
-use Rattle.peel.proofs.KeptLive.{noting-start, noting-turn, noting-stop, number_at, number-low, numbers-room, counts-few}
+use Rattle.peel.proofs.KeptLive.{noting-start, noting-turn, noting-stop, number_at, number-low, counts-few}
 use Rattle.peel.proofs.first_tally.Goals as goal
 
 pub loop-i-init : goal.loop-i-init
 loop-i-init c = let p = c.requires in let fresh = p.fresh in noting-start p.kept fresh.none-live fresh.none-counted fresh.none_named
-
-pub offset_bounds-ids-i : goal.offset_bounds-ids-i
-offset_bounds-ids-i c = let r = (numbers-room c.requires.kept).0 in omega arith
-
-pub bounds-ids-i : goal.bounds-ids-i
-bounds-ids-i c = let r = (numbers-room c.requires.kept).0 in omega arith
 
 pub enter-requires : goal.enter-requires
 enter-requires c =

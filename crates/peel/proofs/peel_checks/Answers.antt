@@ -25,23 +25,8 @@ pick-event-requires c =
 pub overflow_cast-order : goal.overflow_cast-order
 overflow_cast-order c = let r : (c.in-Took.j < 512) × (c.in-Took.p < 1024) × (c.loop-left.taken < length c.loop-left.order) × (c.loop-left.taken < length c.loop-left.owns) = (let y = place-says _ _ c.pick-event.ensures c.in-Took.is in let f = (in-flag _ _ _ y.pick.member).0 in let low = place-low y in let s = c.loop-left.invariant in let sum = s.going.sum in let order = c.loop-left.auto.order in let owns = c.loop-left.auto.owns in let p = c.requires in let few = few-checks _ _ _ _ c.args.located.now.table.accepted in let narrow = few-places _ _ _ _ c.args.located.now.table.accepted in let total = p.total.1 in let room = p.room in let less = c.loop-left-test.true in (omega arith, omega arith, omega arith, omega arith)) in omega arith
 
-pub offset_bounds-order-taken : goal.offset_bounds-order-taken
-offset_bounds-order-taken c = let r : (c.in-Took.j < 512) × (c.in-Took.p < 1024) × (c.loop-left.taken < length c.loop-left.order) × (c.loop-left.taken < length c.loop-left.owns) = (let y = place-says _ _ c.pick-event.ensures c.in-Took.is in let f = (in-flag _ _ _ y.pick.member).0 in let low = place-low y in let s = c.loop-left.invariant in let sum = s.going.sum in let order = c.loop-left.auto.order in let owns = c.loop-left.auto.owns in let p = c.requires in let few = few-checks _ _ _ _ c.args.located.now.table.accepted in let narrow = few-places _ _ _ _ c.args.located.now.table.accepted in let total = p.total.1 in let room = p.room in let less = c.loop-left-test.true in (omega arith, omega arith, omega arith, omega arith)) in omega arith
-
-pub bounds-order-taken : goal.bounds-order-taken
-bounds-order-taken c = let r : (c.in-Took.j < 512) × (c.in-Took.p < 1024) × (c.loop-left.taken < length c.loop-left.order) × (c.loop-left.taken < length c.loop-left.owns) = (let y = place-says _ _ c.pick-event.ensures c.in-Took.is in let f = (in-flag _ _ _ y.pick.member).0 in let low = place-low y in let s = c.loop-left.invariant in let sum = s.going.sum in let order = c.loop-left.auto.order in let owns = c.loop-left.auto.owns in let p = c.requires in let few = few-checks _ _ _ _ c.args.located.now.table.accepted in let narrow = few-places _ _ _ _ c.args.located.now.table.accepted in let total = p.total.1 in let room = p.room in let less = c.loop-left-test.true in (omega arith, omega arith, omega arith, omega arith)) in omega arith
-
 pub overflow_cast-owns : goal.overflow_cast-owns
 overflow_cast-owns c = let r : (c.in-Took.j < 512) × (c.in-Took.p < 1024) × (c.loop-left.taken < length c.loop-left.order) × (c.loop-left.taken < length c.loop-left.owns) = (let y = place-says _ _ c.pick-event.ensures c.in-Took.is in let f = (in-flag _ _ _ y.pick.member).0 in let low = place-low y in let s = c.loop-left.invariant in let sum = s.going.sum in let order = c.loop-left.auto.order in let owns = c.loop-left.auto.owns in let p = c.requires in let few = few-checks _ _ _ _ c.args.located.now.table.accepted in let narrow = few-places _ _ _ _ c.args.located.now.table.accepted in let total = p.total.1 in let room = p.room in let less = c.loop-left-test.true in (omega arith, omega arith, omega arith, omega arith)) in omega arith
-
-pub offset_bounds-owns-taken : goal.offset_bounds-owns-taken
-offset_bounds-owns-taken c = let r : (c.in-Took.j < 512) × (c.in-Took.p < 1024) × (c.loop-left.taken < length c.loop-left.order) × (c.loop-left.taken < length c.loop-left.owns) = (let y = place-says _ _ c.pick-event.ensures c.in-Took.is in let f = (in-flag _ _ _ y.pick.member).0 in let low = place-low y in let s = c.loop-left.invariant in let sum = s.going.sum in let order = c.loop-left.auto.order in let owns = c.loop-left.auto.owns in let p = c.requires in let few = few-checks _ _ _ _ c.args.located.now.table.accepted in let narrow = few-places _ _ _ _ c.args.located.now.table.accepted in let total = p.total.1 in let room = p.room in let less = c.loop-left-test.true in (omega arith, omega arith, omega arith, omega arith)) in omega arith
-
-pub bounds-owns-taken : goal.bounds-owns-taken
-bounds-owns-taken c = let r : (c.in-Took.j < 512) × (c.in-Took.p < 1024) × (c.loop-left.taken < length c.loop-left.order) × (c.loop-left.taken < length c.loop-left.owns) = (let y = place-says _ _ c.pick-event.ensures c.in-Took.is in let f = (in-flag _ _ _ y.pick.member).0 in let low = place-low y in let s = c.loop-left.invariant in let sum = s.going.sum in let order = c.loop-left.auto.order in let owns = c.loop-left.auto.owns in let p = c.requires in let few = few-checks _ _ _ _ c.args.located.now.table.accepted in let narrow = few-places _ _ _ _ c.args.located.now.table.accepted in let total = p.total.1 in let room = p.room in let less = c.loop-left-test.true in (omega arith, omega arith, omega arith, omega arith)) in omega arith
-
-pub overflow_add-taken : goal.overflow_add-taken
-overflow_add-taken c = let r : (c.in-Took.j < 512) × (c.in-Took.p < 1024) × (c.loop-left.taken < length c.loop-left.order) × (c.loop-left.taken < length c.loop-left.owns) = (let y = place-says _ _ c.pick-event.ensures c.in-Took.is in let f = (in-flag _ _ _ y.pick.member).0 in let low = place-low y in let s = c.loop-left.invariant in let sum = s.going.sum in let order = c.loop-left.auto.order in let owns = c.loop-left.auto.owns in let p = c.requires in let few = few-checks _ _ _ _ c.args.located.now.table.accepted in let narrow = few-places _ _ _ _ c.args.located.now.table.accepted in let total = p.total.1 in let room = p.room in let less = c.loop-left-test.true in (omega arith, omega arith, omega arith, omega arith)) in omega arith
 
 pub overflow_add-p : goal.overflow_add-p
 overflow_add-p c = let r : (c.in-Took.j < 512) × (c.in-Took.p < 1024) × (c.loop-left.taken < length c.loop-left.order) × (c.loop-left.taken < length c.loop-left.owns) = (let y = place-says _ _ c.pick-event.ensures c.in-Took.is in let f = (in-flag _ _ _ y.pick.member).0 in let low = place-low y in let s = c.loop-left.invariant in let sum = s.going.sum in let order = c.loop-left.auto.order in let owns = c.loop-left.auto.owns in let p = c.requires in let few = few-checks _ _ _ _ c.args.located.now.table.accepted in let narrow = few-places _ _ _ _ c.args.located.now.table.accepted in let total = p.total.1 in let room = p.room in let less = c.loop-left-test.true in (omega arith, omega arith, omega arith, omega arith)) in omega arith
@@ -56,15 +41,6 @@ remove-top-requires c =
 
 pub overflow_cast-aside : goal.overflow_cast-aside
 overflow_cast-aside c = let r : (c.in-Aside.j < 512) × (c.loop-left.put < length c.loop-left.aside) = (let y = choice-says _ c.pick-event.ensures c.in-Aside.is in let f = (in-flag _ _ _ y.pick.member).0 in let s = c.loop-left.invariant in let sum = s.going.sum in let aside = c.loop-left.auto.aside in let p = c.requires in let few = few-checks _ _ _ _ c.args.located.now.table.accepted in let total = p.total.1 in let room = p.room in let less = c.loop-left-test.true in (omega arith, omega arith)) in omega arith
-
-pub offset_bounds-aside-put : goal.offset_bounds-aside-put
-offset_bounds-aside-put c = let r : (c.in-Aside.j < 512) × (c.loop-left.put < length c.loop-left.aside) = (let y = choice-says _ c.pick-event.ensures c.in-Aside.is in let f = (in-flag _ _ _ y.pick.member).0 in let s = c.loop-left.invariant in let sum = s.going.sum in let aside = c.loop-left.auto.aside in let p = c.requires in let few = few-checks _ _ _ _ c.args.located.now.table.accepted in let total = p.total.1 in let room = p.room in let less = c.loop-left-test.true in (omega arith, omega arith)) in omega arith
-
-pub bounds-aside-put : goal.bounds-aside-put
-bounds-aside-put c = let r : (c.in-Aside.j < 512) × (c.loop-left.put < length c.loop-left.aside) = (let y = choice-says _ c.pick-event.ensures c.in-Aside.is in let f = (in-flag _ _ _ y.pick.member).0 in let s = c.loop-left.invariant in let sum = s.going.sum in let aside = c.loop-left.auto.aside in let p = c.requires in let few = few-checks _ _ _ _ c.args.located.now.table.accepted in let total = p.total.1 in let room = p.room in let less = c.loop-left-test.true in (omega arith, omega arith)) in omega arith
-
-pub overflow_add-put : goal.overflow_add-put
-overflow_add-put c = let r : (c.in-Aside.j < 512) × (c.loop-left.put < length c.loop-left.aside) = (let y = choice-says _ c.pick-event.ensures c.in-Aside.is in let f = (in-flag _ _ _ y.pick.member).0 in let s = c.loop-left.invariant in let sum = s.going.sum in let aside = c.loop-left.auto.aside in let p = c.requires in let few = few-checks _ _ _ _ c.args.located.now.table.accepted in let total = p.total.1 in let room = p.room in let less = c.loop-left-test.true in (omega arith, omega arith)) in omega arith
 
 pub remove-top-requires-in-Aside : goal.remove-top-requires-in-Aside
 remove-top-requires-in-Aside c =

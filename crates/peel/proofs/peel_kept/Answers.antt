@@ -4,9 +4,6 @@ use Rattle.table.specs.BufferLaws.{part-of-same}
 use Rattle.peel.proofs.KeptLive.{zeros-all, zeros-part}
 use Rattle.peel.proofs.peel_kept.Goals as goal
 
-pub slice_bounds-peel_live-end-2 : goal.slice_bounds-peel_live-end-2
-slice_bounds-peel_live-end-2 c = let w = few-places _ _ _ _ c.args.located.now.table.accepted in part-of-same c.args.located.now.table.places 1024 0 w
-
 pub peel_live-requires : goal.peel_live-requires
 peel_live-requires c =
     let p = c.requires in
