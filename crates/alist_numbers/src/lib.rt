@@ -7,6 +7,7 @@ ghost use Rattle.bits.specs.WordPlaces.{places_of};
 ghost use Rattle.alist_numbers.specs.Put.{Put, PutNumber, numbers_on};
 
 // Each function puts its bytes from at on and returns where they end; what lies behind the text's end is not stored.
+// Text and place stay a pair: contracts say what the lent text holds before and after, and a writer that lends it is no plainer.
 
 // one byte
 fn put_byte(text: &mut [u8], at: usize, b: u8) -> usize

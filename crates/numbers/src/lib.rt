@@ -9,6 +9,8 @@ ghost use Rattle.numbers.specs.Cursor.{Skipped, Taken, Reads};
 // the most digits of a number
 const MOST_DIGITS: usize = 6;
 
+// A text and a place in it are handed on as a pair: what is ahead is a relation of both (`Ahead`), and a cursor that borrows the text is no plainer.
+
 // a number, and where the text goes on behind it
 #[derive(Clone, Copy, Debug, PartialEq, Eq)]
 pub struct Spot {

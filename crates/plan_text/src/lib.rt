@@ -107,6 +107,7 @@ fn put_steps(out: &mut [u8], at: usize, numbers: &[u32]) -> usize
 }
 
 // "refused" and the number
+// A number and no Refusal: the 3 of a table's file comes before there is a table to look over.
 pub fn put_refused(out: &mut [u8], at: usize, number: u32) -> usize
     requires { at + length (refused_line number) ≤ length out.old }
     ensures { Appended out.old at (refused_line number) out.new result }
