@@ -11,5 +11,7 @@ size_for-requires g c = words c.args.table.now _ refl (own-plan c.args.table.now
 pub slice_bounds-plan-end : goal.slice_bounds-plan-end
 slice_bounds-plan-end g c = (own-plan c.args.table.now (replicate 15360 0) c.in-Ok.planned c.in-Ok.ensures.answer _ c.in-Ok.ensures.plan).within
 
-pub invariant_of-plan-clause-formed : goal.invariant_of-plan-clause-formed
-invariant_of-plan-clause-formed g c = (own-plan c.args.table.now (replicate 15360 0) c.in-Ok.planned c.in-Ok.ensures.answer _ c.in-Ok.ensures.plan).formed
+pub invariant_of-plan : goal.invariant_of-plan
+invariant_of-plan g c = record {
+      formed = (own-plan c.args.table.now (replicate 15360 0) c.in-Ok.planned c.in-Ok.ensures.answer _ c.in-Ok.ensures.plan).formed;
+    }

@@ -1,5 +1,5 @@
 -- `listing::list_table` meets its contract: the refusal, or the text of the planner's own plan.
-use mathlib.Core.Path.{◌≡◌, refl}
+use mathlib.Core.Path.{refl}
 use native.Mathlib.Omega.{arith}
 use Rattle.table.specs.Accepted.{words}
 use Rattle.text.specs.LinesLaws.{same_word}
@@ -22,8 +22,8 @@ bounds-table-2 c =
 pub slice_bounds-plan-end : goal.slice_bounds-plan-end
 slice_bounds-plan-end c = let p = c.in-Ok in (own c.args.table.now p.planned p.ensures.answer _ p.ensures.plan).within
 
-pub invariant_of-plan-clause-formed : goal.invariant_of-plan-clause-formed
-invariant_of-plan-clause-formed c = let p = c.in-Ok in (own c.args.table.now p.planned p.ensures.answer _ p.ensures.plan).formed
+pub invariant_of-plan : goal.invariant_of-plan
+invariant_of-plan c = let p = c.in-Ok in record { formed = (own c.args.table.now p.planned p.ensures.answer _ p.ensures.plan).formed }
 
 pub put_plan-requires : goal.put_plan-requires
 put_plan-requires c =
