@@ -13,5 +13,5 @@ slice_bounds-plan-end g c = (own-plan c.args.table.now (replicate 15360 0) c.in-
 
 pub invariant_of-plan : goal.invariant_of-plan
 invariant_of-plan g c = record {
-      formed = (own-plan c.args.table.now (replicate 15360 0) c.in-Ok.planned c.in-Ok.ensures.answer _ c.in-Ok.ensures.plan).formed;
-    }
+  formed = (own-plan c.args.table.now (replicate 15360 0) c.in-Ok.planned c.in-Ok.ensures.answer _ c.in-Ok.ensures.plan).formed;
+}
