@@ -1,6 +1,6 @@
 #!/bin/sh
 # The files of definitions, in the order of reading, cite files of definitions only, so that a reader opens no file of laws.
-# Gf2 alone cites laws: it makes its groups of them. Why takes two definitions of explain/Telling, the rest of which stands over a file with laws. Prints each file; the last line is 'N passed, M failed'.
+# Gf2 alone cites laws: it makes its groups of them. Prints each file; the last line is 'N passed, M failed'.
 set -eu
 cd "$(dirname "$0")/.."
 
@@ -8,7 +8,7 @@ files='lists/Lists gf2/Gf2 refusals/Refusals
 table/FirstCause table/Table table/Packets table/PacketCall table/Codewords
 making/Written making/Making draws/Generator fill/Fill staircase/Stairs staircase/Staircase
 numerals/Numerals numbers/Numbers alist/Alist alist/AlistText
-faults/Faults verify/Verify erasure/Restoring erasure/Orders erasure/Offered report/Report suspects/Blame repair/Repair aerials/Aerials merge/Merge longer/Longer entering/Entering lengthen/Lengthen lengthen/Carrying decided/Decided full/Full reasons/Reasons why/Why
+faults/Faults verify/Verify erasure/Restoring erasure/Orders erasure/Offered report/Report suspects/Blame repair/Repair aerials/Aerials merge/Merge longer/Longer entering/Entering lengthen/Lengthen lengthen/Carrying decided/Decided full/Full reasons/Reasons explain/Kinds why/Why
 plan/Step plan/Steps plan/Layout rule/Rule rule/PlanOf planning/Planning encoder/Encoding start/Kept
 table_file/Words text/Lines plan_text/PlanText listing/Listing
 receiver/Answers encoder/Answers uplink/Answers tables/Answers'
@@ -25,7 +25,7 @@ for file in $files; do
     law=
     for name in $(cited "crates/${file%/*}/specs/${file#*/}.antt"); do
         case $file:$name in
-            gf2/Gf2:lists/Tests | gf2/Gf2:gf2/Xor | why/Why:explain/Telling | *:*/declared) ;;
+            gf2/Gf2:lists/Tests | gf2/Gf2:gf2/Xor | *:*/declared) ;;
             *) case " $(echo $files) " in *" $name "*) ;; *) law="$law $name" ;; esac ;;
         esac
     done

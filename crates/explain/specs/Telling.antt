@@ -4,18 +4,7 @@ use Rattle.bits.specs.Front.{Front}
 use Rattle.decided.specs.Decided.{decided}
 use Rattle.reasons.specs.Reasons.{Listed}
 use Rattle.explain.specs.declared.Told.{Told}
-use Rattle.explain.specs.declared.Told.TheVariants.{Received, Restored, Lost}
-
--- the kind's number, and the list's length
-abbrev pub kind_of : Told → ℕ
-kind_of Received = 1
-kind_of (Restored n) = 2
-kind_of (Lost n) = 3
-
-abbrev pub length_of : Told → ℕ
-length_of Received = 0
-length_of (Restored n) = n
-length_of (Lost n) = n
+use Rattle.explain.specs.Kinds.{kind_of, length_of}
 
 -- the list for the place stands in front, and the kind is told
 pub record Tells (n : ℕ) (cs : List (List ℕ)) (lost : List ℕ) (p : ℕ) (r : Told) (old e : List ℕ) : Type 0 where

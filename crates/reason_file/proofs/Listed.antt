@@ -9,7 +9,7 @@ use lib.ListN.{length, take, length-append}
 use lib.Seq.{length-take-le}
 use Rattle.std.specs.declared.result.Result.TheVariants.{Ok}
 use Rattle.why.specs.Why.{WhyAnswer, why_answer_of, why_answer_at, why_refusal, Explains}
-use Rattle.explain.specs.Telling.{length_of}
+use Rattle.explain.specs.Kinds.{length_of}
 use Rattle.why.specs.declared.Reason.{Reason}
 
 -- by the refusal's number: the buffer has the list and something behind it

@@ -5,7 +5,7 @@
 ghost use Rattle.std.specs.Prelude.{true, [], ◌∷◌, ◌≡◌};
 ghost use Rattle.lists.specs.Lists.{has};
 ghost use Rattle.refusals.specs.Refusals.{number_of};
-ghost use Rattle.explain.specs.Telling.{length_of};
+ghost use Rattle.explain.specs.Kinds.{length_of};
 
 use explain::Told;
 use refusals::Refusal;

@@ -10,7 +10,7 @@ ghost use Rattle.faults.specs.Faults.{check_of, byte_of};
 ghost use Rattle.erasure.specs.Offered.{held};
 ghost use Rattle.merge.specs.Merge.{merge_answer, merge_after};
 ghost use Rattle.lengthen.specs.Lengthen.{lengthen_answer, lengthen_after};
-ghost use Rattle.explain.specs.Telling.{kind_of as told_kind, length_of};
+ghost use Rattle.explain.specs.Kinds.{kind_of as told_kind, length_of};
 ghost use Rattle.why.specs.Why.{Explains};
 ghost use Rattle.refusals.specs.Refusals.{check_of as check_in, byte_of as byte_in};
 ghost use Rattle.report.specs.Report.{repair_answer_of};

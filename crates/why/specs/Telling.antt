@@ -1,6 +1,6 @@
 -- What is told of one place: the kind, and the list with zeros behind it.
 use Rattle.std.specs.Prelude.{◌≡◌, List, ◌++◌, ℕ, ◌-◌, length, replicate}
-use Rattle.explain.specs.Telling.{kind_of as told_kind, length_of}
+use Rattle.explain.specs.Kinds.{kind_of as told_kind, length_of}
 use Rattle.explain.specs.declared.Told.{Told}
 use Rattle.reasons.specs.Reasons.{kind_of, Listed}
 use Rattle.why.specs.Why.{reason_numbers}

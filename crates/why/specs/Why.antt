@@ -4,7 +4,7 @@ use Rattle.std.specs.declared.result.Result.{Result}
 use Rattle.std.specs.declared.result.Result.TheVariants.{Ok, Err}
 use Rattle.refusals.specs.Refusals.{number_of, check_of, byte_of}
 use Rattle.refusals.specs.declared.Refusal.{Refusal}
-use Rattle.explain.specs.Telling.{kind_of as told_kind, length_of}
+use Rattle.explain.specs.Kinds.{kind_of as told_kind, length_of}
 use Rattle.erasure.specs.Offered.{byte_over}
 use Rattle.erasure.specs.Restoring.{tally}
 use Rattle.full.specs.Full.{wrong_buffers, clashing, full_refusal, full_block_after, full_map_after, full_work_after}
