@@ -36,7 +36,7 @@ fn encode_source<R: Runtime, P: Print>(
             }
             Ok(())
         }
-        Err(refusal) => text::say_refused(err, refusal),
+        Err(refusal) => text::say_refused(err, refusal.number()),
     }
 }
 
@@ -104,7 +104,7 @@ fn encode_file<R: Runtime, P: Print>(rt: &R, err: &P, table: &[u16]) -> std::io:
     let mut plan = [0u32; planner::LEAST_PLAN];
     let planned = match own_plan::plan_of(table, &mut plan) {
         Ok(planned) => planned,
-        Err(refusal) => return text::say_refused(err, refusal),
+        Err(refusal) => return text::say_refused(err, refusal.number()),
     };
     let Some(s) = size_for(rt, err, table)? else {
         return Ok(());

@@ -2,6 +2,7 @@
 use mathlib.Core.Path.{◌≡◌, refl, sym, ap, ap₂, ◌∙◌, subst}
 use mathlib.Core.Bool.{Bool, true, false, cond, ◌||◌, true≢false}
 use mathlib.Core.List.{List}
+use mathlib.Core.Option.{none}
 use Prim.Native.Nat.{ℕ, zero, suc, ◌*◌, ◌<◌, ◌≤◌}
 use native.Mathlib.Omega.{arith}
 use borrow.Author.Tests.{ne_eqb}
@@ -19,8 +20,10 @@ use Rattle.refusals.specs.Refusals.{number_of}
 use Rattle.refusals.specs.declared.Refusal.{Refusal}
 use Rattle.refusals.specs.declared.Refusal.TheVariants.{Buffer, Map}
 use Rattle.refusals.proofs.Numbers.{number-some, nothing-on}
+use Rattle.faults.proofs.FaultLaws.{nothing-told}
 use Rattle.full.specs.declared.FullyRepaired.{FullyRepaired}
 use Rattle.lists.specs.Lists.{any_of}
+use Rattle.report.specs.Report.{told_by}
 use Rattle.lists.specs.Tests.{not_same, by_bool, eqb-true, eqb-false, or-false-l, or-false-r}
 use Rattle.table.specs.FirstCause.{wrong_length}
 use Rattle.table.specs.Accepted.{Accepted, few-checks}
@@ -32,21 +35,23 @@ use Rattle.table.specs.TableLaws.{refusal-small}
 -- ---- the call, from what was decided
 module _ (t b l w : List ℕ) (f : FittingAll t b l w) (d : Bool) (b₂ l₂ : List ℕ) (done : Decides t b l d b₂ l₂) where
   -- some codeword agrees
-  pub answer-decided : d ≡ true → (r : Result FullyRepaired Refusal) → full_answer_of r ≡ full_answer_at 0 l₂ → (w₂ : List ℕ) → w₂ ≡ replicate (length w) 0 → Answers t b l w r b₂ l₂ w₂
-  answer-decided holds r e w₂ z =
+  pub answer-decided : d ≡ true → (r : Result FullyRepaired Refusal) → full_answer_of r ≡ full_answer_at 0 l₂ → told_by r ≡ none
+      → (w₂ : List ℕ) → w₂ ≡ replicate (length w) 0 → Answers t b l w r b₂ l₂ w₂
+  answer-decided holds r e h w₂ z =
       let calm : clashing t b l ≡ false = not_same (clashing t b l) false (sym done.agrees ∙ holds) in
       let ok : full_refusal t b l w ≡ 0 = fitting-refusal t b l w f ∙ ap (λ (v : Bool). cond v 8 0) calm in
       record {
         report = e ∙ ap (full_answer_at 0) (done.map_is holds) ∙ sym (answer-accepted t b l w ok);
+        told = h;
         block-is = done.block-is holds ∙ sym (block-accepted t b l w ok);
         map_is = done.map_is holds ∙ sym (map-accepted t b l w ok);
         work-is = z ∙ ap (λ (k : ℕ). replicate k 0) f.room ∙ sym (work-accepted t b l w ok);
       }
 
   -- none does
-  pub answer-clashing : (m n s : ℕ) → Accepted t m n s → d ≡ false → (r : Result FullyRepaired Refusal) → full_answer_of r ≡ full_refused 8 → (w₂ : List ℕ) → w₂ ≡ replicate (length w) 0
+  pub answer-clashing : (m n s : ℕ) → Accepted t m n s → d ≡ false → (r : Result FullyRepaired Refusal) → full_answer_of r ≡ full_refused 8 → told_by r ≡ none → (w₂ : List ℕ) → w₂ ≡ replicate (length w) 0
       → (l₃ b₃ : List ℕ) → l₃ ≡ l → b₃ ≡ joined (zero_lost s l₃ (packets s n b₂)) → Answers t b l w r b₃ l₃ w₂
-  answer-clashing m n s k fails r e w₂ z l₃ b₃ back g =
+  answer-clashing m n s k fails r e h w₂ z l₃ b₃ back g =
       let clash : clashing t b l ≡ true = not_same (clashing t b l) true (sym done.agrees ∙ fails) in
       let bad : full_refusal t b l w ≡ 8 = fitting-refusal t b l w f ∙ ap (λ (v : Bool). cond v 8 0) clash in
       let len = packets-length (size t) (places t) b₂ in
@@ -56,6 +61,7 @@ module _ (t b l w : List ℕ) (f : FittingAll t b l w) (d : Bool) (b₂ l₂ : L
       (λ p h q. done.received p (subst (λ (x : ℕ). p < x) len h) q) in
       record {
         report = e ∙ sym (answer-refused t b l w 7 bad);
+        told = h;
         block-is = g ∙ ap joined again ∙ sym (block-clashing t b l w bad);
         map_is = back ∙ sym (map-refused t b l w 8 bad refl);
         work-is = z ∙ ap (λ (k : ℕ). replicate k 0) f.room ∙ sym (work-clashing t b l w bad);
@@ -63,10 +69,11 @@ module _ (t b l w : List ℕ) (f : FittingAll t b l w) (d : Bool) (b₂ l₂ : L
 
 -- ---- a call that is refused before
 pub answer-before : (t b l w : List ℕ) (c : ℕ) → full_refusal t b l w ≡ c → eqb c 0 ≡ false → eqb c 8 ≡ false
-    → (r : Result FullyRepaired Refusal) → full_answer_of r ≡ full_refused c → Answers t b l w r b l w
-answer-before t b l w zero h e0 e8 r e = absurd (true≢false e0)
-answer-before t b l w (suc c) h e0 e8 r e = record {
+    → (r : Result FullyRepaired Refusal) → full_answer_of r ≡ full_refused c → told_by r ≡ none → Answers t b l w r b l w
+answer-before t b l w zero h e0 e8 r e n = absurd (true≢false e0)
+answer-before t b l w (suc c) h e0 e8 r e n = record {
   report = e ∙ sym (answer-refused t b l w c h);
+  told = n;
   block-is = sym (block_refused t b l w (suc c) h e0 e8);
   map_is = sym (map-refused t b l w (suc c) h e0);
   work-is = sym (work-refused t b l w (suc c) h e0 e8);
@@ -77,8 +84,9 @@ pub answer-table : (t b l w : List ℕ) (q : Refusal) → number_of q ≡ refusa
 answer-table t b l w q e =
     let small = refusal-small t in
     let ne : refusal t ≡ 0 → ⊥ = λ z. number-some q (e ∙ z) in
-    let on = nothing-on q (λ z. omega arith) in
-    answer-before t b l w (refusal t) (table-refused t b l w ne) (ne_eqb (refusal t) 0 ne) (ne_eqb (refusal t) 8 (λ z. omega arith)) (Err q) (rw (e, on.0, on.1) refl)
+    let other : number_of q ≡ 8 → ⊥ = λ z. omega (arith, e, z, small) in
+    let on = nothing-on q other in
+    answer-before t b l w (refusal t) (table-refused t b l w ne) (ne_eqb (refusal t) 0 ne) (ne_eqb (refusal t) 8 (λ z. omega arith)) (Err q) (rw (e, on.0, on.1) refl) (nothing-told q other)
 
 module _ (t : List ℕ) (m n s : ℕ) (k : Accepted t m n s) (b l w : List ℕ) where
   pub answer-lengths : (wrong_length (length b) (n * s) || wrong_length (length l) n) ≡ true → Answers t b l w (Err Buffer) b l w
@@ -86,7 +94,7 @@ module _ (t : List ℕ) (m n s : ℕ) (k : Accepted t m n s) (b l w : List ℕ) 
       (λ e. by_bool (eqb (length l) n)
       (λ f. absurd (true≢false (sym h ∙ rw (e, f) refl)))
       (λ f. map-short t b l w k.accepted (eqb-true (length b) (n * s) e ∙ ap₂ ◌*◌ k.places-are k.size_is) (λ q. eqb-false (length l) n f (q ∙ sym k.places-are))))
-      (λ e. block-short t b l w k.accepted (λ q. eqb-false (length b) (n * s) e (q ∙ sym (ap₂ ◌*◌ k.places-are k.size_is))))) refl refl (Err Buffer) refl
+      (λ e. block-short t b l w k.accepted (λ q. eqb-false (length b) (n * s) e (q ∙ sym (ap₂ ◌*◌ k.places-are k.size_is))))) refl refl (Err Buffer) refl refl
 
   module _ (right : (wrong_length (length b) (n * s) || wrong_length (length l) n) ≡ false) where
     block-right : length b ≡ places t * size t
@@ -96,15 +104,15 @@ module _ (t : List ℕ) (m n s : ℕ) (k : Accepted t m n s) (b l w : List ℕ) 
     map-right = eqb-true (length l) n (not-false (eqb (length l) n) (or-false-r (wrong_length (length b) (n * s)) (wrong_length (length l) n) right)) ∙ k.places-are
 
     pub answer-work : (length w ≡ work_words → ⊥) → Answers t b l w (Err Buffer) b l w
-    answer-work ne = answer-before t b l w 5 (work-wrong t b l w k.accepted block-right map-right ne) refl refl (Err Buffer) refl
+    answer-work ne = answer-before t b l w 5 (work-wrong t b l w k.accepted block-right map-right ne) refl refl (Err Buffer) refl refl
 
     module _ (lw : length w ≡ work_words) where
       pub answer-byte : any_of (ltb 1) l ≡ true → Answers t b l w (Err Map) b l w
-      answer-byte over = answer-before t b l w 7 (byte-over t b l w k.accepted block-right map-right lw over) refl refl (Err Map) refl
+      answer-byte over = answer-before t b l w 7 (byte-over t b l w k.accepted block-right map-right lw over) refl refl (Err Map) refl refl
 
       -- and a call that none of them refuses
       pub fitting : any_of (ltb 1) l ≡ false → FittingAll t b l w
-      fitting none = record { old = record { table = k.accepted; block = block-right; map-length = map-right; map-bytes = none }; room = lw }
+      fitting low = record { old = record { table = k.accepted; block = block-right; map-length = map-right; map-bytes = low }; room = lw }
 
 -- ---- what such a call has
 module _ (t : List ℕ) (m n s : ℕ) (k : Accepted t m n s) (b l w : List ℕ) (f : FittingAll t b l w) where

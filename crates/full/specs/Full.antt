@@ -1,10 +1,12 @@
 -- Full repair (document 02, C-14): the call with its refusals, beside the old one. The lost map has a byte a place: 0 received, 1 lost,
 -- 2 restored; work is "planning's work buffer, zero afterwards".
 use Rattle.std.specs.Prelude.{◌≡◌, Bool, true, false, ◌||◌, List, [], ◌∷◌, ◌++◌, ℕ, zero, suc, ◌<◌, eqb, length, replicate}
+use Rattle.std.proofs.Math.Option.{none}
 use Rattle.std.specs.declared.result.Result.{Result}
 use Rattle.std.specs.declared.result.Result.TheVariants.{Ok, Err}
 use Rattle.refusals.specs.Refusals.{number_of, check_of, byte_of}
 use Rattle.refusals.specs.declared.Refusal.{Refusal}
+use Rattle.report.specs.Report.{told_by}
 use Rattle.decided.specs.Decided.{clashes, solved_block, solved_map}
 use Rattle.erasure.specs.Offered.{wrong_lengths, byte_over, Fitting, Agree}
 use Rattle.erasure.specs.Restoring.{zero_lost, tally}
@@ -81,6 +83,7 @@ full_answer_of (Err r) = record { refusal = number_of r; restored = 0; lost = 0;
 -- what the call answers, and what it leaves in block, map and work
 pub record Answers (t b map work : List ℕ) (r : Result FullyRepaired Refusal) (b' map' work' : List ℕ) : Type 0 where
   pub report : full_answer_of r ≡ full_answer t b map work
+  pub told : told_by r ≡ none
   pub block-is : b' ≡ full_block_after t b map work
   pub map_is : map' ≡ full_map_after t b map work
   pub work-is : work' ≡ full_work_after t b map work

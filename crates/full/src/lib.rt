@@ -37,7 +37,7 @@ fn full_packets(
     ensures { Answers table.now.words.now block.old map.old work.old result block.new map.new work.new }
 {
     let mut saved = [0u8; MOST_PLACES];
-    saved[..table.places].copy_from_slice(map);
+    packets::copy(&mut saved, 0, map, 0, table.places);
     let agrees = decide(table, block, map, work);
     work.fill(0);
     if agrees {
@@ -46,7 +46,7 @@ fn full_packets(
             lost: marks::tally_of(map, 1),
         });
     }
-    map.copy_from_slice(&saved[..table.places]);
+    packets::copy(map, 0, &saved, 0, table.places);
     marks::zero_lost(table, block, map);
     Err(Refusal::NoCodeword)
 }

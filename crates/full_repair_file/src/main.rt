@@ -26,7 +26,7 @@ fn refuse<R: Runtime, P: Print>(
             text::write_argument(rt, err, 2, block)?;
             said
         }
-        _ => text::say_refused(err, refusal),
+        _ => text::say_refused(err, refusal.number()),
     }
 }
 

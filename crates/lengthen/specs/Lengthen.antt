@@ -8,7 +8,7 @@ use Rattle.erasure.specs.Restoring.{State, tally, outcome, contradicting, agreei
 use Rattle.faults.specs.Faults.{Fault, check_of, byte_of}
 use Rattle.lists.specs.Lists.{any_of}
 use Rattle.longer.specs.Longer.{lengthens}
-use Rattle.report.specs.Report.{RepairAnswer, accepted_with, refused_with, repair_answer_of}
+use Rattle.report.specs.Report.{RepairAnswer, accepted_with, refused_with, repair_answer_of, told_by}
 use Rattle.std.specs.declared.result.Result.{Result}
 use Rattle.refusals.specs.declared.Refusal.{Refusal}
 use Rattle.report.specs.declared.Repaired.{Repaired}
@@ -94,5 +94,6 @@ module _ (old new : List ℕ) (carried arrivals : Held) where
   -- what the call answers, and what it leaves in block and map
   pub record Answers (r : Result Repaired Refusal) (block map : List ℕ) : Type 0 where
     pub report : repair_answer_of r ≡ lengthen_answer
+    pub told : told_by r ≡ handed_on lengthen_refusal lengthen_fault
     pub block-is : block ≡ lengthen_after.block
     pub map_is : map ≡ lengthen_after.map

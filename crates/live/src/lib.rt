@@ -40,12 +40,17 @@ pub fn single(count: &[u16], n: usize) -> Option<usize>
     requires { n ≤ length count.now }
     ensures { result ≡ found (highest n (λ p. eqb (get_or count.now p 0) 1)) }
 {
-    for p in (0..n).rev() {
+    // it breaks with the place found, or with none, as document 01 asks ("How to write each place")
+    let mut p = n;
+    loop {
+        if p == 0 {
+            break None;
+        }
+        p -= 1;
         if count[p] == 1 {
-            return Some(p);
+            break Some(p);
         }
     }
-    None
 }
 
 // top, raised above each of the places that lies in exactly one live check

@@ -29,7 +29,14 @@ pub fn tally_of(map: &[u8], v: u8) -> u32
     requires { length map.now ≤ 1024 }
     ensures { result ≡ tally v map.now }
 {
-    map.iter().filter(|b| **b == v).count() as u32
+    // a sum of equal bytes, many at once: a filtered count asks of each, and guesses
+    let mut k = 0;
+    for b in map {
+        if *b == v {
+            k += 1;
+        }
+    }
+    k
 }
 
 // zero bytes at every lost place

@@ -2,7 +2,7 @@
 use mathlib.Core.Path.{◌≡◌, refl, sym, ap, ap₂, ◌∙◌, subst}
 use mathlib.Core.Bool.{Bool, true, false, cond, true≢false, ◌||◌}
 use mathlib.Core.List.{List, map as each}
-use mathlib.Core.Option.{none}
+use mathlib.Core.Option.{Option, none, some}
 use Prim.Native.Nat.{ℕ, zero, suc, ◌*◌}
 use native.Mathlib.Omega.{arith}
 use borrow.Author.Tests.{ne_eqb}
@@ -11,11 +11,12 @@ use lib.ListN.{length}
 use Rattle.aerials.specs.Aerials.{kinds, merged}
 use Rattle.aerials.proofs.MergedLaws.{marks-of-kinds}
 use Rattle.packets.specs.Filling.{Sized}
-use Rattle.erasure.specs.Offered.{Held, wrong_lengths, byte_over}
+use Rattle.erasure.specs.Offered.{Held, wrong_lengths, byte_over, handed_on}
 use Rattle.erasure.proofs.OfferedLaws.{bytes-all, none-handed}
 use Rattle.erasure.proofs.OutcomeLaws.{tally-two}
 use Rattle.erasure.specs.Restoring.{Counts, tally, agreeing, counts_if, block_if, map_if}
-use Rattle.faults.proofs.FaultLaws.{no-fault}
+use Rattle.faults.proofs.FaultLaws.{no-fault, some-fault, nothing-told}
+use Rattle.faults.specs.Faults.{Fault}
 use Rattle.lists.specs.Tests.{or_l, or_r, or-neither}
 use Rattle.merge.specs.Merge.{third, merge_outcome, merge_fault, wrong_any, over_either, merge_refusal, MergeAnswer, merged_with, refused_with, merge_answer_of, Answers, FittingThree}
 use Rattle.merge.proofs.MergeLaws.{zeroed-already, table-refused, length-refused, byte-refused, agreed-refusal, contradicted-refusal, fits, after-accepted, after-contradicted, after-refused, third-fits}
@@ -26,6 +27,7 @@ use Rattle.refusals.specs.Refusals.{number_of}
 use Rattle.refusals.specs.declared.Fault.{Fault as FaultFound}
 use Rattle.refusals.specs.declared.Refusal.{Refusal}
 use Rattle.refusals.specs.declared.Refusal.TheVariants.{Buffer, Map}
+use Rattle.report.specs.Report.{told_by}
 use Rattle.report.specs.declared.Repaired.{Repaired}
 use Rattle.merge.specs.declared.Merged.{Merged}
 use Rattle.restore.specs.Mending.{counts_of, Mends}
@@ -44,8 +46,9 @@ module _ (t : List ℕ) (one two out : Held) (f : FittingThree t one two out) (d
   told : (counts_of d).agrees ≡ agreeing t (third t one two).block (third t one two).map
   told = agrees-told t (third t one two).block (third t one two).map d b' map' done
 
-  pub answer-merged : (counts_of d).agrees ≡ true → (r : Result Merged Refusal) → merge_answer_of r ≡ merged_with (kinds (size t) one two (places t)) (counts_of d).restored (counts_of d).lost (counts_of d).additions → Answers t one two out r b' map'
-  answer-merged pass r e =
+  pub answer-merged : (counts_of d).agrees ≡ true → (r : Result Merged Refusal) → merge_answer_of r ≡ merged_with (kinds (size t) one two (places t)) (counts_of d).restored (counts_of d).lost (counts_of d).additions
+      → told_by r ≡ none → Answers t one two out r b' map'
+  answer-merged pass r e h =
       let yes = sym told ∙ pass in
       let ok : merge_refusal t one two out ≡ 0 = agreed-refusal t one two out f yes in
       let k = kinds (size t) one two (places t) in
@@ -56,16 +59,21 @@ module _ (t : List ℕ) (one two out : Held) (f : FittingThree t one two out) (d
       let d4 : (counts_of d).additions ≡ (merge_outcome t one two).adds = ap (λ (x : Counts). x.additions) all in
       record {
         report = e ∙ ap (λ x. merged_with k x (counts_of d).lost (counts_of d).additions) d2 ∙ ap₂ (merged_with k (tally 2 (merge_outcome t one two).map)) d3 d4 ∙ rw ok;
+        told = h ∙ sym (ap (λ x. handed_on x (merge_fault t one two)) ok);
         block-is = done.block-is ∙ ap (λ v. block_if v t (third t one two).block (third t one two).map) yes ∙ sym (ap (λ (x : Held). x.block) (after-accepted t one two out ok));
         map_is = done.map_is ∙ ap (λ v. map_if v t (third t one two).block (third t one two).map) yes ∙ sym (ap (λ (x : Held). x.map) (after-accepted t one two out ok));
       }
 
-  pub answer-contradicted : (counts_of d).agrees ≡ false → (r : Result Merged Refusal) → merge_answer_of r ≡ refused_with 8 (counts_of d).check (counts_of d).byte → Answers t one two out r b' map'
-  answer-contradicted fail r e =
+  pub answer-contradicted : (counts_of d).agrees ≡ false → (r : Result Merged Refusal) → merge_answer_of r ≡ refused_with 8 (counts_of d).check (counts_of d).byte
+      → told_by r ≡ some (record { check = (counts_of d).check; byte = (counts_of d).byte }) → Answers t one two out r b' map'
+  answer-contradicted fail r e h =
       let no = sym told ∙ fail in
       let bad : merge_refusal t one two out ≡ 8 = contradicted-refusal t one two out f no in
+      let check-is = check-told t (third t one two).block (third t one two).map d b' map' done in
+      let byte-is = byte-told t (third t one two).block (third t one two).map d b' map' done in
       record {
-        report = e ∙ rw bad (ap₂ (refused_with 8) (check-told t (third t one two).block (third t one two).map d b' map' done) (byte-told t (third t one two).block (third t one two).map d b' map' done));
+        report = e ∙ rw bad (ap₂ (refused_with 8) check-is byte-is);
+        told = h ∙ ap₂ (λ x y. some (record { check = x; byte = y })) check-is byte-is ∙ sym (some-fault (merge_fault t one two) no) ∙ sym (ap (λ x. handed_on x (merge_fault t one two)) bad);
         block-is = done.block-is ∙ ap (λ v. block_if v t (third t one two).block (third t one two).map) no ∙ cleared-same ∙ sym (ap (λ (x : Held). x.block) (after-contradicted t one two out bad));
         map_is = done.map_is ∙ ap (λ v. map_if v t (third t one two).block (third t one two).map) no ∙ sym (ap (λ (x : Held). x.map) (after-contradicted t one two out bad));
       }
@@ -75,10 +83,11 @@ module _ (t : List ℕ) (one two out : Held) (f : FittingThree t one two out) (d
 
 -- ---- a call that is refused before
 pub answer-refused : (t : List ℕ) (one two out : Held) (c : ℕ) → merge_refusal t one two out ≡ c → eqb c 0 ≡ false → eqb c 8 ≡ false
-    → (r : Result Merged Refusal) → merge_answer_of r ≡ refused_with c 0 0 → Answers t one two out r out.block out.map
-answer-refused t one two out zero h e0 e8 r e = absurd (true≢false e0)
-answer-refused t one two out (suc c) h e0 e8 r e = record {
+    → (r : Result Merged Refusal) → merge_answer_of r ≡ refused_with c 0 0 → told_by r ≡ none → Answers t one two out r out.block out.map
+answer-refused t one two out zero h e0 e8 r e n = absurd (true≢false e0)
+answer-refused t one two out (suc c) h e0 e8 r e n = record {
   report = e ∙ rw (h, none-handed (suc c) (merge_fault t one two) e8);
+  told = n ∙ sym (ap (λ x. handed_on x (merge_fault t one two)) h ∙ none-handed (suc c) (merge_fault t one two) e8);
   block-is = sym (ap (λ (x : Held). x.block) (after-refused t one two out (suc c) h e0 e8));
   map_is = sym (ap (λ (x : Held). x.map) (after-refused t one two out (suc c) h e0 e8));
 }
@@ -89,7 +98,7 @@ answer-table t one two out q e =
     let z = refusal-small t in
     let ne : refusal t ≡ 0 → ⊥ = λ w. number-some q (e ∙ w) in
     let on = nothing-on q (λ w. omega (arith, e, w)) in
-    answer-refused t one two out (refusal t) (table-refused t one two out ne) (ne_eqb (refusal t) 0 ne) (ne_eqb (refusal t) 8 (λ w. omega arith)) (Err q) (rw (on.0, on.1, e))
+    answer-refused t one two out (refusal t) (table-refused t one two out ne) (ne_eqb (refusal t) 0 ne) (ne_eqb (refusal t) 8 (λ w. omega arith)) (Err q) (rw (on.0, on.1, e)) (nothing-told q (λ w. omega (arith, e, w)))
 
 module _ (t : List ℕ) (one two out : Held) (m n s : ℕ) (k : Accepted t m n s) where
   -- v is what the code finds of the lengths of h
@@ -101,7 +110,7 @@ module _ (t : List ℕ) (one two out : Held) (m n s : ℕ) (k : Accepted t m n s
 
   -- 5 by any of the three
   five : wrong_any t one two out ≡ true → Answers t one two out (Err Buffer) out.block out.map
-  five w = answer-refused t one two out 5 (length-refused t one two out k.accepted w) refl refl (Err Buffer) refl
+  five w = answer-refused t one two out 5 (length-refused t one two out k.accepted w) refl refl (Err Buffer) refl refl
 
   pub answer-first : (v : Bool) → Compared one v → v ≡ true → Answers t one two out (Err Buffer) out.block out.map
   answer-first v e y = five (or_l (wrong_lengths t one.block one.map) _ (wrong-is one v e ∙ y))
@@ -119,7 +128,7 @@ module _ (t : List ℕ) (one two out : Held) (m n s : ℕ) (k : Accepted t m n s
 
     -- 7 by either map
     seven : over_either one two ≡ true → Answers t one two out (Err Map) out.block out.map
-    seven o = answer-refused t one two out 7 (byte-refused t one two out k.accepted none-wrong o) refl refl (Err Map) refl
+    seven o = answer-refused t one two out 7 (byte-refused t one two out k.accepted none-wrong o) refl refl (Err Map) refl refl
 
     pub answer-byte-first : (o : Bool) → o ≡ byte_over one.map → o ≡ true → Answers t one two out (Err Map) out.block out.map
     answer-byte-first o e y = seven (or_l (byte_over one.map) (byte_over two.map) (sym e ∙ y))

@@ -11,6 +11,7 @@ use Rattle.std.specs.declared.result.Result.TheVariants.{Ok, Err}
 use Rattle.refusals.specs.Refusals.{number_of, check_of as check_in, byte_of as byte_in}
 use Rattle.refusals.specs.declared.Refusal.{Refusal}
 use Rattle.merge.specs.declared.Merged.{Merged}
+use Rattle.report.specs.Report.{told_by}
 use Rattle.table.specs.FirstCause.{first_cause}
 use Rattle.table.specs.Packets.{joined}
 use Rattle.table.specs.Table.{places, size, table_causes}
@@ -118,6 +119,7 @@ merge_answer_of (Err r) = refused_with (number_of r) (check_in r) (byte_in r)
 -- what the call answers, and what it leaves in the third block and map
 pub record Answers (t : List ℕ) (one two out : Held) (r : Result Merged Refusal) (block' map' : List ℕ) : Type 0 where
   pub report : merge_answer_of r ≡ merge_answer t one two out
+  pub told : told_by r ≡ handed_on (merge_refusal t one two out) (merge_fault t one two)
   pub block-is : block' ≡ (merge_after t one two out).block
   pub map_is : map' ≡ (merge_after t one two out).map
 

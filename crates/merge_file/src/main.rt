@@ -42,7 +42,7 @@ fn refuse<P: Print>(err: &P, refusal: Refusal) -> std::io::Result<()>
         Refusal::Map => {
             Print::write_all(err, b"refused 7: a receiver's map has a byte over 1\n")
         }
-        _ => text::say_table_refused(err, refusal),
+        _ => text::say_table_refused(err, refusal.number()),
     }
 }
 
@@ -62,7 +62,7 @@ fn write_files<R: Runtime, P: Print>(
 // Says that packets contradict, and which check fails at which byte.
 fn say_contradict<P: Print>(err: &P, fault: Fault) -> std::io::Result<()> {
     Print::write_all(err, b"refused 8: ")?;
-    text::print_fault(err, fault)
+    text::print_fault(err, u64::from(fault.check), u64::from(fault.byte))
 }
 
 // Says that packets contradict, and writes what is merged.
@@ -98,7 +98,7 @@ fn merge_into<R: Runtime, P: Print>(
         }
         Err(refusal) => match refusal {
             Refusal::Contradiction(fault) => write_contradicted(rt, err, fault, block, map),
-            // merging never answers this one, but its contract tells the causes with number 8 apart by check and byte alone
+            // merging never answers this one (`told`, merge/specs/Merge)
             Refusal::NoCodeword => {
                 let fault = Fault { check: 0, byte: 0 };
                 write_contradicted(rt, err, fault, block, map)

@@ -27,17 +27,31 @@ fn is_gap(byte: u8) -> bool
 
 // ---- counting
 
-// after d digits of a number and one more byte: how many digits; none for what is no number
+// after d digits of a number and one more byte: how many digits; 7 for what is no number
+// Digits first: most bytes are, and the two tests are then one choice, which no byte of a text can surprise.
+fn digits_next(d: usize, byte: u8) -> usize
+    requires { d ≤ 6 }
+    ensures digits { result ≡ digits_after d byte }
+    ensures most { result ≤ 7 }
+{
+    if numerals::is_digit(byte) {
+        return d + 1;
+    }
+    if is_gap(byte) {
+        return 0;
+    }
+    7
+}
+
+// the same; none for what is no number
 fn digits_after(d: usize, byte: u8) -> Option<usize>
     requires { d ≤ 6 }
     ensures digits { unwrap_or result 7 ≡ digits_after d byte }
     ensures few { IfSome result (λ e. e ≤ 6) }
 {
-    if is_gap(byte) {
-        return Some(0);
-    }
-    if numerals::is_digit(byte) && d < MOST_DIGITS {
-        return Some(d + 1);
+    let e = digits_next(d, byte);
+    if e <= MOST_DIGITS {
+        return Some(e);
     }
     None
 }
@@ -65,16 +79,20 @@ pub fn count(text: &[u8]) -> Option<usize>
 
 // ---- reading
 
+// The two loops count by hand: over a range they took up to 1.5 times as long on texts of many numbers.
+
 // the first byte from at on that is no blank and no line end
 fn skip(text: &[u8], at: usize) -> usize
     ensures { Skipped text.now at result }
 {
-    for i in at..text.len() {
+    let mut i = at;
+    while i < text.len() {
         if !is_gap(text[i]) {
             return i;
         }
+        i += 1;
     }
-    at.max(text.len())
+    i
 }
 
 // the digits from at on, at most six
@@ -82,17 +100,21 @@ fn take_digits(text: &[u8], at: usize) -> Spot
     ensures { Taken text.now at result.value result.next }
 {
     let mut value = 0;
-    for i in at..text.len() {
+    let mut d: usize = 0;
+    let mut i = at;
+    while i < text.len() {
         let byte = text[i];
-        if i - at == MOST_DIGITS || !numerals::is_digit(byte) {
+        if d == MOST_DIGITS {
             return Spot { value, next: i };
         }
-        value = value * 10 + usize::from(byte - 48);
+        if !numerals::is_digit(byte) {
+            return Spot { value, next: i };
+        }
+        value = value * 10 + (byte - 48) as usize;
+        d += 1;
+        i += 1;
     }
-    Spot {
-        value,
-        next: at.max(text.len()),
-    }
+    Spot { value, next: i }
 }
 
 // the number from at on, and where the text goes on

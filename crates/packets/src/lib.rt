@@ -22,7 +22,10 @@ fn store(b: &mut [u8], at: usize, t: &[u8])
     requires { at + length t.now ≤ length b.old }
     ensures { b.new ≡ written b.old at t.now }
 {
-    b[at..at + t.len()].copy_from_slice(t);
+    // byte by byte: std's copy would have the archives for C need memmove
+    for (i, x) in t.iter().enumerate() {
+        b[at + i] = *x;
+    }
 }
 
 // t is added into b at at.

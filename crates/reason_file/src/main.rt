@@ -36,7 +36,7 @@ fn refuse<P: Print>(err: &P, refusal: Refusal) -> std::io::Result<()>
             err,
             b"refused 8: no codeword agrees with the received packets\n",
         ),
-        _ => text::say_table_refused(err, refusal),
+        _ => text::say_table_refused(err, refusal.number()),
     }
 }
 

@@ -2,7 +2,7 @@
 use mathlib.Core.Path.{◌≡◌, refl, sym, ap, ap₂, ◌∙◌, subst}
 use mathlib.Core.Bool.{Bool, true, false, true≢false, ◌||◌}
 use mathlib.Core.List.{List}
-use mathlib.Core.Option.{none, some}
+use mathlib.Core.Option.{Option, none, some}
 use Prim.Native.Nat.{ℕ, zero, suc, ◌*◌, ◌<◌}
 use native.Mathlib.Omega.{arith}
 use borrow.Author.Tests.{ne_eqb}
@@ -15,7 +15,7 @@ use Rattle.table.specs.Table.{places, size, checks, refusal}
 use Rattle.table.specs.TableLaws.{refusal-small}
 use Rattle.table.specs.Accepted.{Accepted}
 use Rattle.erasure.proofs.OfferedLaws.{lengths-fit, offer-fits, none-handed, bytes-all, sized, low}
-use Rattle.erasure.specs.Offered.{Fitting, wrong_lengths}
+use Rattle.erasure.specs.Offered.{Fitting, wrong_lengths, handed_on}
 use Rattle.erasure.proofs.OldBytes.{old-bytes, old-bytes-cleared}
 use Rattle.erasure.proofs.OldRepair.{cleared-kept}
 use Rattle.erasure.proofs.OutcomeLaws.{tally-two}
@@ -23,7 +23,8 @@ use Rattle.erasure.specs.Restoring.{none_lost, zero_lost, tally, outcome, contra
 use Rattle.suspects.specs.Blame.{lost_too, only_suspect, blamed}
 use Rattle.suspects.proofs.BlameLaws.{agreed-none, contradicted-only, only-is, only-alike, lost_too-known, lost_too-bytes}
 use Rattle.trials.specs.Cleared.{Cleared}
-use Rattle.faults.proofs.FaultLaws.{no-fault, some-fault, first-fault}
+use Rattle.faults.proofs.FaultLaws.{no-fault, some-fault, first-fault, nothing-told}
+use Rattle.faults.specs.Faults.{Fault}
 use Rattle.restore.specs.Mending.{counts_of, Mends}
 use Rattle.restore.specs.MendsLaws.{agrees-told, check-told, byte-told}
 use Rattle.std.specs.declared.result.Result.{Result}
@@ -37,7 +38,7 @@ use Rattle.table.specs.FirstCause.{wrong_length}
 use Rattle.repair.specs.Parts.{Without}
 use Rattle.repair.specs.Repair.{believed, marked, repair_refusal, Answers}
 use Rattle.repair.specs.RepairLaws.{agreed-refusal, blamed-refusal, contradicted-refusal, table-refused, lengths-wrong, byte-over, block-accepted, block-contradicted, block_refused, map-accepted, map-refused}
-use Rattle.report.specs.Report.{repair_answer_of, accepted_with, refused_with}
+use Rattle.report.specs.Report.{repair_answer_of, told_by, accepted_with, refused_with}
 use Rattle.report.specs.declared.Repaired.{Repaired}
 
 -- ---- what the core tells and leaves
@@ -58,13 +59,14 @@ module _ (t b l : List ℕ) (f : Fitting t b l) (d : Result Repaired FaultFound)
     pub map-then : l₂ ≡ (outcome t b l).map
     map-then = done.map_is ∙ ap (λ v. map_if v t b l) yes
 
-  pub answer-accepted : (counts_of d).agrees ≡ true → (r : Result Repaired Refusal) → repair_answer_of r ≡ accepted_with (counts_of d).restored (counts_of d).lost (counts_of d).additions → Answers t b l r b₂ l₂
-  answer-accepted pass r e =
+  pub answer-accepted : (counts_of d).agrees ≡ true → (r : Result Repaired Refusal) → repair_answer_of r ≡ accepted_with (counts_of d).restored (counts_of d).lost (counts_of d).additions → told_by r ≡ none → Answers t b l r b₂ l₂
+  answer-accepted pass r e h =
       let yes : agreeing t b l ≡ true = sym (agrees-told t b l d b₂ l₂ done) ∙ pass in
       let ok : repair_refusal t b l ≡ 0 = agreed-refusal t b l f yes in
       let is : blamed t b l ≡ none = agreed-none t b l yes in
       record {
         report = e ∙ counts-then yes ∙ rw (ok, is);
+        told = h ∙ sym (ap (λ k. handed_on k (contradicting t b l)) ok);
         block-is = block-then yes ∙ sym (block-accepted t b l ok ∙ ap (λ w. joined (outcome t b (believed w l)).block) is);
         map_is = map-then yes ∙ sym (map-accepted t b l ok ∙ ap (λ w. marked w (outcome t b (believed w l)).map) is);
       }
@@ -103,13 +105,19 @@ module _ (t b l : List ℕ) (f : Fitting t b l) (d : Result Repaired FaultFound)
     only_then : blamed t b l ≡ only_suspect t b₂ l₂
     only_then = contradicted-only t b l contrary ∙ only-alike t b b₂ l same ∙ ap (only_suspect t b₂) (sym map-kept)
 
+    -- the fault that is told is the contradiction
+    fault-then : ◌≡◌ {A = Option Fault} (some (record { check = (counts_of d).check; byte = (counts_of d).byte })) (contradicting t b l)
+    fault-then = ap₂ (λ x y. some (record { check = x; byte = y })) (check-told t b l d b₂ l₂ done) (byte-told t b l d b₂ l₂ done) ∙ sym (some-fault (contradicting t b l) contrary)
+
     -- nobody is blamed
     pub answer-contradicted : none ≡ only_suspect t b₂ l₂ → (b₃ l₃ : List ℕ) → b₃ ≡ b₂ → l₃ ≡ l₂
-        → (r : Result Repaired Refusal) → repair_answer_of r ≡ refused_with 8 (counts_of d).check (counts_of d).byte → Answers t b l r b₃ l₃
-    answer-contradicted is b₃ l₃ eb el r e =
+        → (r : Result Repaired Refusal) → repair_answer_of r ≡ refused_with 8 (counts_of d).check (counts_of d).byte
+        → told_by r ≡ some (record { check = (counts_of d).check; byte = (counts_of d).byte }) → Answers t b l r b₃ l₃
+    answer-contradicted is b₃ l₃ eb el r e h =
         let bad : repair_refusal t b l ≡ 8 = contradicted-refusal t b l f contrary (only_then ∙ sym is) in
         record {
           report = e ∙ rw bad (ap₂ (refused_with 8) (check-told t b l d b₂ l₂ done) (byte-told t b l d b₂ l₂ done));
+          told = h ∙ fault-then ∙ sym (ap (λ k. handed_on k (contradicting t b l)) bad);
           block-is = eb ∙ cleared-then ∙ sym (block-contradicted t b l bad);
           map_is = el ∙ map-kept ∙ sym (map-refused t b l 8 bad refl);
         }
@@ -131,6 +139,7 @@ module _ (t b l : List ℕ) (f : Fitting t b l) (d : Result Repaired FaultFound)
         ap₂ (λ x y. outcome t x (lost_too y p)) eb (el ∙ map-kept) ∙ sym (old-bytes t b b₂ (lost_too l p) (λ q h e. same q h (lost_too-known l p q e))) in
         record {
           report = w.report ∙ ap (λ x. accepted_with (tally 2 x.map) (tally 1 x.map) x.adds) out ∙ rw (ok, it);
+          told = w.told ∙ sym (ap (λ k. handed_on k (contradicting t b l)) ok);
           block-is = w.block-is ∙ ap (λ x. joined x.block) out ∙ sym (block-accepted t b l ok ∙ ap (λ x. joined (outcome t b (believed x l)).block) it);
           map_is = w.map_is ∙ ap (λ x. set x.map p 3) out ∙ sym (map-accepted t b l ok ∙ ap (λ x. marked x (outcome t b (believed x l)).map) it);
         }
@@ -140,21 +149,23 @@ pub without-fits : (t b l : List ℕ) (p : ℕ) → Fitting t b l → Fitting t 
 without-fits t b l p f = record { table = f.table; block = f.block; map-length = length-set l p 1 ∙ f.map-length; map-bytes = lost_too-bytes l p f.map-bytes }
 
 pub answer-without : (t b l : List ℕ) (p : ℕ) → Fitting t b l → agreeing t b (lost_too l p) ≡ true → (d : Result Repaired FaultFound) (b₂ l₂ : List ℕ) → Mends t b (lost_too l p) d b₂ l₂
-    → (r : Result Repaired Refusal) → repair_answer_of r ≡ accepted_with (counts_of d).restored (counts_of d).lost (counts_of d).additions → Without t b l p r b₂ (set l₂ p 3)
-answer-without t b l p f agrees d b₂ l₂ done r e =
+    → (r : Result Repaired Refusal) → repair_answer_of r ≡ accepted_with (counts_of d).restored (counts_of d).lost (counts_of d).additions → told_by r ≡ none → Without t b l p r b₂ (set l₂ p 3)
+answer-without t b l p f agrees d b₂ l₂ done r e h =
     let g = without-fits t b l p f in
     record {
       report = e ∙ counts-then t b (lost_too l p) g d b₂ l₂ done agrees;
+      told = h;
       block-is = block-then t b (lost_too l p) g d b₂ l₂ done agrees;
       map_is = ap (λ x. set x p 3) (map-then t b (lost_too l p) g d b₂ l₂ done agrees);
     }
 
 -- ---- a call that is refused before
 pub answer-refused : (t b l : List ℕ) (c : ℕ) → repair_refusal t b l ≡ c → eqb c 0 ≡ false → eqb c 8 ≡ false
-    → (r : Result Repaired Refusal) → repair_answer_of r ≡ refused_with c 0 0 → Answers t b l r b l
-answer-refused t b l zero h e0 e8 r e = absurd (true≢false e0)
-answer-refused t b l (suc c) h e0 e8 r e = record {
+    → (r : Result Repaired Refusal) → repair_answer_of r ≡ refused_with c 0 0 → told_by r ≡ none → Answers t b l r b l
+answer-refused t b l zero h e0 e8 r e n = absurd (true≢false e0)
+answer-refused t b l (suc c) h e0 e8 r e n = record {
   report = e ∙ rw (h, none-handed (suc c) (contradicting t b l) e8);
+  told = n ∙ sym (ap (λ k. handed_on k (contradicting t b l)) h ∙ none-handed (suc c) (contradicting t b l) e8);
   block-is = sym (block_refused t b l (suc c) h e0 e8);
   map_is = sym (map-refused t b l (suc c) h e0);
 }
@@ -166,20 +177,20 @@ module _ (t b l : List ℕ) where
       let z = refusal-small t in
       let ne : refusal t ≡ 0 → ⊥ = λ w. number-some q (e ∙ w) in
       let on = nothing-on q (λ w. omega (arith, e, w)) in
-      answer-refused t b l (refusal t) (table-refused t b l ne) (ne_eqb (refusal t) 0 ne) (ne_eqb (refusal t) 8 (λ w. omega arith)) (Err q) (rw (on.0, on.1, e))
+      answer-refused t b l (refusal t) (table-refused t b l ne) (ne_eqb (refusal t) 0 ne) (ne_eqb (refusal t) 8 (λ w. omega arith)) (Err q) (rw (on.0, on.1, e)) (nothing-told q (λ w. omega (arith, e, w)))
 
   module _ (m n s : ℕ) (k : Accepted t m n s) (w : Bool) (found : w ≡ (wrong_length (length b) (n * s) || wrong_length (length l) n)) where
     wrong-is : wrong_lengths t b l ≡ w
     wrong-is = sym (found ∙ ap₂ (λ x y. wrong_length (length b) (x * y) || wrong_length (length l) x) k.places-are k.size_is)
 
     pub answer-lengths : w ≡ true → Answers t b l (Err Buffer) b l
-    answer-lengths y = answer-refused t b l 5 (lengths-wrong t b l k.accepted (wrong-is ∙ y)) refl refl (Err Buffer) refl
+    answer-lengths y = answer-refused t b l 5 (lengths-wrong t b l k.accepted (wrong-is ∙ y)) refl refl (Err Buffer) refl refl
 
     module _ (fit : w ≡ false) (over : Bool) (is : over ≡ any_of (ltb 1) l) where
       pub answer-byte : over ≡ true → Answers t b l (Err Map) b l
       answer-byte y =
           let long = lengths-fit t b l (wrong-is ∙ fit) in
-          answer-refused t b l 7 (byte-over t b l k.accepted long.0 long.1 (sym is ∙ y)) refl refl (Err Map) refl
+          answer-refused t b l 7 (byte-over t b l k.accepted long.0 long.1 (sym is ∙ y)) refl refl (Err Map) refl refl
 
       -- and a call that none of them refuses
       pub fitting : over ≡ false → Fitting t b l

@@ -6,7 +6,7 @@ use Rattle.suspects.specs.Blame.{lost_too, blamed, nobody}
 use Rattle.erasure.specs.Offered.{wrong_lengths, byte_over, handed_on}
 use Rattle.erasure.specs.Restoring.{State, zero_lost, tally, outcome, contradicting, agreeing}
 use Rattle.faults.specs.Faults.{Fault, check_of, byte_of}
-use Rattle.report.specs.Report.{RepairAnswer, accepted_with, refused_with, repair_answer_of}
+use Rattle.report.specs.Report.{RepairAnswer, accepted_with, refused_with, repair_answer_of, told_by}
 use Rattle.std.specs.declared.result.Result.{Result}
 use Rattle.refusals.specs.declared.Refusal.{Refusal}
 use Rattle.report.specs.declared.Repaired.{Repaired}
@@ -65,5 +65,6 @@ repair_map_after t b map = elim (eqb (repair_refusal t b map) 0) [ true ↦ mark
 -- what the call answers, and what it leaves in block and map
 pub record Answers (t b map : List ℕ) (r : Result Repaired Refusal) (b' map' : List ℕ) : Type 0 where
   pub report : repair_answer_of r ≡ repair_answer t b map
+  pub told : told_by r ≡ handed_on (repair_refusal t b map) (contradicting t b map)
   pub block-is : b' ≡ repair_block_after t b map
   pub map_is : map' ≡ repair_map_after t b map

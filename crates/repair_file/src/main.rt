@@ -42,7 +42,7 @@ fn print_counts<P: Print>(out: &P, repaired: Repaired) -> std::io::Result<()> {
 // Says that packets contradict, and which check fails at which byte.
 fn say_contradict<P: Print>(err: &P, fault: Fault) -> std::io::Result<()> {
     Print::write_all(err, b"refused 8: ")?;
-    text::print_fault(err, fault)
+    text::print_fault(err, u64::from(fault.check), u64::from(fault.byte))
 }
 
 // Says the refusal. Packets that contradict have left zeros at the lost places.
@@ -58,7 +58,7 @@ fn refuse<R: Runtime, P: Print>(
             text::write_argument(rt, err, 2, block)?;
             said
         }
-        _ => text::say_refused(err, refusal),
+        _ => text::say_refused(err, refusal.number()),
     }
 }
 

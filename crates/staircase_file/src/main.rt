@@ -17,7 +17,7 @@ fn make_file<R: Runtime, P: Print>(
     let mut table = [0u16; table::MOST_WORDS];
     match staircase::make(k, n, ones, seed, s, &mut table) {
         Ok(length) => made_table::write_table(rt, err, 6, &table[..length as usize]),
-        Err(refusal) => text::say_refused(err, refusal),
+        Err(refusal) => text::say_refused(err, refusal.number()),
     }
 }
 

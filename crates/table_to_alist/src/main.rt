@@ -32,7 +32,7 @@ fn write_text<R: Runtime, P: Print>(
 {
     match alist_write::write_alist(table, file) {
         Ok(length) => write_bytes(rt, err, &file[..length as usize]),
-        Err(refusal) => text::say_table_refused(err, refusal),
+        Err(refusal) => text::say_table_refused(err, refusal.number()),
     }
 }
 

@@ -3,12 +3,10 @@
 
 ghost use Rattle.std.specs.Prelude.{true, [], ◌∷◌, ◌++◌, ◌≡◌, ◌+◌, ◌≤◌, length, IfOk};
 ghost use Rattle.lists.specs.Lists.{has};
-ghost use Rattle.refusals.specs.Refusals.{number_of};
 ghost use Rattle.numerals.specs.Numerals.{decimal};
 ghost use Rattle.text.specs.Lines.{Appended};
 ghost use Rattle.text.specs.Files.{ReadInto};
 
-use refusals::{Fault, Refusal};
 use std::alloc::Alloc;
 use std::env::{Env, FillError};
 use std::fs;
@@ -65,23 +63,21 @@ pub fn print_restored<P: Print>(to: &P, restored: u32, lost: u32, end: &[u8]) ->
 }
 
 // Says on standard error that a call refused, and its number.
-pub fn say_refused<P: Print>(err: &P, refusal: Refusal) -> std::io::Result<()> {
-    print_count(err, b"refused ", u64::from(refusal.number()), b"\n")
+pub fn say_refused<P: Print>(err: &P, number: u32) -> std::io::Result<()> {
+    print_count(err, b"refused ", u64::from(number), b"\n")
 }
 
 // Says on standard error why a table is refused.
-pub fn say_table_refused<P: Print>(err: &P, refusal: Refusal) -> std::io::Result<()>
-    requires { has (number_of refusal) (1 ∷ 2 ∷ 3 ∷ 4 ∷ []) ≡ true }
+pub fn say_table_refused<P: Print>(err: &P, refusal: u32) -> std::io::Result<()>
+    requires { has refusal (1 ∷ 2 ∷ 3 ∷ 4 ∷ []) ≡ true }
 {
     match refusal {
-        Refusal::ShortTable => {
-            Print::write_all(err, b"refused 1: a table has at least 5 numbers\n")
-        }
-        Refusal::Limits => Print::write_all(
+        1 => Print::write_all(err, b"refused 1: a table has at least 5 numbers\n"),
+        2 => Print::write_all(
             err,
             b"refused 2: the first number isn't 2, or places, packet size or checks are beyond their limits\n",
         ),
-        Refusal::Lengths => Print::write_all(
+        3 => Print::write_all(
             err,
             b"refused 3: a weight over 64, more than 6,144 ones, or weights, ones and length that don't fit\n",
         ),
@@ -94,9 +90,9 @@ pub fn say_table_refused<P: Print>(err: &P, refusal: Refusal) -> std::io::Result
 }
 
 // Says which check fails, and at which byte of its sum.
-pub fn print_fault<P: Print>(to: &P, fault: Fault) -> std::io::Result<()> {
-    print_count(to, b"check ", u64::from(fault.check), b" fails")?;
-    print_count(to, b" at byte ", u64::from(fault.byte), b"\n")
+pub fn print_fault<P: Print>(to: &P, check: u64, byte: u64) -> std::io::Result<()> {
+    print_count(to, b"check ", check, b" fails")?;
+    print_count(to, b" at byte ", byte, b"\n")
 }
 
 // Says on standard error that an argument's file has too many bytes.

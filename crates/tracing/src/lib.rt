@@ -43,7 +43,7 @@ fn load_lost(w: &mut [u64], k: usize, places: &[u16], lost: &[u8], n: usize)
 }
 
 // the rows that lead the noted places become row k of feed
-fn note_feeders(feed: &mut [u64], k: usize, owner: &[u16], noted: &[u16])
+pub fn note_feeders(feed: &mut [u64], k: usize, owner: &[u16], noted: &[u16])
     requires room { k * 16 + 16 ≤ length feed.old }
     requires led { Led owner.now noted.now }
     ensures { RowPut feed.old k (row_of (map (number_in owner.now) noted.now)) feed.new }
@@ -120,17 +120,20 @@ pub fn take_checks(
 
 // ---- a place
 
-// the walk over the used checks below k, from the last to the first: each that is needed flips those that fed it
+// the walk over the used checks below k, from the last to the first: each that is needed flips those that fed it; it calls itself,
+// as document 01 asks ("How to write each place")
 fn trace(need: &mut [u64], feed: &[u64], k: usize)
     requires { (16 ≤ length need.old)
         × (k * 16 ≤ length feed.now)
         × (k ≤ 1024) }
     ensures { RowPut need.old 0 (traced (row feed.now) k (row need.old 0)) need.new }
 {
-    for last in (0..k).rev() {
+    if 0 < k {
+        let last = k - 1;
         if bits::has_place(need, 0, last) {
             bits::add_from(need, 0, feed, last);
         }
+        trace(need, feed, last);
     }
 }
 

@@ -16,8 +16,8 @@ fn print_verdict<P: Print, Q: Print>(
 ) -> std::io::Result<()> {
     match verdict {
         Ok(None) => Print::write_all(out, b"codeword\n"),
-        Ok(Some(fault)) => text::print_fault(out, fault),
-        Err(refusal) => text::say_refused(err, refusal),
+        Ok(Some(fault)) => text::print_fault(out, u64::from(fault.check), u64::from(fault.byte)),
+        Err(refusal) => text::say_refused(err, refusal.number()),
     }
 }
 

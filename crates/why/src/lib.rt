@@ -3,7 +3,9 @@
 
 ghost use Rattle.std.specs.Prelude.{◌≡◌, ◌*◌, ◌≤◌, ◌<◌, length};
 ghost use Rattle.std.specs.Result.{IfOk};
+ghost use Rattle.std.proofs.Math.Option.{none};
 ghost use Rattle.full.specs.Full.{FittingAll};
+ghost use Rattle.report.specs.Report.{told_by};
 ghost use Rattle.refusals.specs.Refusals.{refusal_of};
 ghost use Rattle.table.specs.FirstCause.{first_cause};
 ghost use Rattle.table.specs.Table.{checks};
@@ -80,11 +82,12 @@ fn why_packets(
     requires fitting { FittingAll table.now.words.now block.old map.old work.old }
     requires place { (place < table.now.places)
         × (length reason.old ≡ 1024) }
-    ensures { Explains table.now.words.now block.old map.old work.old place reason.old
+    ensures reason { Explains table.now.words.now block.old map.old work.old place reason.old
         (why_answer_of result) block.new map.new work.new reason.new }
+    ensures told { told_by result ≡ none }
 {
     let mut saved = [0u8; MOST_PLACES];
-    saved[..table.places].copy_from_slice(map);
+    packets::copy(&mut saved, 0, map, 0, table.places);
     let full = full::full_repair(table.words, block, map, work)?;
     let told = tell(table, &saved[..table.places], place, work, reason);
     work.fill(0);
@@ -104,8 +107,9 @@ pub fn why(
     place: usize,
     reason: &mut [u16],
 ) -> Result<Reason, Refusal>
-    ensures { Explains t.now block.old map.old work.old place reason.old
+    ensures reason { Explains t.now block.old map.old work.old place reason.old
         (why_answer_of result) block.new map.new work.new reason.new }
+    ensures told { told_by result ≡ none }
 {
     let table = look(t, block, map, work, place, reason)?;
     why_packets(&table, block, map, work, place, reason)

@@ -17,7 +17,7 @@ returns-in_err-repaired c =
     let block = block-third _ _ _ _ k one two _ h.block in
     let marks = marks-third _ _ _ _ k one two _ _ h.kinds c.mark_lost.ensures in
     let p = err_from_is_err_and c.from_residual.result c.from_residual.ensures.1 in
-    rw (p.1, p.2) (answer-contradicted t one two out c.requires _ _ _ _ _ block marks c.in_err-repaired.ensures refl _ refl)
+    rw (p.1, p.2) (answer-contradicted t one two out c.requires _ _ _ _ _ block marks c.in_err-repaired.ensures refl _ refl refl)
 
 pub returns : goal.returns
 returns c =
@@ -31,4 +31,4 @@ returns c =
     let block = block-third _ _ _ _ k one two _ h.block in
     let marks = marks-third _ _ _ _ k one two _ _ h.kinds c.mark_lost.ensures in
     answer-merged t one two out c.requires _ _ _ _ _ block marks c.in_ok-repaired.ensures refl _
-    (counted _ _ (kinds-all _ _ _ _ k one two _ h.kinds) _ _ _ _ _ _ _ c.tally_of-agreed.ensures c.tally_of-single.ensures c.tally_of-silent.ensures c.tally_of-clash.ensures)
+    (counted _ _ (kinds-all _ _ _ _ k one two _ h.kinds) _ _ _ _ _ _ _ c.tally_of-agreed.ensures c.tally_of-single.ensures c.tally_of-silent.ensures c.tally_of-clash.ensures) refl

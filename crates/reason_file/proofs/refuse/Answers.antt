@@ -4,4 +4,4 @@ use Rattle.reason_file.proofs.refuse.Goals as goal
 
 pub say_table_refused-requires : goal.say_table_refused-requires
 say_table_refused-requires g c =
-    table-refusal c.args.refusal c.requires c.in_default.not-Buffer c.in_default.not-Map c.in_default.not-NoReason c.in_default.not-NoCodeword c.in_default.not-Contradiction
+    rw c.number.ensures (table-refusal c.args.refusal c.requires c.in_default.not-Buffer c.in_default.not-Map c.in_default.not-NoReason c.in_default.not-NoCodeword c.in_default.not-Contradiction)

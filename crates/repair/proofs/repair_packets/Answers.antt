@@ -23,13 +23,13 @@ repair_without-requires-clause-agrees c =
     (without-asks a.table.now.words.now a.block.now a.map.now c.requires _ _ _ c.in-Err.ensures refl _ _ _ a.table.now.accepted (omega arith) _ o.only _ _ o.block o.map).1.1
 
 pub returns-in-Ok : goal.returns-in-Ok
-returns-in-Ok c = let a = c.args in answer-accepted a.table.now.words.now a.block.now a.map.now c.requires _ _ _ c.in-Ok.ensures refl _ refl
+returns-in-Ok c = let a = c.args in answer-accepted a.table.now.words.now a.block.now a.map.now c.requires _ _ _ c.in-Ok.ensures refl _ refl refl
 
 pub returns-in-None : goal.returns-in-None
 returns-in-None c =
     let a = c.args in
     let o = c.in-None.ensures in
-    answer-contradicted a.table.now.words.now a.block.now a.map.now c.requires _ _ _ c.in-Err.ensures refl o.only _ _ o.block o.map _ refl
+    answer-contradicted a.table.now.words.now a.block.now a.map.now c.requires _ _ _ c.in-Err.ensures refl o.only _ _ o.block o.map _ refl refl
 
 pub returns-in-Some : goal.returns-in-Some
 returns-in-Some c =

@@ -3,7 +3,7 @@ use Rattle.table_to_alist.proofs.TextWritten.{text-stands, refusals-said}
 use Rattle.table_to_alist.proofs.write_text.Goals as goal
 
 pub say_table_refused-requires : goal.say_table_refused-requires
-say_table_refused-requires g c = refusals-said _ _ _ c.in-Err.ensures.answer c.requires
+say_table_refused-requires g c = rw c.number.ensures (refusals-said _ _ _ c.in-Err.ensures.answer c.requires)
 
 pub slice_bounds-write_bytes-end : goal.slice_bounds-write_bytes-end
 slice_bounds-write_bytes-end g c = let m = c.in-Ok.ensures in (text-stands _ _ _ _ m.answer m.text).within

@@ -7,8 +7,8 @@ use Rattle.why.proofs.Answering.{explains-early}
 use Rattle.why.proofs.Fitting.{passed-below}
 use Rattle.why.proofs.why.Goals as goal
 
-pub returns-in_err-table : goal.returns-in_err-table
-returns-in_err-table c =
+pub returns-in_err-table-clause-reason : goal.returns-in_err-table-clause-reason
+returns-in_err-table-clause-reason c =
     let a = c.args in
     let p = err_from_is_err_and c.from_residual.result c.from_residual.ensures.1 in
     rw (p.1, p.2) (explains-early a.t.now a.block.now a.map.now a.work.now a.place a.reason.now _ c.in_err-table.ensures.refusal)
