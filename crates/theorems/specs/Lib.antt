@@ -1,4 +1,5 @@
 pub mod AlistCases
+pub mod Causes
 pub mod Copies
 pub mod CopiesKept
 pub mod CopiesPeeled
