@@ -12,12 +12,11 @@ ghost use Rattle.merge.specs.Merge.{merge_answer, merge_after};
 ghost use Rattle.lengthen.specs.Lengthen.{lengthen_answer, lengthen_after};
 ghost use Rattle.explain.specs.Kinds.{kind_of as told_kind, length_of};
 ghost use Rattle.why.specs.Why.{Explains};
-ghost use Rattle.refusals.specs.Refusals.{check_of as check_in, byte_of as byte_in};
 ghost use Rattle.report.specs.Report.{repair_answer_of};
 ghost use Rattle.receiver.specs.Answers.{one_if, repaired, fully_repaired, merged, reasoned};
 
 use explain::Told;
-use refusals::{Fault, Refusal};
+use refusals::Refusal;
 use report::Repaired;
 
 // Refusals and kinds are numbers here, and answers plain structs: that is the C interface.
@@ -48,17 +47,6 @@ pub extern "C" fn bs_packet(n: usize, s: usize, place: usize, block: &[u8]) -> P
             start: 0,
             length: 0,
         },
-    }
-}
-
-// What a refusal hands on: the lowest check that fails with its byte, else 0 and 0.
-fn told(refusal: Refusal) -> Fault
-    ensures { (result.check ≡ check_in refusal)
-        × (result.byte ≡ byte_in refusal) }
-{
-    match refusal {
-        Refusal::Contradiction(fault) => fault,
-        _ => Fault { check: 0, byte: 0 },
     }
 }
 
@@ -93,7 +81,7 @@ pub extern "C" fn bs_verify(table: &[u16], block: &[u8]) -> Verification
             byte: found.byte,
         },
         Err(refusal) => {
-            let fault = told(refusal);
+            let fault = repair::told(refusal);
             Verification {
                 refusal: refusal.number(),
                 codeword: 0,
@@ -131,7 +119,7 @@ fn repair_for_c(answer: Result<Repaired, Refusal>) -> Repair
             byte: 0,
         },
         Err(refusal) => {
-            let handed = told(refusal);
+            let handed = repair::told(refusal);
             Repair {
                 refusal: refusal.number(),
                 restored: 0,
@@ -185,7 +173,7 @@ pub extern "C" fn bs_full_repair(
             byte: 0,
         },
         Err(cause) => {
-            let fault = told(cause);
+            let fault = repair::told(cause);
             FullRepair {
                 refusal: cause.number(),
                 restored: 0,
@@ -254,7 +242,7 @@ pub extern "C" fn bs_merge(
             byte: 0,
         },
         Err(refusal) => {
-            let fault = told(refusal);
+            let fault = repair::told(refusal);
             Merge {
                 refusal: refusal.number(),
                 agreed: 0,
@@ -348,7 +336,7 @@ pub extern "C" fn bs_why(
             }
         }
         Err(refusal) => {
-            let fault = told(refusal);
+            let fault = repair::told(refusal);
             Reason {
                 refusal: refusal.number(),
                 kind: 0,

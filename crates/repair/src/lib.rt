@@ -5,10 +5,11 @@ ghost use Rattle.std.specs.Prelude.{◌≡◌, true, ◌<◌};
 ghost use Rattle.suspects.specs.Blame.{lost_too};
 ghost use Rattle.erasure.specs.Offered.{Fitting};
 ghost use Rattle.erasure.specs.Restoring.{agreeing};
+ghost use Rattle.refusals.specs.Refusals.{check_of, byte_of};
 ghost use Rattle.repair.specs.Repair.{Answers};
 ghost use Rattle.repair.specs.Parts.{Without};
 
-use refusals::Refusal;
+use refusals::{Fault, Refusal};
 use report::Repaired;
 use table::Table;
 
@@ -57,4 +58,15 @@ pub fn repair(t: &[u16], block: &mut [u8], map: &mut [u8]) -> Result<Repaired, R
         return Err(Refusal::Map);
     }
     repair_packets(&table, block, map)
+}
+
+// What a refusal hands on, this call's or another's: the lowest check that fails with its byte, else 0 and 0.
+pub fn told(refusal: Refusal) -> Fault
+    ensures check { result.check ≡ check_of refusal }
+    ensures byte { result.byte ≡ byte_of refusal }
+{
+    match refusal {
+        Refusal::Contradiction(fault) => fault,
+        _ => Fault { check: 0, byte: 0 },
+    }
 }

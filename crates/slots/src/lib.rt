@@ -73,8 +73,8 @@ pub fn add_sources(
     requires room { off + length acc.old ≤ s }
     ensures { PartsAdded n s sources.now off block.now scratch.now acc.old acc.new }
 {
-    for from in sources {
-        add_part(acc, usize::from(*from), off, n, s, block, scratch);
+    for m in 0..sources.len() {
+        add_part(acc, usize::from(sources[m]), off, n, s, block, scratch);
     }
 }
 

@@ -44,5 +44,8 @@ pub fn verify(t: &[u16], block: &[u8]) -> Result<Option<Fault>, Refusal>
     if block.len() != table.places * table.size {
         return Err(Refusal::Buffer);
     }
-    Ok(lowest_failing(&table, block, |_| true))
+    match lowest_failing(&table, block, |_| true) {
+        Some(fault) => Ok(Some(fault)),
+        None => Ok(None),
+    }
 }

@@ -25,6 +25,6 @@ returns-in-Err c =
     record {
       refusal = c.number.ensures ∙ ap (λ (x : Values). x.refusal) e;
       codeword = ap (λ (x : Values). one_if x.codeword) e;
-      check = t.0 ∙ told-check c.in-Err.refusal ∙ ap (λ (x : Values). check_of x.fault) e;
-      byte = t.1 ∙ told-byte c.in-Err.refusal ∙ ap (λ (x : Values). byte_of x.fault) e;
+      check = t.check ∙ told-check c.in-Err.refusal ∙ ap (λ (x : Values). check_of x.fault) e;
+      byte = t.byte ∙ told-byte c.in-Err.refusal ∙ ap (λ (x : Values). byte_of x.fault) e;
     }

@@ -3,5 +3,5 @@ use Rattle.std.proofs.Common.{take}
 use Rattle.slots.specs.Slots.{PartsAdded}
 use Rattle.slots.proofs.add_sources.Given as goal
 
-abbrev pub invariant-loop-from : goal.invariant-loop-from
-invariant-loop-from l = PartsAdded l.n l.s (take l.from-index l.sources) l.off l.block l.scratch l.initial.acc l.acc
+abbrev pub invariant-loop-m : goal.invariant-loop-m
+invariant-loop-m l = PartsAdded l.n l.s (take l.m l.sources) l.off l.block l.scratch l.initial.acc l.acc
