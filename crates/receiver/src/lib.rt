@@ -10,12 +10,10 @@ ghost use Rattle.faults.specs.Faults.{check_of, byte_of};
 ghost use Rattle.erasure.specs.Offered.{held};
 ghost use Rattle.merge.specs.Merge.{merge_answer, merge_after};
 ghost use Rattle.lengthen.specs.Lengthen.{lengthen_answer, lengthen_after};
-ghost use Rattle.explain.specs.Kinds.{kind_of as told_kind, length_of};
 ghost use Rattle.why.specs.Why.{Explains};
 ghost use Rattle.report.specs.Report.{repair_answer_of};
 ghost use Rattle.receiver.specs.Answers.{one_if, repaired, fully_repaired, merged, reasoned};
 
-use explain::Told;
 use refusals::Refusal;
 use report::Repaired;
 
@@ -298,18 +296,6 @@ pub struct Reason {
     pub byte: u32,
 }
 
-// What is told of a place, as numbers: the kind and the length of the list.
-fn kind_for_c(told: Told) -> (u32, u32)
-    ensures { (result.0 ≡ told_kind told)
-        × (result.1 ≡ length_of told) }
-{
-    match told {
-        Told::Received => (1, 0),
-        Told::Restored(length) => (2, length),
-        Told::Lost(length) => (3, length),
-    }
-}
-
 #[unsafe(no_mangle)]
 pub extern "C" fn bs_why(
     table: &[u16],
@@ -324,7 +310,7 @@ pub extern "C" fn bs_why(
 {
     match why::why(table, block, map, work, place, reason) {
         Ok(w) => {
-            let (kind, length) = kind_for_c(w.told);
+            let (kind, length) = why::in_numbers(w.told);
             Reason {
                 refusal: 0,
                 kind,

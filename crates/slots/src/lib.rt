@@ -73,6 +73,7 @@ pub fn add_sources(
     requires room { off + length acc.old ≤ s }
     ensures { PartsAdded n s sources.now off block.now scratch.now acc.old acc.new }
 {
+    // over places, of which a must-fail edit leaves out the first
     for m in 0..sources.len() {
         add_part(acc, usize::from(sources[m]), off, n, s, block, scratch);
     }

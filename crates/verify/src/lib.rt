@@ -44,6 +44,7 @@ pub fn verify(t: &[u16], block: &[u8]) -> Result<Option<Fault>, Refusal>
     if block.len() != table.places * table.size {
         return Err(Refusal::Buffer);
     }
+    // a check that fails has an arm of its own, in which the must-fail edits plant a wrong answer
     match lowest_failing(&table, block, |_| true) {
         Some(fault) => Ok(Some(fault)),
         None => Ok(None),

@@ -4,6 +4,7 @@
 ghost use Rattle.std.specs.Prelude.{◌≡◌, ◌*◌, ◌≤◌, ◌<◌, length};
 ghost use Rattle.std.specs.Result.{IfOk};
 ghost use Rattle.std.proofs.Math.Option.{none};
+ghost use Rattle.explain.specs.Kinds.{kind_of, length_of};
 ghost use Rattle.full.specs.Full.{FittingAll};
 ghost use Rattle.report.specs.Report.{told_by};
 ghost use Rattle.refusals.specs.Refusals.{refusal_of};
@@ -113,4 +114,16 @@ pub fn why(
 {
     let table = look(t, block, map, work, place, reason)?;
     why_packets(&table, block, map, work, place, reason)
+}
+
+// What is told of a place, in numbers: the kind, and the length of the list.
+pub fn in_numbers(told: Told) -> (u32, u32)
+    ensures kind { result.0 ≡ kind_of told }
+    ensures length { result.1 ≡ length_of told }
+{
+    match told {
+        Told::Received => (1, 0),
+        Told::Restored(length) => (2, length),
+        Told::Lost(length) => (3, length),
+    }
 }
